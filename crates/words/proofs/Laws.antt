@@ -1,0 +1,200 @@
+-- The laws of words and runs: what was stored is read back, what lies apart is left alone, lengths stay, what is read fits, and stores apart commute.
+-- Assumes nothing.
+use Prim.Native.Nat.{ℕ, zero, suc, _+_, _-_, _*_, _/_, _%_, _^_, _≤_, _<_}
+use native.Mathlib.Nat.{div-div-eq-div-mul}
+use native.Mathlib.Omega.{arith}
+use native.Mathlib.Decide.{ℕ-discrete}
+use mathlib.Core.Path.{_≡_, refl, sym, ap, subst, _∙_}
+use mathlib.Core.Logic.{_≢_, _⊎_, inl, inr, ⊎-elim}
+use mathlib.Core.List.{List, [], _∷_, _++_}
+use lib.ListN.{length, getD, set, take, drop, length-set}
+use lib.Seq.{getD-set-same, getD-set-other, set-comm, drop-cons, take-suc, take-suc-set}
+use Rattle.words.specs.Word.{word, setWord, wordsAt, setWords, Bytes, Fit}
+
+-- Lengths stay.
+pub length-setWord : (b : List ℕ) (k v : ℕ) → length (setWord b k v) ≡ length b
+unfolding setWord
+length-setWord b k v = simp length-set
+
+pub length-setWords : (vs b : List ℕ) (at : ℕ) → length (setWords b at vs) ≡ length b
+length-setWords [] b at = refl
+length-setWords (v ∷ vs) b at = length-setWords vs (setWord b at v) (suc at) ∙ length-setWord b at v
+
+pub length-wordsAt : (b : List ℕ) (at n : ℕ) → length (wordsAt b at n) ≡ n
+length-wordsAt b at zero = refl
+length-wordsAt b at (suc n) = ap suc (length-wordsAt b (suc at) n)
+
+-- A number is the sum of its four bytes.
+bytes-sum : (v : ℕ) → v < 2 ^ 32
+    → v % 256 + 256 * (v / 256 % 256) + 65536 * (v / 65536 % 256) + 16777216 * (v / 16777216 % 256) ≡ v
+bytes-sum v h = rw (← div-div-eq-div-mul v 256 256, ← div-div-eq-div-mul v 65536 256, ← div-div-eq-div-mul v 256 256) (omega arith)
+
+-- Four stores in a row: what they leave elsewhere, what is read back, and a store elsewhere before or after them.
+one : List ℕ → ℕ → ℕ → List ℕ
+one b i p = set b i p
+
+two : List ℕ → ℕ → ℕ → ℕ → List ℕ
+unfolding one
+two b i p q = set (one b i p) (i + 1) q
+
+three : List ℕ → ℕ → ℕ → ℕ → ℕ → List ℕ
+unfolding two
+three b i p q r = set (two b i p q) (i + 2) r
+
+four : List ℕ → ℕ → ℕ → ℕ → ℕ → ℕ → List ℕ
+unfolding three
+four b i p q r s = set (three b i p q r) (i + 3) s
+
+module _ (b : List ℕ) (i p q r s : ℕ) where
+  four-other : (j : ℕ) → j ≢ i → j ≢ i + 1 → j ≢ i + 2 → j ≢ i + 3 → getD (four b i p q r s) j 0 ≡ getD b j 0
+  unfolding four
+  four-other j h₀ h₁ h₂ h₃ =
+      getD-set-other (three b i p q r) (i + 3) j s 0 h₃
+      ∙ getD-set-other (two b i p q) (i + 2) j r 0 h₂
+      ∙ getD-set-other (one b i p) (i + 1) j q 0 h₁
+      ∙ getD-set-other b i j p 0 h₀
+
+  four-past : (j x : ℕ) → i ≢ j → i + 1 ≢ j → i + 2 ≢ j → i + 3 ≢ j
+      → set (four b i p q r s) j x ≡ four (set b j x) i p q r s
+  unfolding four
+  four-past j x h₀ h₁ h₂ h₃ =
+      set-comm (three b i p q r) (i + 3) j s x h₃
+      ∙ ap (λ l. set l (i + 3) s) (set-comm (two b i p q) (i + 2) j r x h₂)
+      ∙ ap (λ l. set (set l (i + 2) r) (i + 3) s) (set-comm (one b i p) (i + 1) j q x h₁)
+      ∙ ap (λ l. set (set (set l (i + 1) q) (i + 2) r) (i + 3) s) (set-comm b i j p x h₀)
+
+  module _ (h : i + 4 ≤ length b) where
+    four-0 : getD (four b i p q r s) i 0 ≡ p
+    unfolding four
+    four-0 =
+        getD-set-other (three b i p q r) (i + 3) i s 0 (omega arith)
+        ∙ getD-set-other (two b i p q) (i + 2) i r 0 (omega arith)
+        ∙ getD-set-other (one b i p) (i + 1) i q 0 (omega arith)
+        ∙ getD-set-same b i p 0 (omega arith)
+
+    four-1 : getD (four b i p q r s) (i + 1) 0 ≡ q
+    unfolding four
+    four-1 =
+        getD-set-other (three b i p q r) (i + 3) (i + 1) s 0 (omega arith)
+        ∙ getD-set-other (two b i p q) (i + 2) (i + 1) r 0 (omega arith)
+        ∙ getD-set-same (one b i p) (i + 1) q 0 (simp length-set (omega arith))
+
+    four-2 : getD (four b i p q r s) (i + 2) 0 ≡ r
+    unfolding four
+    four-2 =
+        getD-set-other (three b i p q r) (i + 3) (i + 2) s 0 (omega arith)
+        ∙ getD-set-same (two b i p q) (i + 2) r 0 (simp length-set (omega arith))
+
+    four-3 : getD (four b i p q r s) (i + 3) 0 ≡ s
+    unfolding four
+    four-3 = getD-set-same (three b i p q r) (i + 3) s 0 (simp length-set (omega arith))
+
+-- What was stored is read back.
+pub word-same : (b : List ℕ) (k v : ℕ) → 4 * k + 4 ≤ length b → v < 2 ^ 32 → word (setWord b k v) k ≡ v
+unfolding word setWord four
+word-same b k v h f =
+    let p = v % 256 in
+    let q = v / 256 % 256 in
+    let r = v / 65536 % 256 in
+    let s = v / 16777216 % 256 in
+    rw
+    (four-0 b (4 * k) p q r s h, four-1 b (4 * k) p q r s h, four-2 b (4 * k) p q r s h, four-3 b (4 * k) p q r s h)
+    (bytes-sum v f)
+
+-- What lies apart is left alone.
+pub word-other : (b : List ℕ) (k j v : ℕ) → j ≢ k → word (setWord b k v) j ≡ word b j
+unfolding word setWord four
+word-other b k j v n =
+    let p = v % 256 in
+    let q = v / 256 % 256 in
+    let r = v / 65536 % 256 in
+    let s = v / 16777216 % 256 in
+    rw (
+      four-other b (4 * k) p q r s (4 * j) (omega arith) (omega arith) (omega arith) (omega arith),
+      four-other b (4 * k) p q r s (4 * j + 1) (omega arith) (omega arith) (omega arith) (omega arith),
+      four-other b (4 * k) p q r s (4 * j + 2) (omega arith) (omega arith) (omega arith) (omega arith),
+      four-other b (4 * k) p q r s (4 * j + 3) (omega arith) (omega arith) (omega arith) (omega arith),
+    )
+    refl
+
+-- What is read fits 32 bits.
+pub word-fits : (b : List ℕ) (k : ℕ) → Bytes b → word b k < 2 ^ 32
+unfolding word
+word-fits b k h = omega (arith, h (4 * k), h (4 * k + 1), h (4 * k + 2), h (4 * k + 3))
+
+bytes-set : (b : List ℕ) (i v : ℕ) → Bytes b → v < 256 → Bytes (set b i v)
+bytes-set [] i v h f j = h j
+bytes-set (x ∷ b) zero v h f zero = f
+bytes-set (x ∷ b) zero v h f (suc j) = h (suc j)
+bytes-set (x ∷ b) (suc i) v h f zero = h zero
+bytes-set (x ∷ b) (suc i) v h f (suc j) = bytes-set b i v (λ k. h (suc k)) f j
+
+pub bytes-setWord : (b : List ℕ) (k v : ℕ) → Bytes b → Bytes (setWord b k v)
+unfolding setWord four
+bytes-setWord b k v h =
+    let p = v % 256 in
+    let q = v / 256 % 256 in
+    let r = v / 65536 % 256 in
+    let h₁ = bytes-set b (4 * k) p h (omega arith) in
+    let h₂ = bytes-set (one b (4 * k) p) (4 * k + 1) q h₁ (omega arith) in
+    let h₃ = bytes-set (two b (4 * k) p q) (4 * k + 2) r h₂ (omega arith) in
+    bytes-set (three b (4 * k) p q r) (4 * k + 3) (v / 16777216 % 256) h₃ (omega arith)
+
+pub bytes-setWords : (vs b : List ℕ) (at : ℕ) → Bytes b → Bytes (setWords b at vs)
+bytes-setWords [] b at h = h
+bytes-setWords (v ∷ vs) b at h = bytes-setWords vs (setWord b at v) (suc at) (bytes-setWord b at v h)
+
+pub wordsAt-fit : (b : List ℕ) (at n : ℕ) → Bytes b → Fit (wordsAt b at n)
+wordsAt-fit b at zero h = tt
+wordsAt-fit b at (suc n) h = (word-fits b at h, wordsAt-fit b (suc at) n h)
+
+-- Runs. A word before or behind a stored run is left alone, and so is a run.
+pub word-apart : (vs b : List ℕ) (at k : ℕ) → (k < at) ⊎ (at + length vs ≤ k) → word (setWords b at vs) k ≡ word b k
+word-apart [] b at k o = refl
+word-apart (v ∷ vs) b at k o =
+    word-apart vs (setWord b at v) (suc at) k (⊎-elim (λ h. inl (omega arith)) (λ h. inr (omega arith)) o)
+    ∙ word-other b at k v (⊎-elim (λ h. omega arith) (λ h. omega arith) o)
+
+pub wordsAt-apart : (vs b : List ℕ) (at p n : ℕ) → (p + n ≤ at) ⊎ (at + length vs ≤ p)
+    → wordsAt (setWords b at vs) p n ≡ wordsAt b p n
+wordsAt-apart vs b at p zero o = refl
+wordsAt-apart vs b at p (suc n) o =
+    cc (
+      word-apart vs b at p (⊎-elim (λ h. inl (omega arith)) (λ h. inr (omega arith)) o),
+      wordsAt-apart vs b at (suc p) n (⊎-elim (λ h. inl (omega arith)) (λ h. inr (omega arith)) o),
+    )
+
+-- A stored run is read back.
+pub wordsAt-same : (vs b : List ℕ) (at : ℕ) → 4 * (at + length vs) ≤ length b → Fit vs
+    → wordsAt (setWords b at vs) at (length vs) ≡ vs
+wordsAt-same [] b at h f = refl
+wordsAt-same (v ∷ vs) b at h f =
+    cc (
+      word-apart vs (setWord b at v) (suc at) at (inl (omega arith)),
+      word-same b at v (omega arith) (f .0),
+      wordsAt-same vs (setWord b at v) (suc at) (rw length-setWord (omega arith)) (f .1),
+    )
+
+-- Stores apart commute.
+pub setWord-comm : (b : List ℕ) (j k u v : ℕ) → j ≢ k → setWord (setWord b j u) k v ≡ setWord (setWord b k v) j u
+unfolding setWord four
+setWord-comm b j k u v n =
+    let p = u % 256 in
+    let q = u / 256 % 256 in
+    let r = u / 65536 % 256 in
+    let s = u / 16777216 % 256 in
+    let x = v % 256 in
+    let y = v / 256 % 256 in
+    let z = v / 65536 % 256 in
+    let w = v / 16777216 % 256 in
+    let at = 4 * k in
+    ap
+    (λ l. set (set (set l (at + 1) y) (at + 2) z) (at + 3) w)
+    (four-past b (4 * j) p q r s at x (omega arith) (omega arith) (omega arith) (omega arith))
+    ∙ ap
+    (λ l. set (set l (at + 2) z) (at + 3) w)
+    (four-past (one b at x) (4 * j) p q r s (at + 1) y (omega arith) (omega arith) (omega arith) (omega arith))
+    ∙ ap
+    (λ l. set l (at + 3) w)
+    (four-past (two b at x y) (4 * j) p q r s (at + 2) z (omega arith) (omega arith) (omega arith) (omega arith))
+    ∙ four-past (three b at x y z) (4 * j) p q r s (at + 3) w (omega arith) (omega arith) (omega arith) (omega arith)

@@ -1,0 +1,2 @@
+-- The definitions of the crate `words`: one little-endian word, and runs of words, in a list of bytes.
+pub mod Word
