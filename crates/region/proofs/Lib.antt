@@ -1,0 +1,2 @@
+-- What the crates above cite of `region` beside its contracts.
+pub mod Places

@@ -1,0 +1,34 @@
+-- The number and values of each answer (document 01, A run): "moved 0, idle 1, inserted 2, took 3 with key and tag, empty 4,
+-- refused 5 with its number as key; unused words are 0"; and the numbers of the refusals.
+use Prim.Native.Nat.{ℕ}
+use mathlib.Core.List.{List, [], _∷_}
+use Rattle.region.specs.declared.answer.Answer.{Answer}
+use Rattle.region.specs.declared.answer.Answer.the-variants.{Moved, Idle, Inserted, Took, Empty, Refused}
+
+abbrev pub answerCode : Answer → ℕ
+answerCode Moved = 0
+answerCode Idle = 1
+answerCode Inserted = 2
+answerCode (Took i) = 3
+answerCode Empty = 4
+answerCode (Refused n) = 5
+
+abbrev pub answerKey : Answer → ℕ
+answerKey Moved = 0
+answerKey Idle = 0
+answerKey Inserted = 0
+answerKey (Took i) = i .key
+answerKey Empty = 0
+answerKey (Refused n) = n
+
+abbrev pub answerTag : Answer → ℕ
+answerTag Moved = 0
+answerTag Idle = 0
+answerTag Inserted = 0
+answerTag (Took i) = i .tag
+answerTag Empty = 0
+answerTag (Refused n) = 0
+
+-- "answers of three words (code, key, tag)"
+abbrev pub answerWords : Answer → List ℕ
+answerWords a = answerCode a ∷ answerKey a ∷ answerTag a ∷ []

@@ -1,0 +1,5 @@
+-- The definitions of the crate `region`: records as runs of words, the frame, and shared memory read from bytes as functions.
+pub mod Answer
+pub mod Pick
+pub mod Place
+pub mod Record

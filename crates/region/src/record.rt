@@ -1,0 +1,73 @@
+// An item, a node, a cell and a node copy, by value. Each is a run of words of the region.
+ghost use mathlib.Core.Path.{_≡_};
+ghost use Prim.Native.Nat.{_+_, _*_, _≤_};
+ghost use lib.ListN.{length};
+ghost use Rattle.region.specs.Record.{nodeAt, setNodeAt, cellAt, setCellAt};
+
+// A key with a tag.
+pub struct Item {
+    pub key: u32,
+    pub tag: u32,
+}
+
+// A node of the tree: the first cell of its list (0 for none), dirty (0 or 1), and the counter of its updates.
+pub struct Node {
+    pub first: u32,
+    pub dirty: u32,
+    pub counter: u32,
+}
+
+// A cell of a list: its item, and the next cell (0 ends the list).
+pub struct Cell {
+    pub item: Item,
+    pub next: u32,
+}
+
+// What a READ of a node brings: the node, and its head cell (zero if the list is empty).
+pub struct NodeCopy {
+    pub node: Node,
+    pub head: Cell,
+}
+
+// The node at word `at`.
+pub fn load_node_at(b: &[u8], at: usize) -> Node
+    requires { ⌜ 4 * (at + 3) ≤ length (now b) ⌝ }
+    ensures { λ r. ⌜ r ≡ nodeAt (now (b .entry)) at ⌝ }
+{
+    let mut a = [0u32; 3];
+    words::load_words(b, at, &mut a);
+    Node {
+        first: a[0],
+        dirty: a[1],
+        counter: a[2],
+    }
+}
+
+pub fn store_node_at(b: &mut [u8], at: usize, n: Node)
+    requires { ⌜ 4 * (at + 3) ≤ length (now b) ⌝ }
+    ensures { λ r. ⌜ now (b .exit) ≡ setNodeAt (now (b .entry)) at n ⌝ }
+{
+    let a = [n.first, n.dirty, n.counter];
+    words::store_words(b, at, &a);
+}
+
+// The cell at word `at`.
+pub fn load_cell_at(b: &[u8], at: usize) -> Cell
+    requires { ⌜ 4 * (at + 3) ≤ length (now b) ⌝ }
+    ensures { λ r. ⌜ r ≡ cellAt (now (b .entry)) at ⌝ }
+{
+    let mut a = [0u32; 3];
+    words::load_words(b, at, &mut a);
+    Cell {
+        item: Item { key: a[0], tag: a[1] },
+        next: a[2],
+    }
+}
+
+pub fn store_cell_at(b: &mut [u8], at: usize, c: Cell)
+    requires { ⌜ 4 * (at + 3) ≤ length (now b) ⌝ }
+    ensures { λ r. ⌜ now (b .exit) ≡ setCellAt (now (b .entry)) at c ⌝ }
+{
+    let a = [c.item.key, c.item.tag, c.next];
+    words::store_words(b, at, &a);
+}

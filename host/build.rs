@@ -1,0 +1,25 @@
+//! Says where the static library of the proved queue is: in target/staticlib at the repository's
+//! root, or in the folder that the environment variable MOUND_LIBRARY_DIR names.
+
+use std::env;
+use std::path::{Path, PathBuf};
+
+const OVERRIDE: &str = "MOUND_LIBRARY_DIR";
+
+fn main() {
+    let folder = env::var_os(OVERRIDE).map_or_else(default_folder, PathBuf::from);
+    let archive = folder.join("libqueue.a");
+    if !archive.exists() {
+        let archive = archive.display();
+        println!("cargo:warning={archive} is missing: `rt staticlib queue` builds it");
+    }
+    println!("cargo:rerun-if-env-changed={OVERRIDE}");
+    println!("cargo:rerun-if-changed={}", archive.display());
+    println!("cargo:rustc-link-search=native={}", folder.display());
+    println!("cargo:rustc-link-lib=static=queue");
+}
+
+fn default_folder() -> PathBuf {
+    let host = env::var_os("CARGO_MANIFEST_DIR").expect("cargo names the package's folder");
+    Path::new(&host).join("../target/staticlib")
+}

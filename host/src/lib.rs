@@ -1,0 +1,45 @@
+//! The proved mound wake-up queue, for Rust programs.
+//!
+//! A queue lives in a *region*: a byte slice that the host lends and whose every byte the queue's
+//! papers define. The calls are compiled from the proved source and linked as a static library;
+//! this crate gives them the types a Rust program expects and adds no rule of its own. A call that
+//! is refused says why by a [`Refusal`] and changes no byte.
+//!
+//! ```
+//! use mound::{Permission, Refusal, Region, Shape};
+//!
+//! # fn main() -> Result<(), Refusal> {
+//! let shape = Shape { depth: 2, cells: 2, threads: 2, threshold: 1 };
+//! let mut bytes = vec![0; shape.byte_len()?];
+//! assert_eq!(bytes.len(), 348);
+//!
+//! // Thread 1 may put and take; thread 2 lists nothing, so it may do nothing.
+//! let region = Region::layout(&mut bytes, shape, &[Permission::PUT_AND_TAKE, Permission::NONE])?;
+//! assert_eq!(region.shape(), shape);
+//!
+//! // The bytes are the whole queue. Whoever gets them next has them checked on the way in.
+//! bytes[0] = 13;
+//! assert_eq!(Region::open(&mut bytes).unwrap_err(), Refusal::Unreadable);
+//! # Ok(())
+//! # }
+//! ```
+//!
+//! [`Region`] is what a program uses. [`calls`] are the library's functions on plain numbers and
+//! byte slices, and [`plain`] is the same queue once more in plain Rust, which the tests and the
+//! benchmark hold against the library.
+
+#![deny(missing_docs)]
+#![deny(unsafe_code)]
+
+pub mod calls;
+mod permission;
+pub mod plain;
+mod refusal;
+mod region;
+mod shape;
+mod words;
+
+pub use permission::Permission;
+pub use refusal::Refusal;
+pub use region::Region;
+pub use shape::Shape;

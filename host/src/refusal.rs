@@ -1,0 +1,99 @@
+//! Why a call was refused.
+
+use std::error::Error;
+use std::fmt;
+
+/// Why a call, or a turn inside a run, was refused. Nothing was changed by it.
+///
+/// ```
+/// use mound::Refusal;
+///
+/// assert_eq!(Refusal::Unreadable.number(), 7);
+/// assert_eq!(Refusal::from_number(2), Some(Refusal::RegionLength));
+/// assert_eq!(Refusal::Busy.to_string(), "refused 9: the thread is busy");
+/// ```
+#[derive(Clone, Copy, Debug, PartialEq, Eq, Hash)]
+#[non_exhaustive]
+pub enum Refusal {
+    /// 1: the shape is outside its ranges, or the permissions are not one of 0 to 3 a thread.
+    Shape = 1,
+    /// 2: the slice to lay out does not have the exact length of the shape.
+    RegionLength = 2,
+    /// 3: the thread is 0 or above the number of threads.
+    Thread = 3,
+    /// 4: the key or the tag is outside its range.
+    Item = 4,
+    /// 5: the answer slice is below 12 bytes a turn.
+    AnswerLength = 5,
+    /// 6: the schedule is not whole turns of 8 bytes, or has over 4,096 of them.
+    Schedule = 6,
+    /// 7: the region is not readable, or a turn's access names what does not exist.
+    Unreadable = 7,
+    /// 8: the thread lacks the permission.
+    Permission = 8,
+    /// 9: the thread is busy.
+    Busy = 9,
+    /// 10: no cell is free.
+    NoFreeCell = 10,
+    /// 11: an update meets a counter that cannot grow.
+    CounterSpent = 11,
+}
+
+impl Refusal {
+    const ALL: [Refusal; 11] = [
+        Refusal::Shape,
+        Refusal::RegionLength,
+        Refusal::Thread,
+        Refusal::Item,
+        Refusal::AnswerLength,
+        Refusal::Schedule,
+        Refusal::Unreadable,
+        Refusal::Permission,
+        Refusal::Busy,
+        Refusal::NoFreeCell,
+        Refusal::CounterSpent,
+    ];
+
+    /// The refusal's number, as the library answers it.
+    pub fn number(self) -> u32 {
+        self as u32
+    }
+
+    /// The refusal of that number, if there is one; 0, which stands for done or yes, is none.
+    pub fn from_number(number: u32) -> Option<Refusal> {
+        Refusal::ALL.into_iter().find(|refusal| refusal.number() == number)
+    }
+
+    /// A library call's number as a result.
+    pub(crate) fn result_of(number: u32) -> Result<(), Refusal> {
+        match number {
+            0 => Ok(()),
+            _ => Err(Refusal::from_number(number).expect("the library answers 0 or a refusal")),
+        }
+    }
+}
+
+impl fmt::Display for Refusal {
+    fn fmt(&self, f: &mut fmt::Formatter<'_>) -> fmt::Result {
+        let reason = match self {
+            Refusal::Shape => {
+                "the shape is outside its ranges, or the permissions are not one of 0 to 3 a thread"
+            }
+            Refusal::RegionLength => "the slice does not have the exact length of the shape",
+            Refusal::Thread => "there is no such thread",
+            Refusal::Item => "the key or the tag is outside its range",
+            Refusal::AnswerLength => "the answer slice is below 12 bytes a turn",
+            Refusal::Schedule => "the schedule is not whole turns, or has over 4,096 of them",
+            Refusal::Unreadable => {
+                "the region is not readable, or a turn's access names what does not exist"
+            }
+            Refusal::Permission => "the thread lacks the permission",
+            Refusal::Busy => "the thread is busy",
+            Refusal::NoFreeCell => "no cell is free",
+            Refusal::CounterSpent => "an update meets a counter that cannot grow",
+        };
+        write!(f, "refused {}: {reason}", self.number())
+    }
+}
+
+impl Error for Refusal {}

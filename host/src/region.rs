@@ -1,0 +1,97 @@
+//! A queue in lent bytes, by safe calls.
+
+use std::fmt;
+
+use crate::{calls, Permission, Refusal, Shape};
+
+/// A queue in bytes that the host lends for as long as this value lives.
+///
+/// It is had by [`Region::layout`], which starts an empty queue, or by [`Region::open`], which
+/// takes bytes over as an earlier region left them. Either way the bytes are a readable region.
+pub struct Region<'a> {
+    bytes: &'a mut [u8],
+}
+
+impl<'a> Region<'a> {
+    /// Lays `bytes` out for an empty queue, with a permission for each thread. What the bytes held
+    /// before does not matter.
+    ///
+    /// Cost: each byte is written; at most 82,188 of them. The permissions are copied first.
+    ///
+    /// ```
+    /// use mound::{Permission, Refusal, Region, Shape};
+    ///
+    /// let shape = Shape { depth: 1, cells: 1, threads: 1, threshold: 1 };
+    /// let mut bytes = [0xff; 180];
+    /// let refused = Region::layout(&mut bytes[..176], shape, &[Permission::PUT]);
+    /// assert_eq!(refused.unwrap_err(), Refusal::RegionLength);
+    /// assert_eq!(bytes, [0xff; 180]);
+    ///
+    /// let region = Region::layout(&mut bytes, shape, &[Permission::PUT])?;
+    /// assert_eq!(region.check(), Ok(()));
+    /// # Ok::<(), Refusal>(())
+    /// ```
+    ///
+    /// # Errors
+    ///
+    /// In this order, and with no byte changed:
+    /// - [`Refusal::Shape`] for a shape out of range, or other than one permission a thread;
+    /// - [`Refusal::RegionLength`] where `bytes` is not of [`Shape::byte_len`] bytes.
+    pub fn layout(
+        bytes: &'a mut [u8],
+        shape: Shape,
+        permissions: &[Permission],
+    ) -> Result<Region<'a>, Refusal> {
+        let Shape { depth, cells, threads, threshold } = shape;
+        let permissions: Vec<u8> =
+            permissions.iter().map(|permission| permission.value()).collect();
+        let number = calls::layout(bytes, depth, cells, threads, threshold, &permissions);
+        Refusal::result_of(number).map(|()| Region { bytes })
+    }
+
+    /// Takes over bytes that an earlier region left, after a check that they are readable.
+    ///
+    /// Cost: that of [`Region::check`].
+    ///
+    /// # Errors
+    ///
+    /// [`Refusal::Unreadable`] where the bytes are no readable region.
+    pub fn open(bytes: &'a mut [u8]) -> Result<Region<'a>, Refusal> {
+        let region = Region { bytes };
+        region.check().map(|()| region)
+    }
+
+    /// Checks that the region is readable: its length is that of its first words, and every field
+    /// is in its range.
+    ///
+    /// Cost: each field is read at most once, up to the first that is out of its range.
+    ///
+    /// # Errors
+    ///
+    /// [`Refusal::Unreadable`] where it is not.
+    pub fn check(&self) -> Result<(), Refusal> {
+        Refusal::result_of(calls::check(self.bytes))
+    }
+
+    /// The shape that it was laid out by. Cost: four words are read.
+    pub fn shape(&self) -> Shape {
+        Shape::named_by(self.bytes)
+    }
+
+    /// The bytes, which are all there is of the queue. Cost: none.
+    pub fn as_bytes(&self) -> &[u8] {
+        self.bytes
+    }
+
+    /// Gives the bytes back. Cost: none.
+    pub fn into_bytes(self) -> &'a mut [u8] {
+        self.bytes
+    }
+}
+
+/// Shows the shape, not the bytes.
+impl fmt::Debug for Region<'_> {
+    fn fmt(&self, f: &mut fmt::Formatter<'_>) -> fmt::Result {
+        f.debug_struct("Region").field("shape", &self.shape()).finish_non_exhaustive()
+    }
+}

@@ -1,0 +1,166 @@
+//! What each word of a region holds, as a table, and regions made from it word by word.
+
+use mound::Shape;
+
+use crate::random::Random;
+
+/// Words before the first node.
+pub const HEADING: usize = 6;
+/// Words of a node or a cell.
+pub const RECORD: usize = 3;
+/// Words of a thread's record.
+pub const THREAD: usize = 33;
+
+/// Some words of a thread's record.
+pub const PLACE: usize = 1;
+pub const TRIES: usize = 7;
+pub const NODE: usize = 10;
+pub const WAITING: usize = 11;
+
+/// What a word holds, and by that its range.
+#[derive(Clone, Copy, Debug, PartialEq)]
+pub enum Field {
+    Depth,
+    Cell,
+    Dirty,
+    Free,
+    Tag,
+    Permission,
+    Place,
+    Level,
+    Node,
+    Tries,
+    Waiting,
+    After,
+}
+
+const NODE_FIELDS: [Field; RECORD] = [Field::Cell, Field::Dirty, Field::Free];
+const CELL_FIELDS: [Field; RECORD] = [Field::Free, Field::Tag, Field::Cell];
+const COPY_FIELDS: [Field; 6] =
+    [Field::Cell, Field::Dirty, Field::Free, Field::Free, Field::Tag, Field::Cell];
+const THREAD_FIELDS: [Field; 15] = [
+    Field::Permission,
+    Field::Place,
+    Field::Free,
+    Field::Tag,
+    Field::Cell,
+    Field::Level,
+    Field::Node,
+    Field::Tries,
+    Field::Level,
+    Field::Level,
+    Field::Node,
+    Field::Waiting,
+    Field::After,
+    Field::Free,
+    Field::Tag,
+];
+
+/// A region as words, with the shape that its first words name.
+#[derive(Clone)]
+pub struct Words {
+    pub shape: Shape,
+    pub words: Vec<u32>,
+}
+
+impl Words {
+    /// An empty queue's words, but for the permissions: those of an idle thread that may do nothing.
+    pub fn laid_out(shape: Shape) -> Words {
+        let mut words = vec![0; shape.byte_len().expect("a shape in range") / 4];
+        let first_words = [shape.depth, shape.cells, shape.threads, shape.threshold, 1, 1];
+        words[..HEADING].copy_from_slice(&first_words);
+        let mut region = Words { shape, words };
+        for cell in 1..shape.cells {
+            let next = region.cell(cell) + 2;
+            region.words[next] = cell + 1;
+        }
+        region
+    }
+
+    /// A readable region, each field anywhere in its range, the ends of the range frequent.
+    pub fn any_readable(random: &mut Random, shape: Shape) -> Words {
+        let mut region = Words::laid_out(shape);
+        // Place and node stand before the fields whose ranges hang on them.
+        for at in 4..region.words.len() {
+            region.words[at] = random.among_or_extreme(region.least(at)..=region.greatest(at));
+        }
+        region
+    }
+
+    pub fn bytes(&self) -> Vec<u8> {
+        self.words.iter().flat_map(|word| word.to_le_bytes()).collect()
+    }
+
+    /// The same region with one word set.
+    pub fn with(&self, at: usize, value: u32) -> Words {
+        let mut changed = self.clone();
+        changed.words[at] = value;
+        changed
+    }
+
+    /// Whether every field after the shape is in its range.
+    pub fn fits(&self) -> bool {
+        (4..self.words.len())
+            .all(|at| (self.least(at)..=self.greatest(at)).contains(&self.words[at]))
+    }
+
+    /// What the word holds, for any word after the shape.
+    pub fn field(&self, at: usize) -> Field {
+        if at < HEADING {
+            [Field::Depth, Field::Cell][at - 4]
+        } else if at < self.cell(1) {
+            NODE_FIELDS[(at - HEADING) % RECORD]
+        } else if at < self.thread(1) {
+            CELL_FIELDS[(at - self.cell(1)) % RECORD]
+        } else {
+            let word = (at - self.thread(1)) % THREAD;
+            let copies = THREAD_FIELDS.len();
+            *THREAD_FIELDS.get(word).unwrap_or_else(|| &COPY_FIELDS[(word - copies) % 6])
+        }
+    }
+
+    /// The least value of a word.
+    pub fn least(&self, at: usize) -> u32 {
+        u32::from(self.field(at) == Field::Depth)
+    }
+
+    /// The greatest value of a word beside the others as they are.
+    pub fn greatest(&self, at: usize) -> u32 {
+        let shape = self.shape;
+        match self.field(at) {
+            Field::Free => u32::MAX,
+            Field::Tag => 65_535,
+            Field::Dirty | Field::After => 1,
+            Field::Permission => 3,
+            Field::Place => 16,
+            Field::Cell => shape.cells,
+            Field::Depth | Field::Level => shape.depth,
+            Field::Node => (1 << shape.depth) - 1,
+            Field::Tries if self.beside(at, PLACE) == 2 => shape.threshold - 1,
+            Field::Tries => shape.threshold,
+            Field::Waiting if self.beside(at, PLACE) < 11 => 0,
+            // The marks of the levels that end before the node.
+            Field::Waiting => (1..=shape.depth)
+                .filter(|&level| (1 << level) <= self.beside(at, NODE))
+                .map(|level| 1 << (level - 1))
+                .sum(),
+        }
+    }
+
+    /// Where the record of a cell starts, counted from 1.
+    pub fn cell(&self, cell: u32) -> usize {
+        let nodes = (1 << self.shape.depth) - 1;
+        HEADING + RECORD * nodes + RECORD * (cell as usize - 1)
+    }
+
+    /// Where the record of a thread starts, counted from 1.
+    pub fn thread(&self, thread: u32) -> usize {
+        self.cell(1) + RECORD * self.shape.cells as usize + THREAD * (thread as usize - 1)
+    }
+
+    /// Another word of the thread's record in which a word stands.
+    fn beside(&self, at: usize, word: usize) -> u32 {
+        let threads = self.thread(1);
+        self.words[at - (at - threads) % THREAD + word]
+    }
+}

@@ -1,0 +1,69 @@
+//! Check: regions cut short or lengthened.
+
+use mound::Shape;
+
+use crate::both;
+use crate::fields::Words;
+use crate::random::Random;
+
+#[test]
+fn the_empty_slice() {
+    assert_eq!(both::check(&[]), 7);
+}
+
+#[test]
+fn each_part_of_a_region_that_starts_or_ends_with_it() {
+    let random = &mut Random::new(40);
+    let small = Shape { depth: 2, cells: 2, threads: 2, threshold: 1 };
+    for _ in 0..4 {
+        let bytes = Words::any_readable(random, small).bytes();
+        for length in 0..bytes.len() {
+            assert_eq!(both::check(&bytes[..length]), 7, "the first {length} bytes");
+            both::check(&bytes[bytes.len() - length..]);
+        }
+        assert_eq!(both::check(&bytes), 0);
+    }
+}
+
+#[test]
+fn bytes_after_the_end() {
+    let random = &mut Random::new(41);
+    for _ in 0..40 {
+        let shape = random.shape(6);
+        let bytes = Words::any_readable(random, shape).bytes();
+        for more in 1..=140 {
+            assert_eq!(both::check(&[bytes.clone(), vec![0; more]].concat()), 7, "{more} zeros");
+            assert_eq!(both::check(&[bytes.clone(), random.bytes(more)].concat()), 7, "{more}");
+        }
+    }
+}
+
+#[test]
+fn large_regions_cut_short() {
+    let random = &mut Random::new(42);
+    for _ in 0..100 {
+        let shape = random.shape(12);
+        let bytes = Words::any_readable(random, shape).bytes();
+        for less in [1, 2, 3, 4, 8, 12, 24, 131, 132, 133] {
+            assert_eq!(both::check(&bytes[..bytes.len() - less]), 7, "{shape:?} less {less}");
+        }
+    }
+}
+
+/// First words whose length comes out right, or not at all, if sums and shifts wrap.
+#[test]
+fn headings_alone_with_huge_numbers() {
+    let numbers = [0, 1, 2, 12, 13, 30, 31, 32, 33, 63, 64, 65, 1 << 31, u32::MAX];
+    for depth in numbers {
+        for cells in numbers {
+            for threads in numbers {
+                let words = [depth, cells, threads, 1, 1, 0];
+                let heading: Vec<u8> = words.into_iter().flat_map(u32::to_le_bytes).collect();
+                for length in 0..=heading.len() {
+                    assert_eq!(both::check(&heading[..length]), 7, "{length} bytes of {words:?}");
+                }
+                both::check(&[heading, vec![0; 156]].concat());
+            }
+        }
+    }
+}

@@ -1,0 +1,68 @@
+//! Random choices that are the same in each run: the generator splitmix64 and what the tests draw.
+
+use std::ops::RangeInclusive;
+
+use mound::Shape;
+
+pub struct Random {
+    state: u64,
+}
+
+impl Random {
+    pub fn new(seed: u64) -> Random {
+        Random { state: seed }
+    }
+
+    fn next(&mut self) -> u64 {
+        self.state = self.state.wrapping_add(0x9e37_79b9_7f4a_7c15);
+        let mixed = (self.state ^ (self.state >> 30)).wrapping_mul(0xbf58_476d_1ce4_e5b9);
+        let mixed = (mixed ^ (mixed >> 27)).wrapping_mul(0x94d0_49bb_1331_11eb);
+        mixed ^ (mixed >> 31)
+    }
+
+    /// Any number of the range.
+    pub fn among(&mut self, range: RangeInclusive<u32>) -> u32 {
+        let size = u64::from(range.end() - range.start()) + 1;
+        range.start() + (self.next() % size) as u32
+    }
+
+    /// Any number of the range, its ends and their neighbours as often as all others together.
+    pub fn among_or_extreme(&mut self, range: RangeInclusive<u32>) -> u32 {
+        let (least, greatest) = (*range.start(), *range.end());
+        match self.among(0..=7) {
+            0 => least,
+            1 => greatest,
+            2 => greatest.min(least.saturating_add(1)),
+            3 => least.max(greatest.saturating_sub(1)),
+            _ => self.among(range),
+        }
+    }
+
+    /// One of the values.
+    pub fn one_of<T: Copy>(&mut self, values: &[T]) -> T {
+        values[self.among(0..=values.len() as u32 - 1) as usize]
+    }
+
+    pub fn bytes(&mut self, length: usize) -> Vec<u8> {
+        let mut bytes: Vec<u8> =
+            (0..length.div_ceil(8)).flat_map(|_| self.next().to_le_bytes()).collect();
+        bytes.truncate(length);
+        bytes
+    }
+
+    /// A permission for each thread of the shape.
+    pub fn permissions(&mut self, shape: Shape) -> Vec<u8> {
+        (0..shape.threads).map(|_| self.among(0..=3) as u8).collect()
+    }
+
+    /// A shape in range, at most so deep.
+    pub fn shape(&mut self, greatest_depth: u32) -> Shape {
+        let depth = self.among(1..=greatest_depth);
+        Shape {
+            depth,
+            cells: self.among_or_extreme(1..=1 << (depth - 1)),
+            threads: self.among_or_extreme(1..=64),
+            threshold: self.among_or_extreme(1..=16),
+        }
+    }
+}
