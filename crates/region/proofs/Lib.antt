@@ -1,2 +1,3 @@
 -- What the crates above cite of `region` beside its contracts.
 pub mod Places
+pub mod Threads

@@ -3,3 +3,4 @@ pub mod Answer
 pub mod Pick
 pub mod Place
 pub mod Record
+pub mod Thread

@@ -8,7 +8,7 @@ use Rattle.region.specs.declared.record.Node.{Node}
 use Rattle.region.specs.declared.record.Cell.{Cell}
 use Rattle.region.specs.declared.record.NodeCopy.{NodeCopy}
 
--- the item, node, cell or node copy whose words stand in ws from index k on
+-- the item, node or cell, and below the node copy, whose words stand in ws from index k on
 abbrev pub itemOf : List ℕ → ℕ → Item
 itemOf ws k = record { key = getD ws k 0; tag = getD ws (k + 1) 0 }
 
@@ -18,8 +18,14 @@ nodeOf ws k = record { first = getD ws k 0; dirty = getD ws (k + 1) 0; counter =
 abbrev pub cellOf : List ℕ → ℕ → Cell
 cellOf ws k = record { item = itemOf ws k; next = getD ws (k + 2) 0 }
 
+-- a node copy from its six words
+abbrev pub copyOfWords : ℕ → ℕ → ℕ → ℕ → ℕ → ℕ → NodeCopy
+copyOfWords f d c k t n =
+    record { node = record { first = f; dirty = d; counter = c }; head = record { item = record { key = k; tag = t }; next = n } }
+
 abbrev pub copyOf : List ℕ → ℕ → NodeCopy
-copyOf ws k = record { node = nodeOf ws k; head = cellOf ws (k + 3) }
+copyOf ws k =
+    copyOfWords (getD ws k 0) (getD ws (k + 1) 0) (getD ws (k + 2) 0) (getD ws (k + 3) 0) (getD ws (k + 4) 0) (getD ws (k + 5) 0)
 
 -- "nodes of three words: first cell (0 for none), dirty (0 or 1), counter"
 abbrev pub nodeWords : Node → List ℕ

@@ -3,6 +3,7 @@
 mod answer;
 mod place;
 mod record;
+mod thread;
 
 pub use answer::Answer;
 pub use place::Place;
@@ -10,3 +11,6 @@ pub use record::Cell;
 pub use record::Item;
 pub use record::Node;
 pub use record::NodeCopy;
+pub use thread::Copies;
+pub use thread::Search;
+pub use thread::Thread;

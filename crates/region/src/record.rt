@@ -2,7 +2,7 @@
 ghost use mathlib.Core.Path.{_≡_};
 ghost use Prim.Native.Nat.{_+_, _*_, _≤_};
 ghost use lib.ListN.{length};
-ghost use Rattle.region.specs.Record.{nodeAt, setNodeAt, cellAt, setCellAt};
+ghost use Rattle.region.specs.Record.{copyOfWords, nodeAt, setNodeAt, cellAt, setCellAt};
 
 // A key with a tag.
 pub struct Item {
@@ -27,6 +27,25 @@ pub struct Cell {
 pub struct NodeCopy {
     pub node: Node,
     pub head: Cell,
+}
+
+impl NodeCopy {
+    // A node copy from its six words.
+    pub fn of(first: u32, dirty: u32, counter: u32, key: u32, tag: u32, next: u32) -> NodeCopy
+        ensures { λ r. ⌜ r ≡ copyOfWords first dirty counter key tag next ⌝ }
+    {
+        NodeCopy {
+            node: Node {
+                first,
+                dirty,
+                counter,
+            },
+            head: Cell {
+                item: Item { key, tag },
+                next,
+            },
+        }
+    }
 }
 
 // The node at word `at`.

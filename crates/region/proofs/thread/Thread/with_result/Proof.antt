@@ -1,0 +1,12 @@
+-- `region::thread::Thread::with_result` meets its contract: each field computes to its value. Assumes nothing.
+use Rattle.region.proofs.thread.Thread.with_result.Statement.{statement}
+use Rattle.region.proofs.thread.Thread.with_result.Tie as tie
+use mathlib.Core.Path.{refl}
+use Rattle.region.specs.Thread.{withResult}
+
+returns : tie.Need-returns
+unfolding withResult
+returns c = refl
+
+pub with-result-spec : {M : Type 1} → statement M
+with-result-spec = tie.close (tie.spec returns)

@@ -1,0 +1,239 @@
+-- The thread's record as a run of 33 words, and the values that its methods hand back (document 01, The region).
+use Prim.Native.Nat.{ℕ}
+use mathlib.Core.List.{List, [], _∷_, _++_}
+use lib.ListN.{getD}
+use Rattle.words.specs.Word.{wordsAt, setWords}
+use Rattle.region.specs.Place.{placeOf, placeNumber, waitingLevels}
+use Rattle.region.specs.Record.{itemOf, copyOf, copyWords, zeroItem, zeroCopy}
+use Rattle.region.specs.declared.place.Place.{Place}
+use Rattle.region.specs.declared.place.Place.the-variants.{Idle}
+use Rattle.region.specs.declared.record.Item.{Item}
+use Rattle.region.specs.declared.record.NodeCopy.{NodeCopy}
+use Rattle.region.specs.declared.thread.Copies.{Copies}
+use Rattle.region.specs.declared.thread.Search.{Search}
+use Rattle.region.specs.declared.thread.Thread.{Thread}
+
+-- "threads of 33 words"
+abbrev pub threadSize : ℕ
+threadSize = 33
+
+abbrev pub searchOf : List ℕ → ℕ → ℕ → ℕ → ℕ → Search
+searchOf ws a b c d = record { leaf = getD ws a 0; tries = getD ws b 0; lo = getD ws c 0; hi = getD ws d 0 }
+
+-- "permission, place, key, tag, own cell, d, leaf, tries, lo, hi, node, waiting levels .., after .., result key, result tag,
+-- then three node copies"
+abbrev pub threadOf : List ℕ → Thread
+threadOf ws =
+    record {
+      permission = getD ws 0 0;
+      place = placeOf (getD ws 1 0) (getD ws 11 0);
+      item = itemOf ws 2;
+      own = getD ws 4 0;
+      depth = getD ws 5 0;
+      search = searchOf ws 6 7 8 9;
+      node = getD ws 10 0;
+      after = getD ws 12 0;
+      result = itemOf ws 13;
+      copies = record { first = copyOf ws 15; second = copyOf ws 21; third = copyOf ws 27 }
+    }
+
+abbrev pub threadWords : Thread → List ℕ
+threadWords t =
+    t .permission
+    ∷ placeNumber (t .place)
+    ∷ t .item .key
+    ∷ t .item .tag
+    ∷ t .own
+    ∷ t .depth
+    ∷ t .search .leaf
+    ∷ t .search .tries
+    ∷ t .search .lo
+    ∷ t .search .hi
+    ∷ t .node
+    ∷ waitingLevels (t .place)
+    ∷ t .after
+    ∷ t .result .key
+    ∷ t .result .tag
+    ∷ copyWords (t .copies .first) ++ (copyWords (t .copies .second) ++ copyWords (t .copies .third))
+
+-- the thread's record at word `at` of the bytes b, and b with another one there
+unfoldable pub threadAt : List ℕ → ℕ → Thread
+threadAt b at = threadOf (wordsAt b at threadSize)
+
+unfoldable pub setThreadAt : List ℕ → ℕ → Thread → List ℕ
+setThreadAt b at t = setWords b at (threadWords t)
+
+abbrev pub zeroSearch : Search
+zeroSearch = record { leaf = 0; tries = 0; lo = 0; hi = 0 }
+
+abbrev pub zeroCopies : Copies
+zeroCopies = record { first = zeroCopy; second = zeroCopy; third = zeroCopy }
+
+-- idle, with this permission and every other word 0
+abbrev pub idleThread : ℕ → Thread
+idleThread p =
+    record {
+      permission = p;
+      place = Idle;
+      item = zeroItem;
+      own = 0;
+      depth = 0;
+      search = zeroSearch;
+      node = 0;
+      after = 0;
+      result = zeroItem;
+      copies = zeroCopies
+    }
+
+-- "Going idle zeroes every field but the permission."
+unfoldable pub goneIdle : Thread → Thread
+goneIdle t = idleThread (t .permission)
+
+-- "any other field keeps what was last put in it": the record with one field put anew
+unfoldable pub atPlace : Thread → Place → Thread
+atPlace t x =
+    record {
+      permission = t .permission;
+      place = x;
+      item = t .item;
+      own = t .own;
+      depth = t .depth;
+      search = t .search;
+      node = t .node;
+      after = t .after;
+      result = t .result;
+      copies = t .copies
+    }
+
+unfoldable pub withItem : Thread → Item → Thread
+withItem t x =
+    record {
+      permission = t .permission;
+      place = t .place;
+      item = x;
+      own = t .own;
+      depth = t .depth;
+      search = t .search;
+      node = t .node;
+      after = t .after;
+      result = t .result;
+      copies = t .copies
+    }
+
+unfoldable pub withOwn : Thread → ℕ → Thread
+withOwn t x =
+    record {
+      permission = t .permission;
+      place = t .place;
+      item = t .item;
+      own = x;
+      depth = t .depth;
+      search = t .search;
+      node = t .node;
+      after = t .after;
+      result = t .result;
+      copies = t .copies
+    }
+
+unfoldable pub withDepth : Thread → ℕ → Thread
+withDepth t x =
+    record {
+      permission = t .permission;
+      place = t .place;
+      item = t .item;
+      own = t .own;
+      depth = x;
+      search = t .search;
+      node = t .node;
+      after = t .after;
+      result = t .result;
+      copies = t .copies
+    }
+
+unfoldable pub withSearch : Thread → Search → Thread
+withSearch t x =
+    record {
+      permission = t .permission;
+      place = t .place;
+      item = t .item;
+      own = t .own;
+      depth = t .depth;
+      search = x;
+      node = t .node;
+      after = t .after;
+      result = t .result;
+      copies = t .copies
+    }
+
+unfoldable pub withNode : Thread → ℕ → Thread
+withNode t x =
+    record {
+      permission = t .permission;
+      place = t .place;
+      item = t .item;
+      own = t .own;
+      depth = t .depth;
+      search = t .search;
+      node = x;
+      after = t .after;
+      result = t .result;
+      copies = t .copies
+    }
+
+unfoldable pub withAfter : Thread → ℕ → Thread
+withAfter t x =
+    record {
+      permission = t .permission;
+      place = t .place;
+      item = t .item;
+      own = t .own;
+      depth = t .depth;
+      search = t .search;
+      node = t .node;
+      after = x;
+      result = t .result;
+      copies = t .copies
+    }
+
+unfoldable pub withResult : Thread → Item → Thread
+withResult t x =
+    record {
+      permission = t .permission;
+      place = t .place;
+      item = t .item;
+      own = t .own;
+      depth = t .depth;
+      search = t .search;
+      node = t .node;
+      after = t .after;
+      result = x;
+      copies = t .copies
+    }
+
+unfoldable pub withCopies : Thread → NodeCopy → NodeCopy → NodeCopy → Thread
+withCopies t x y z =
+    record {
+      permission = t .permission;
+      place = t .place;
+      item = t .item;
+      own = t .own;
+      depth = t .depth;
+      search = t .search;
+      node = t .node;
+      after = t .after;
+      result = t .result;
+      copies = record { first = x; second = y; third = z }
+    }
+
+-- the first, the second or the third node copy put anew
+unfoldable pub withFirst : Thread → NodeCopy → Thread
+unfolding withCopies
+withFirst t x = withCopies t x (t .copies .second) (t .copies .third)
+
+unfoldable pub withSecond : Thread → NodeCopy → Thread
+unfolding withCopies
+withSecond t x = withCopies t (t .copies .first) x (t .copies .third)
+
+unfoldable pub withThird : Thread → NodeCopy → Thread
+unfolding withCopies
+withThird t x = withCopies t (t .copies .first) (t .copies .second) x
