@@ -68,10 +68,8 @@ mod thread {
 /// In this order, and with no byte changed: [`Refusal::Shape`], [`Refusal::RegionLength`].
 pub fn layout(region: &mut [u8], shape: Shape, permissions: &[u8]) -> Result<(), Refusal> {
     let length = shape.byte_len()?;
-    let one_a_thread = permissions.len() == shape.threads as usize;
-    if !one_a_thread
-        || permissions.iter().any(|&permission| permission as u32 > GREATEST_PERMISSION)
-    {
+    let in_range = |&permission: &u8| u32::from(permission) <= GREATEST_PERMISSION;
+    if permissions.len() != shape.threads as usize || !permissions.iter().all(in_range) {
         return Err(Refusal::Shape);
     }
     if region.len() != length {

@@ -27,7 +27,8 @@ pub enum Refusal {
     AnswerLength = 5,
     /// 6: the schedule is not whole turns of 8 bytes, or has over 4,096 of them.
     Schedule = 6,
-    /// 7: the region is not readable, or a turn's access names what does not exist.
+    /// 7: the region is not readable; or a turn's access, or the local work after it, names a
+    /// node, a cell or a level that does not exist; or a search at I3 has nothing left to search.
     Unreadable = 7,
     /// 8: the thread lacks the permission.
     Permission = 8,
@@ -35,7 +36,7 @@ pub enum Refusal {
     Busy = 9,
     /// 10: no cell is free.
     NoFreeCell = 10,
-    /// 11: an update meets a counter that cannot grow.
+    /// 11: an update whose comparison holds meets a counter of 4,294,967,295.
     CounterSpent = 11,
 }
 
@@ -85,7 +86,7 @@ impl fmt::Display for Refusal {
             Refusal::AnswerLength => "the answer slice is below 12 bytes a turn",
             Refusal::Schedule => "the schedule is not whole turns, or has over 4,096 of them",
             Refusal::Unreadable => {
-                "the region is not readable, or a turn's access names what does not exist"
+                "the region is not readable, or a turn's step names what does not exist"
             }
             Refusal::Permission => "the thread lacks the permission",
             Refusal::Busy => "the thread is busy",

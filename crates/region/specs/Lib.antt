@@ -1,6 +1,9 @@
 -- The definitions of the crate `region`: records as runs of words, the frame, and shared memory read from bytes as functions.
 pub mod Answer
+pub mod Frame
+pub mod Level
 pub mod Pick
 pub mod Place
 pub mod Record
+pub mod Shape
 pub mod Thread

@@ -6,7 +6,7 @@ use std::time::Instant;
 use mound::{calls, plain, Permission, Refusal, Region, Shape};
 
 /// Measurements of each check, one after the other in turn.
-const ROUNDS: usize = 301;
+const ROUNDS: usize = 1001;
 
 /// A region to check, and how often in one measurement: long enough for the clock.
 struct Input {
@@ -56,8 +56,9 @@ fn laid_out(shape: Shape) -> Vec<u8> {
 
 fn print_heading(region: &[u8]) {
     let Shape { depth, cells, threads, threshold } = Shape::LARGEST;
-    println!("A check at depth {depth}, cells {cells}, threads {threads}, threshold {threshold}:");
-    println!("{} bytes.", region.len());
+    let length = region.len();
+    println!("A check of {length} bytes, the largest region:");
+    println!("depth {depth}, cells {cells}, threads {threads}, threshold {threshold}.");
     if cfg!(debug_assertions) {
         println!("The plain Rust is a DEBUG build: these ratios mean nothing. Use --release.");
     } else {

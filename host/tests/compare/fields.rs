@@ -56,20 +56,19 @@ const THREAD_FIELDS: [Field; 15] = [
     Field::Tag,
 ];
 
-/// A region as words, with the shape that its first words name.
+/// A region as words: six of the heading, then nodes, cells and threads.
 #[derive(Clone)]
 pub struct Words {
-    pub shape: Shape,
     pub words: Vec<u32>,
 }
 
 impl Words {
-    /// An empty queue's words, but for the permissions: those of an idle thread that may do nothing.
+    /// The words of an empty queue whose threads may do nothing.
     pub fn laid_out(shape: Shape) -> Words {
         let mut words = vec![0; shape.byte_len().expect("a shape in range") / 4];
         let first_words = [shape.depth, shape.cells, shape.threads, shape.threshold, 1, 1];
         words[..HEADING].copy_from_slice(&first_words);
-        let mut region = Words { shape, words };
+        let mut region = Words { words };
         for cell in 1..shape.cells {
             let next = region.cell(cell) + 2;
             region.words[next] = cell + 1;
@@ -98,10 +97,17 @@ impl Words {
         changed
     }
 
-    /// Whether every field after the shape is in its range.
-    pub fn fits(&self) -> bool {
-        (4..self.words.len())
-            .all(|at| (self.least(at)..=self.greatest(at)).contains(&self.words[at]))
+    /// The shape that the first words name.
+    pub fn shape(&self) -> Shape {
+        let [depth, cells, threads, threshold] = *self.words.first_chunk().unwrap();
+        Shape { depth, cells, threads, threshold }
+    }
+
+    /// Whether the length is the shape's and every field is in its range.
+    pub fn is_readable(&self) -> bool {
+        self.shape().byte_len() == Ok(4 * self.words.len())
+            && (4..self.words.len())
+                .all(|at| (self.least(at)..=self.greatest(at)).contains(&self.words[at]))
     }
 
     /// What the word holds, for any word after the shape.
@@ -126,7 +132,7 @@ impl Words {
 
     /// The greatest value of a word beside the others as they are.
     pub fn greatest(&self, at: usize) -> u32 {
-        let shape = self.shape;
+        let shape = self.shape();
         match self.field(at) {
             Field::Free => u32::MAX,
             Field::Tag => 65_535,
@@ -149,13 +155,13 @@ impl Words {
 
     /// Where the record of a cell starts, counted from 1.
     pub fn cell(&self, cell: u32) -> usize {
-        let nodes = (1 << self.shape.depth) - 1;
+        let nodes = (1 << self.shape().depth) - 1;
         HEADING + RECORD * nodes + RECORD * (cell as usize - 1)
     }
 
     /// Where the record of a thread starts, counted from 1.
     pub fn thread(&self, thread: u32) -> usize {
-        self.cell(1) + RECORD * self.shape.cells as usize + THREAD * (thread as usize - 1)
+        self.cell(1) + RECORD * self.shape().cells as usize + THREAD * (thread as usize - 1)
     }
 
     /// Another word of the thread's record in which a word stands.

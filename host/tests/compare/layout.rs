@@ -55,7 +55,7 @@ fn all_small_shapes_and_those_just_out_of_range() {
 #[test]
 fn random_shapes_are_laid_out_and_readable() {
     let random = &mut Random::new(3);
-    let shapes: Vec<Shape> = (0..2000).map(|_| random.shape(12)).collect();
+    let shapes: Vec<Shape> = (0..4000).map(|_| random.shape(12)).collect();
     for shape in shapes.into_iter().chain([Shape::LARGEST]) {
         let permissions = random.permissions(shape);
         assert_eq!(both::layout(random, length_of(shape), shape, &permissions), 0);
@@ -63,7 +63,7 @@ fn random_shapes_are_laid_out_and_readable() {
         let Shape { depth, cells, threads, threshold } = shape;
         let mut region = random.bytes(length_of(shape));
         calls::layout(&mut region, depth, cells, threads, threshold, &permissions);
-        assert_eq!(both::check(&region), 0, "{shape:?}");
+        assert!(both::is_readable(&region), "{shape:?}");
     }
 }
 

@@ -9,10 +9,10 @@ use crate::random::Random;
 #[test]
 fn every_field_anywhere_in_its_range() {
     let random = &mut Random::new(20);
-    for _ in 0..1500 {
+    for _ in 0..3000 {
         let shape = random.shape(12);
         let region = Words::any_readable(random, shape);
-        assert_eq!(both::check(&region.bytes()), 0, "{shape:?}");
+        assert!(both::is_readable(&region.bytes()), "{shape:?}");
     }
 }
 
@@ -25,7 +25,7 @@ fn every_field_at_an_end_of_its_range() {
             for at in 4..region.words.len() {
                 region.words[at] = take(&region, at);
             }
-            assert_eq!(both::check(&region.bytes()), 0, "{shape:?}");
+            assert!(both::is_readable(&region.bytes()), "{shape:?}");
         }
     }
 }
@@ -38,7 +38,7 @@ fn at_every_alignment() {
         let bytes = Words::any_readable(random, shape).bytes();
         for shift in 0..16 {
             let shifted = [vec![0xff; shift], bytes.clone(), vec![0xff; 4]].concat();
-            assert_eq!(both::check(&shifted[shift..][..bytes.len()]), 0);
+            assert!(both::is_readable(&shifted[shift..][..bytes.len()]));
         }
     }
 }
@@ -48,7 +48,7 @@ fn random_bytes() {
     let random = &mut Random::new(23);
     for length in (0..600).chain([1000, 4096, 82_188]) {
         for _ in 0..10 {
-            both::check(&random.bytes(length));
+            both::is_readable(&random.bytes(length));
         }
     }
 }
@@ -65,9 +65,9 @@ fn random_bytes_after_a_good_heading() {
             let at = random.among(0..=length as u32 - 1) as usize;
             bytes[at] = random.among(0..=255) as u8;
         }
-        both::check(&bytes);
+        both::is_readable(&bytes);
         let noise = random.bytes(length - 24);
         bytes[24..].copy_from_slice(&noise);
-        both::check(&bytes);
+        both::is_readable(&bytes);
     }
 }

@@ -1,0 +1,33 @@
+-- A node's level: its digits and its leading zeros make 32, and "Level j holds nodes 2^(j−1) to 2^j − 1". Assumes nothing.
+use Prim.Native.Nat.{ℕ, zero, suc, _+_, _-_, _/_, _^_, _≤_, _<_}
+use native.Mathlib.Omega.{arith}
+use mathlib.Core.Path.{_≡_, refl, subst}
+use lib.Count.{leadingZeros, leading-top}
+use Rattle.region.specs.Level.{digits, level}
+
+digits-leading : (k n : ℕ) → digits k n + leadingZeros k n ≡ k
+unfolding digits leadingZeros
+digits-leading zero n = refl
+digits-leading (suc k) zero = omega arith
+digits-leading (suc k) (suc n) = omega (arith, digits-leading k (suc n / 2))
+
+pub level-leading : (n : ℕ) → 32 - leadingZeros 32 n ≡ level n
+unfolding level
+level-leading n = omega (arith, digits-leading 32 n)
+
+pub record AtLevel (n : ℕ) : Type 0 where
+  pub some : 1 ≤ level n
+  pub least : 2 ^ (level n - 1) ≤ n
+  pub most : n < 2 ^ level n
+
+pub level-holds : (n : ℕ) → 1 ≤ n → n < 2 ^ 32 → AtLevel n
+unfolding level
+level-holds n p h =
+    let t = leading-top 32 n p h in
+    let e : t .0 ≡ level n - 1 = omega (arith, digits-leading 32 n, t .1) in
+    let e′ : suc (t .0) ≡ level n = omega (arith, digits-leading 32 n, t .1) in
+    record {
+      some = omega (arith, digits-leading 32 n, t .1);
+      least = subst (λ j. 2 ^ j ≤ n) e (t .2);
+      most = subst (λ j. n < 2 ^ j) e′ (t .3)
+    }
