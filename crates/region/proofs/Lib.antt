@@ -3,3 +3,4 @@ pub mod Places
 pub mod Threads
 pub mod Shapes
 pub mod Levels
+pub mod Entries

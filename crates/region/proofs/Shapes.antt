@@ -45,6 +45,10 @@ pub below : (lo x hi : ℕ) → x < lo → between lo x hi ≡ false
 unfolding between
 below lo x hi p = and-not-left (leb x hi) (lt-leb lo x p)
 
+pub above : (lo x hi : ℕ) → hi < x → between lo x hi ≡ false
+unfolding between
+above lo x hi p = and-not-right (leb lo x) (lt-leb x hi p)
+
 pub from-least : (lo x hi : ℕ) → lo ≤ x → leb x hi ≡ between lo x hi
 unfolding between
 from-least lo x hi p = rw (le-leb lo x p) refl

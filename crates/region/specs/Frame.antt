@@ -18,6 +18,30 @@ frameOf s =
       stride = threadSize
     }
 
+-- a part of a region: `count` records, `stride` words from one to the next
+pub record Part : Type 0 where
+  pub start : ℕ
+  pub stride : ℕ
+  pub count : ℕ
+
+abbrev pub partSize : Part → ℕ
+partSize p = p .stride * p .count
+
+abbrev pub depthOf : Frame → Part
+depthOf f = record { start = f .depth; stride = 1; count = 1 }
+
+abbrev pub freeOf : Frame → Part
+freeOf f = record { start = f .free; stride = 1; count = 1 }
+
+abbrev pub nodesOf : Frame → Part
+nodesOf f = record { start = f .nodes; stride = 3; count = nodeCount (f .shape) }
+
+abbrev pub cellsOf : Frame → Part
+cellsOf f = record { start = f .cells; stride = 3; count = f .shape .cells }
+
+abbrev pub threadsOf : Frame → Part
+threadsOf f = record { start = f .threads; stride = f .stride; count = f .shape .threads }
+
 -- each part of the frame ends within l bytes, and a thread's record within its stride
 pub record Within (f : Frame) (l : ℕ) : Type 0 where
   pub deep : f .shape .depth ≤ 12
@@ -28,20 +52,20 @@ pub record Within (f : Frame) (l : ℕ) : Type 0 where
   pub threads : 4 * (f .threads + f .stride * f .shape .threads) ≤ l
   pub stride : threadSize ≤ f .stride
 
--- n words from word a on lie apart from m words from word b on
-pub data Apart (a n b m : ℕ) : Type 0 where
-  before : a + n ≤ b → Apart a n b m
-  behind : b + m ≤ a → Apart a n b m
+-- one part ends before the other starts
+pub data Apart (p q : Part) : Type 0 where
+  before : p .start + partSize p ≤ q .start → Apart p q
+  behind : q .start + partSize q ≤ p .start → Apart p q
 
 -- the parts of the frame lie apart, in whatever order
 pub record Parted (f : Frame) : Type 0 where
-  pub depth-free : Apart (f .depth) 1 (f .free) 1
-  pub depth-nodes : Apart (f .depth) 1 (f .nodes) (3 * nodeCount (f .shape))
-  pub depth-cells : Apart (f .depth) 1 (f .cells) (3 * f .shape .cells)
-  pub depth-threads : Apart (f .depth) 1 (f .threads) (f .stride * f .shape .threads)
-  pub free-nodes : Apart (f .free) 1 (f .nodes) (3 * nodeCount (f .shape))
-  pub free-cells : Apart (f .free) 1 (f .cells) (3 * f .shape .cells)
-  pub free-threads : Apart (f .free) 1 (f .threads) (f .stride * f .shape .threads)
-  pub nodes-cells : Apart (f .nodes) (3 * nodeCount (f .shape)) (f .cells) (3 * f .shape .cells)
-  pub nodes-threads : Apart (f .nodes) (3 * nodeCount (f .shape)) (f .threads) (f .stride * f .shape .threads)
-  pub cells-threads : Apart (f .cells) (3 * f .shape .cells) (f .threads) (f .stride * f .shape .threads)
+  pub depth-free : Apart (depthOf f) (freeOf f)
+  pub depth-nodes : Apart (depthOf f) (nodesOf f)
+  pub depth-cells : Apart (depthOf f) (cellsOf f)
+  pub depth-threads : Apart (depthOf f) (threadsOf f)
+  pub free-nodes : Apart (freeOf f) (nodesOf f)
+  pub free-cells : Apart (freeOf f) (cellsOf f)
+  pub free-threads : Apart (freeOf f) (threadsOf f)
+  pub nodes-cells : Apart (nodesOf f) (cellsOf f)
+  pub nodes-threads : Apart (nodesOf f) (threadsOf f)
+  pub cells-threads : Apart (cellsOf f) (threadsOf f)

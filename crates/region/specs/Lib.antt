@@ -6,4 +6,5 @@ pub mod Pick
 pub mod Place
 pub mod Record
 pub mod Shape
+pub mod Shared
 pub mod Thread

@@ -2,7 +2,7 @@
 ghost use mathlib.Core.Path.{_≡_};
 ghost use Prim.Native.Nat.{_+_, _*_, _≤_};
 ghost use lib.ListN.{length};
-ghost use Rattle.region.specs.Record.{copyOfWords, nodeAt, setNodeAt, cellAt, setCellAt};
+ghost use Rattle.region.specs.Record.{emptyNode, zeroCell, copyOfWords, nodeAt, setNodeAt, cellAt, setCellAt};
 
 // A key with a tag.
 pub struct Item {
@@ -27,6 +27,31 @@ pub struct Cell {
 pub struct NodeCopy {
     pub node: Node,
     pub head: Cell,
+}
+
+impl Node {
+    // An empty, clean node with counter 0.
+    pub fn empty() -> Node
+        ensures { λ r. ⌜ r ≡ emptyNode ⌝ }
+    {
+        Node {
+            first: 0,
+            dirty: 0,
+            counter: 0,
+        }
+    }
+}
+
+impl Cell {
+    // A cell with every word 0.
+    pub fn zero() -> Cell
+        ensures { λ r. ⌜ r ≡ zeroCell ⌝ }
+    {
+        Cell {
+            item: Item { key: 0, tag: 0 },
+            next: 0,
+        }
+    }
 }
 
 impl NodeCopy {

@@ -2,7 +2,7 @@
 ghost use mathlib.Core.Path.{_≡_};
 ghost use Prim.Native.Nat.{_+_, _*_, _≤_};
 ghost use lib.ListN.{length};
-ghost use Rattle.region.specs.Thread.{threadAt, setThreadAt, goneIdle, atPlace, withItem, withOwn, withDepth, withSearch, withNode, withAfter, withResult, withFirst, withSecond, withThird};
+ghost use Rattle.region.specs.Thread.{idleThread, threadAt, setThreadAt, goneIdle, atPlace, withItem, withOwn, withDepth, withSearch, withNode, withAfter, withResult, withFirst, withSecond, withThird};
 
 use crate::place::place_of;
 use crate::place::Place;
@@ -119,13 +119,13 @@ pub fn store_thread_at(b: &mut [u8], at: usize, t: Thread)
 }
 
 impl Thread {
-    // "Going idle zeroes every field but the permission."
-    pub fn gone_idle(self) -> Thread
-        ensures { λ r. ⌜ r ≡ goneIdle self ⌝ }
+    // An idle thread with this permission.
+    pub fn idle(permission: u32) -> Thread
+        ensures { λ r. ⌜ r ≡ idleThread permission ⌝ }
     {
         let none = NodeCopy::of(0, 0, 0, 0, 0, 0);
         Thread {
-            permission: self.permission,
+            permission,
             place: Place::Idle,
             item: Item { key: 0, tag: 0 },
             own: 0,
@@ -145,6 +145,13 @@ impl Thread {
                 third: none,
             },
         }
+    }
+
+    // "Going idle zeroes every field but the permission."
+    pub fn gone_idle(self) -> Thread
+        ensures { λ r. ⌜ r ≡ goneIdle self ⌝ }
+    {
+        Thread::idle(self.permission)
     }
 
     pub fn at_place(self, place: Place) -> Thread
