@@ -4,3 +4,4 @@ pub mod Threads
 pub mod Shapes
 pub mod Levels
 pub mod Entries
+pub mod Views

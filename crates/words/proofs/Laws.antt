@@ -164,6 +164,13 @@ wordsAt-apart vs b at p (suc n) o =
       wordsAt-apart vs b at (suc p) n (⊎-elim (λ h. inl (omega arith)) (λ h. inr (omega arith)) o),
     )
 
+-- A run is read from its own words alone.
+pub wordsAt-reads : (b b′ : List ℕ) (at n : ℕ) → ((i : ℕ) → at ≤ i → i < at + n → word b i ≡ word b′ i)
+    → wordsAt b at n ≡ wordsAt b′ at n
+wordsAt-reads b b′ at zero h = refl
+wordsAt-reads b b′ at (suc n) h =
+    cc (h at (omega arith) (omega arith), wordsAt-reads b b′ (suc at) n (λ i l u. h i (omega arith) (omega arith)))
+
 -- A stored run is read back.
 pub wordsAt-same : (vs b : List ℕ) (at : ℕ) → 4 * (at + length vs) ≤ length b → Fit vs
     → wordsAt (setWords b at vs) at (length vs) ≡ vs

@@ -1,0 +1,325 @@
+-- Reading a region after a store. Reading the part that was stored to is the update, and every other part is left alone: of shared
+-- memory and of the threads' records, as functions. Assumes nothing.
+use Prim.Native.Nat.{ℕ, zero, suc, _+_, _-_, _*_, _^_, _≤_, _<_}
+use native.Mathlib.Nat.{mul-le-mul-left}
+use native.Mathlib.Decide.{ℕ-discrete, decLt}
+use native.Mathlib.Omega.{arith}
+use mathlib.Core.Path.{_≡_, refl, sym, ap, subst, fun-ext, _∙_}
+use mathlib.Core.Logic.{_⊎_, inl, inr, ⊎-elim}
+use mathlib.Core.Bool.{Bool, true, false}
+use mathlib.Core.List.{List}
+use borrow.Author.Tests.{eq-eqb, ne-eqb}
+use lib.Dec.{eqb}
+use lib.ListN.{length}
+use Rattle.words.specs.Word.{word, setWord, wordsAt, setWords, Bytes, Fit}
+use Rattle.words.proofs.Laws.{word-same, word-other, word-apart, wordsAt-same, wordsAt-reads, length-setWord, length-setWords, bytes-setWord, bytes-setWords}
+use Rattle.region.specs.Frame.{Part, Apart, before, behind, Parted, Within, partSize, depthOf, freeOf, nodesOf, cellsOf, threadsOf}
+use Rattle.region.specs.Pick.{pick, upd}
+use Rattle.region.specs.Record.{nodeOf, nodeWords, emptyNode, nodeAt, setNodeAt, cellOf, cellWords, zeroCell, cellAt, setCellAt}
+use Rattle.region.specs.Shape.{between, nodeCount}
+use Rattle.region.specs.Shared.{Shared, entry, loadEntry, storeEntry, nodeIn, setNodeIn, cellIn, setCellIn, threadIn, setThreadIn, sharedIn, putNode, putCell, putDepth, putFree}
+use Rattle.region.specs.Thread.{threadSize, threadOf, threadWords, idleThread, threadAt, setThreadAt}
+use Rattle.region.specs.declared.frame.Frame.{Frame}
+use Rattle.region.specs.declared.record.Cell.{Cell}
+use Rattle.region.specs.declared.record.Node.{Node}
+use Rattle.region.specs.declared.thread.Thread.{Thread}
+use Rattle.region.proofs.Entries.{entry-end}
+use Rattle.region.proofs.Shapes.{between-least, between-most, is-between}
+use Rattle.region.proofs.Threads.{thread-again}
+
+-- Word j lies outside a run of n words from word k on.
+abbrev Outside : ℕ → ℕ → ℕ → Type 0
+Outside k n j = (j < k) ⊎ (k + n ≤ j)
+
+-- A record of `size` words: what is stored is read back, only its words change, and it is read from them alone.
+record Codec {A : Type 0} (at : List ℕ → ℕ → A) (put : List ℕ → ℕ → A → List ℕ) (words : A → List ℕ) (size : ℕ) : Type 0 where
+  same : (b : List ℕ) (k : ℕ) (v : A) → 4 * (k + size) ≤ length b → Fit (words v) → at (put b k v) k ≡ v
+  only : (b : List ℕ) (k j : ℕ) (v : A) → Outside k size j → word (put b k v) j ≡ word b j
+  reads : (b b′ : List ℕ) (k : ℕ) → ((j : ℕ) → k ≤ j → j < k + size → word b j ≡ word b′ j) → at b k ≡ at b′ k
+
+node-codec : Codec nodeAt setNodeAt nodeWords 3
+unfolding nodeAt setNodeAt
+node-codec =
+    record {
+      same = λ b k v h f. ap (λ ws. nodeOf ws 0) (wordsAt-same (nodeWords v) b k h f);
+      only = λ b k j v o. word-apart (nodeWords v) b k j o;
+      reads = λ b b′ k h. ap (λ ws. nodeOf ws 0) (wordsAt-reads b b′ k 3 h)
+    }
+
+cell-codec : Codec cellAt setCellAt cellWords 3
+unfolding cellAt setCellAt
+cell-codec =
+    record {
+      same = λ b k v h f. ap (λ ws. cellOf ws 0) (wordsAt-same (cellWords v) b k h f);
+      only = λ b k j v o. word-apart (cellWords v) b k j o;
+      reads = λ b b′ k h. ap (λ ws. cellOf ws 0) (wordsAt-reads b b′ k 3 h)
+    }
+
+thread-codec : Codec threadAt setThreadAt threadWords threadSize
+unfolding threadAt setThreadAt
+thread-codec =
+    record {
+      same = λ b k v h f. ap threadOf (wordsAt-same (threadWords v) b k h f) ∙ thread-again v;
+      only = λ b k j v o. word-apart (threadWords v) b k j o;
+      reads = λ b b′ k h. ap threadOf (wordsAt-reads b b′ k threadSize h)
+    }
+
+lt-or-gt : (k n : ℕ) → (k ≡ n → ⊥) → (k < n) ⊎ (n < k)
+lt-or-gt k n ne = go (decLt k n)
+  where
+    go : Dec (k < n) → (k < n) ⊎ (n < k)
+    go (yes h) = inl h
+    go (no h) = inr (omega arith)
+
+-- The words of part p are the same in b and in b′.
+abbrev Kept : Part → List ℕ → List ℕ → Type 0
+Kept p b b′ = (j : ℕ) → p .start ≤ j → j < p .start + partSize p → word b′ j ≡ word b j
+
+-- Two records of one part lie apart.
+entries-apart : (p : Part) (k n : ℕ) → 1 ≤ k → k < n → entry p k + p .stride ≤ entry p n
+entries-apart p (suc k) (suc n) h l =
+    let ek : suc k - 1 ≡ k = omega arith in
+    let en : suc n - 1 ≡ n = omega arith in
+    let m : suc k ≤ n = omega arith in
+    omega (arith, ap (λ m. p .stride * m) ek, ap (λ m. p .stride * m) en, mul-le-mul-left (p .stride) m)
+entries-apart p zero n h l = omega arith
+entries-apart p (suc k) zero h l = omega arith
+
+module _ {A : Type 0} {at : List ℕ → ℕ → A} {put : List ℕ → ℕ → A → List ℕ} {words : A → List ℕ} {size : ℕ}
+    (cd : Codec at put words size) (none : A) (p : Part) (room : size ≤ p .stride) where
+  -- a store leaves alone what lies outside its part
+  store-only : (b : List ℕ) (n j : ℕ) (v : A) → Outside (p .start) (partSize p) j → word (storeEntry put p b n v) j ≡ word b j
+  unfolding storeEntry pick
+  store-only b n j v o = go (between 1 n (p .count)) refl
+    where
+      go : (q : Bool) → between 1 n (p .count) ≡ q → word (pick q (put b (entry p n) v) b) j ≡ word b j
+      go true e =
+          let l = between-least 1 n (p .count) e in
+          let u = between-most 1 n (p .count) e in
+          let s = entry-end p n (λ z. omega arith) u in
+          cd .only b (entry p n) j v (⊎-elim (λ h. inl (omega arith)) (λ h. inr (omega arith)) o)
+      go false e = refl
+
+  -- a load sees its part alone
+  load-kept : (b b′ : List ℕ) → Kept p b b′ → (k : ℕ) → loadEntry at none p b′ k ≡ loadEntry at none p b k
+  unfolding loadEntry pick
+  load-kept b b′ h k = go (between 1 k (p .count)) refl
+    where
+      go : (q : Bool) → between 1 k (p .count) ≡ q → pick q (at b′ (entry p k)) none ≡ pick q (at b (entry p k)) none
+      go true e =
+          let l = between-least 1 k (p .count) e in
+          let u = between-most 1 k (p .count) e in
+          let s = entry-end p k (λ z. omega arith) u in
+          cd .reads b′ b (entry p k) (λ j lo hi. h j (omega arith) (omega arith))
+      go false e = refl
+
+  -- a load after a store within the part is the update
+  module _ (b : List ℕ) (n : ℕ) (v : A) (l : 1 ≤ n) (u : n ≤ p .count) where
+    store-there : storeEntry put p b n v ≡ put b (entry p n) v
+    unfolding storeEntry pick
+    store-there = rw (is-between 1 n (p .count) l u) refl
+
+    load-same : 4 * (p .start + partSize p) ≤ length b → Fit (words v) → loadEntry at none p (put b (entry p n) v) n ≡ v
+    unfolding loadEntry pick
+    load-same fits f =
+        let s = entry-end p n (λ z. omega arith) u in
+        rw (is-between 1 n (p .count) l u) (cd .same b (entry p n) v (omega arith) f)
+
+    load-other : (k : ℕ) → (k ≡ n → ⊥) → loadEntry at none p (put b (entry p n) v) k ≡ loadEntry at none p b k
+    unfolding loadEntry pick
+    load-other k ne = go (between 1 k (p .count)) refl
+      where
+        apart : 1 ≤ k → (j : ℕ) → entry p k ≤ j → j < entry p k + size → (k < n) ⊎ (n < k) → Outside (entry p n) size j
+        apart lk j lo hi (inl h) = let s = entries-apart p k n lk h in inl (omega arith)
+        apart lk j lo hi (inr h) = let s = entries-apart p n k l h in inr (omega arith)
+
+        go : (q : Bool) → between 1 k (p .count) ≡ q
+            → pick q (at (put b (entry p n) v) (entry p k)) none ≡ pick q (at b (entry p k)) none
+        go true e =
+            cd .reads (put b (entry p n) v) b (entry p k)
+            (λ j lo hi. cd .only b (entry p n) j v (apart (between-least 1 k (p .count) e) j lo hi (lt-or-gt k n ne)))
+        go false e = refl
+
+    load-stored : 4 * (p .start + partSize p) ≤ length b → Fit (words v)
+        → (k : ℕ) → loadEntry at none p (storeEntry put p b n v) k ≡ upd (loadEntry at none p b) n v k
+    unfolding upd pick
+    load-stored fits f k = ap (λ x. loadEntry at none p x k) store-there ∙ go (ℕ-discrete k n)
+      where
+        go : Dec (k ≡ n) → loadEntry at none p (put b (entry p n) v) k ≡ pick (eqb k n) v (loadEntry at none p b k)
+        go (yes e) = ap (loadEntry at none p (put b (entry p n) v)) e ∙ load-same fits f ∙ rw (eq-eqb k n e) refl
+        go (no e) = load-other k e ∙ rw (ne-eqb k n e) refl
+
+-- What one store of a frame leaves of a part that lies apart from its own.
+outside : {p q : Part} → Apart p q → (j : ℕ) → p .start ≤ j → j < p .start + partSize p → Outside (q .start) (partSize q) j
+outside (before h) j l u = inl (omega arith)
+outside (behind h) j l u = inr (omega arith)
+
+flip : {p q : Part} → Apart p q → Apart q p
+flip (before h) = behind h
+flip (behind h) = before h
+
+module _ (f : Frame) (b : List ℕ) where
+  -- what is read of each part, where its words are kept
+  nodes-kept : (b′ : List ℕ) → Kept (nodesOf f) b b′ → nodeIn f b′ ≡ nodeIn f b
+  unfolding nodeIn
+  nodes-kept b′ h = fun-ext (load-kept node-codec emptyNode (nodesOf f) (omega arith) b b′ h)
+
+  cells-kept : (b′ : List ℕ) → Kept (cellsOf f) b b′ → cellIn f b′ ≡ cellIn f b
+  unfolding cellIn
+  cells-kept b′ h = fun-ext (load-kept cell-codec zeroCell (cellsOf f) (omega arith) b b′ h)
+
+  depth-kept : (b′ : List ℕ) → Kept (depthOf f) b b′ → word b′ (f .depth) ≡ word b (f .depth)
+  depth-kept b′ h = h (f .depth) (omega arith) (omega arith)
+
+  free-kept : (b′ : List ℕ) → Kept (freeOf f) b b′ → word b′ (f .free) ≡ word b (f .free)
+  free-kept b′ h = h (f .free) (omega arith) (omega arith)
+
+  module _ (w : Within f (length b)) where
+    threads-kept : (b′ : List ℕ) → Kept (threadsOf f) b b′ → threadIn f b′ ≡ threadIn f b
+    unfolding threadIn
+    threads-kept b′ h = fun-ext (load-kept thread-codec (idleThread 0) (threadsOf f) (w .stride) b b′ h)
+
+-- Lengths and bytes stay, whatever the number.
+module _ {A : Type 0} (put : List ℕ → ℕ → A → List ℕ) (p : Part) (P : List ℕ → Type 0)
+    (h : (b : List ℕ) (k : ℕ) (v : A) → P b → P (put b k v)) where
+  stays : (b : List ℕ) (n : ℕ) (v : A) → P b → P (storeEntry put p b n v)
+  unfolding storeEntry pick
+  stays b n v x = go (between 1 n (p .count))
+    where
+      go : (q : Bool) → P (pick q (put b (entry p n) v) b)
+      go true = h b (entry p n) v x
+      go false = x
+
+pub length-setNodeIn : (f : Frame) (b : List ℕ) (n : ℕ) (v : Node) → length (setNodeIn f b n v) ≡ length b
+unfolding setNodeIn setNodeAt
+length-setNodeIn f b n v =
+    stays setNodeAt (nodesOf f) (λ l. length l ≡ length b) (λ l k u e. length-setWords (nodeWords u) l k ∙ e) b n v refl
+
+pub bytes-setNodeIn : (f : Frame) (b : List ℕ) (n : ℕ) (v : Node) → Bytes b → Bytes (setNodeIn f b n v)
+unfolding setNodeIn setNodeAt
+bytes-setNodeIn f b n v = stays setNodeAt (nodesOf f) Bytes (λ l k u. bytes-setWords (nodeWords u) l k) b n v
+
+pub length-setCellIn : (f : Frame) (b : List ℕ) (c : ℕ) (v : Cell) → length (setCellIn f b c v) ≡ length b
+unfolding setCellIn setCellAt
+length-setCellIn f b c v =
+    stays setCellAt (cellsOf f) (λ l. length l ≡ length b) (λ l k u e. length-setWords (cellWords u) l k ∙ e) b c v refl
+
+pub bytes-setCellIn : (f : Frame) (b : List ℕ) (c : ℕ) (v : Cell) → Bytes b → Bytes (setCellIn f b c v)
+unfolding setCellIn setCellAt
+bytes-setCellIn f b c v = stays setCellAt (cellsOf f) Bytes (λ l k u. bytes-setWords (cellWords u) l k) b c v
+
+pub length-setThreadIn : (f : Frame) (b : List ℕ) (t : ℕ) (v : Thread) → length (setThreadIn f b t v) ≡ length b
+unfolding setThreadIn setThreadAt
+length-setThreadIn f b t v =
+    stays setThreadAt (threadsOf f) (λ l. length l ≡ length b) (λ l k u e. length-setWords (threadWords u) l k ∙ e) b t v refl
+
+pub bytes-setThreadIn : (f : Frame) (b : List ℕ) (t : ℕ) (v : Thread) → Bytes b → Bytes (setThreadIn f b t v)
+unfolding setThreadIn setThreadAt
+bytes-setThreadIn f b t v = stays setThreadAt (threadsOf f) Bytes (λ l k u. bytes-setWords (threadWords u) l k) b t v
+
+-- What each store changes lies within its part.
+module _ (f : Frame) (b : List ℕ) (w : Within f (length b)) where
+  pub word-setNodeIn : (n j : ℕ) (v : Node) → Outside ((nodesOf f) .start) (partSize (nodesOf f)) j → word (setNodeIn f b n v) j ≡ word b j
+  unfolding setNodeIn
+  word-setNodeIn n j v o = store-only node-codec emptyNode (nodesOf f) (omega arith) b n j v o
+
+  pub word-setCellIn : (c j : ℕ) (v : Cell) → Outside ((cellsOf f) .start) (partSize (cellsOf f)) j → word (setCellIn f b c v) j ≡ word b j
+  unfolding setCellIn
+  word-setCellIn c j v o = store-only cell-codec zeroCell (cellsOf f) (omega arith) b c j v o
+
+  pub word-setThreadIn : (t j : ℕ) (v : Thread) → Outside ((threadsOf f) .start) (partSize (threadsOf f)) j → word (setThreadIn f b t v) j ≡ word b j
+  unfolding setThreadIn
+  word-setThreadIn t j v o = store-only thread-codec (idleThread 0) (threadsOf f) (w .stride) b t j v o
+
+  node-keeps : (n : ℕ) (v : Node) (p : Part) → Apart p (nodesOf f) → Kept p b (setNodeIn f b n v)
+  node-keeps n v p a j l u = word-setNodeIn n j v (outside a j l u)
+
+  cell-keeps : (c : ℕ) (v : Cell) (p : Part) → Apart p (cellsOf f) → Kept p b (setCellIn f b c v)
+  cell-keeps c v p a j l u = word-setCellIn c j v (outside a j l u)
+
+  thread-keeps : (t : ℕ) (v : Thread) (p : Part) → Apart p (threadsOf f) → Kept p b (setThreadIn f b t v)
+  thread-keeps t v p a j l u = word-setThreadIn t j v (outside a j l u)
+
+  depth-keeps : (v : ℕ) (p : Part) → Apart p (depthOf f) → Kept p b (setWord b (f .depth) v)
+  depth-keeps v p a j l u = word-other b (f .depth) j v (⊎-elim (λ h. omega arith) (λ h. omega arith) (outside a j l u))
+
+  free-keeps : (v : ℕ) (p : Part) → Apart p (freeOf f) → Kept p b (setWord b (f .free) v)
+  free-keeps v p a j l u = word-other b (f .free) j v (⊎-elim (λ h. omega arith) (λ h. omega arith) (outside a j l u))
+
+  -- Reading after a store, of shared memory and of the threads.
+  module _ (parted : Parted f) where
+    pub shared-setNode : (n : ℕ) (v : Node) → 1 ≤ n → n ≤ nodeCount (f .shape) → Fit (nodeWords v)
+        → sharedIn f (setNodeIn f b n v) ≡ putNode (sharedIn f b) n v
+    unfolding sharedIn setNodeIn nodeIn
+    shared-setNode n v l u g =
+        let e : nodeIn f (setNodeIn f b n v) ≡ upd (nodeIn f b) n v =
+            fun-ext (load-stored node-codec emptyNode (nodesOf f) (omega arith) b n v l u (w .nodes) g)
+        in
+        λ i. record {
+          node = e i;
+          cell = cells-kept f b (setNodeIn f b n v) (node-keeps n v (cellsOf f) (flip (parted .nodes-cells))) i;
+          depth = depth-kept f b (setNodeIn f b n v) (node-keeps n v (depthOf f) (parted .depth-nodes)) i;
+          free = free-kept f b (setNodeIn f b n v) (node-keeps n v (freeOf f) (parted .free-nodes)) i
+        }
+
+    pub threads-setNode : (n : ℕ) (v : Node) → threadIn f (setNodeIn f b n v) ≡ threadIn f b
+    threads-setNode n v = threads-kept f b w (setNodeIn f b n v) (node-keeps n v (threadsOf f) (flip (parted .nodes-threads)))
+
+    pub shared-setCell : (c : ℕ) (v : Cell) → 1 ≤ c → c ≤ f .shape .cells → Fit (cellWords v)
+        → sharedIn f (setCellIn f b c v) ≡ putCell (sharedIn f b) c v
+    unfolding sharedIn setCellIn cellIn
+    shared-setCell c v l u g =
+        let e : cellIn f (setCellIn f b c v) ≡ upd (cellIn f b) c v =
+            fun-ext (load-stored cell-codec zeroCell (cellsOf f) (omega arith) b c v l u (w .cells) g)
+        in
+        λ i. record {
+          node = nodes-kept f b (setCellIn f b c v) (cell-keeps c v (nodesOf f) (parted .nodes-cells)) i;
+          cell = e i;
+          depth = depth-kept f b (setCellIn f b c v) (cell-keeps c v (depthOf f) (parted .depth-cells)) i;
+          free = free-kept f b (setCellIn f b c v) (cell-keeps c v (freeOf f) (parted .free-cells)) i
+        }
+
+    pub threads-setCell : (c : ℕ) (v : Cell) → threadIn f (setCellIn f b c v) ≡ threadIn f b
+    threads-setCell c v = threads-kept f b w (setCellIn f b c v) (cell-keeps c v (threadsOf f) (flip (parted .cells-threads)))
+
+    pub shared-setDepth : (v : ℕ) → v < 2 ^ 32 → sharedIn f (setWord b (f .depth) v) ≡ putDepth (sharedIn f b) v
+    unfolding sharedIn
+    shared-setDepth v g =
+        λ i. record {
+          node = nodes-kept f b (setWord b (f .depth) v) (depth-keeps v (nodesOf f) (flip (parted .depth-nodes))) i;
+          cell = cells-kept f b (setWord b (f .depth) v) (depth-keeps v (cellsOf f) (flip (parted .depth-cells))) i;
+          depth = word-same b (f .depth) v (w .depth) g i;
+          free = free-kept f b (setWord b (f .depth) v) (depth-keeps v (freeOf f) (flip (parted .depth-free))) i
+        }
+
+    pub threads-setDepth : (v : ℕ) → threadIn f (setWord b (f .depth) v) ≡ threadIn f b
+    threads-setDepth v = threads-kept f b w (setWord b (f .depth) v) (depth-keeps v (threadsOf f) (flip (parted .depth-threads)))
+
+    pub shared-setFree : (v : ℕ) → v < 2 ^ 32 → sharedIn f (setWord b (f .free) v) ≡ putFree (sharedIn f b) v
+    unfolding sharedIn
+    shared-setFree v g =
+        λ i. record {
+          node = nodes-kept f b (setWord b (f .free) v) (free-keeps v (nodesOf f) (flip (parted .free-nodes))) i;
+          cell = cells-kept f b (setWord b (f .free) v) (free-keeps v (cellsOf f) (flip (parted .free-cells))) i;
+          depth = depth-kept f b (setWord b (f .free) v) (free-keeps v (depthOf f) (parted .depth-free)) i;
+          free = word-same b (f .free) v (w .free) g i
+        }
+
+    pub threads-setFree : (v : ℕ) → threadIn f (setWord b (f .free) v) ≡ threadIn f b
+    threads-setFree v = threads-kept f b w (setWord b (f .free) v) (free-keeps v (threadsOf f) (flip (parted .free-threads)))
+
+    pub shared-setThread : (t : ℕ) (v : Thread) → sharedIn f (setThreadIn f b t v) ≡ sharedIn f b
+    unfolding sharedIn
+    shared-setThread t v =
+        λ i. record {
+          node = nodes-kept f b (setThreadIn f b t v) (thread-keeps t v (nodesOf f) (parted .nodes-threads)) i;
+          cell = cells-kept f b (setThreadIn f b t v) (thread-keeps t v (cellsOf f) (parted .cells-threads)) i;
+          depth = depth-kept f b (setThreadIn f b t v) (thread-keeps t v (depthOf f) (parted .depth-threads)) i;
+          free = free-kept f b (setThreadIn f b t v) (thread-keeps t v (freeOf f) (parted .free-threads)) i
+        }
+
+    pub threads-setThread : (t : ℕ) (v : Thread) → 1 ≤ t → t ≤ f .shape .threads → Fit (threadWords v)
+        → threadIn f (setThreadIn f b t v) ≡ upd (threadIn f b) t v
+    unfolding setThreadIn threadIn
+    threads-setThread t v l u g =
+        fun-ext (load-stored thread-codec (idleThread 0) (threadsOf f) (w .stride) b t v l u (w .threads) g)
