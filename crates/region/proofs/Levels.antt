@@ -29,5 +29,5 @@ level-holds n p h =
     record {
       some = omega (arith, digits-leading 32 n, t .1);
       least = subst (λ j. 2 ^ j ≤ n) e (t .2);
-      most = subst (λ j. n < 2 ^ j) e′ (t .3)
+      most = subst (λ j. n < 2 ^ j) e′ (t .3);
     }

@@ -1,7 +1,8 @@
 -- What the crates above cite of `region` beside its contracts.
-pub mod Places
-pub mod Threads
-pub mod Shapes
-pub mod Levels
 pub mod Entries
+pub mod Frames
+pub mod Levels
+pub mod Places
+pub mod Shapes
+pub mod Threads
 pub mod Views

@@ -7,7 +7,7 @@ use mathlib.Core.Bool.{Bool, true, false, not, _&&_, true≢false}
 use borrow.Author.Tests.{leb-true, le-leb, lt-leb, le-ltb, not-true, not-false}
 use lib.Dec.{leb}
 use lib.Pow.{pow-mono, pow-pos, pow-lt}
-use Rattle.region.specs.Shape.{between, shapeFits, InRange}
+use Rattle.region.specs.Shape.{InRange, between, shapeFits, regionWords}
 use Rattle.region.specs.declared.shape.Shape.{Shape}
 
 -- Tests joined by &&.
@@ -75,7 +75,7 @@ in-range s e =
       threads-least = between-least 1 (s .threads) 64 et;
       threads-most = between-most 1 (s .threads) 64 et;
       threshold-least = between-least 1 (s .threshold) 16 eh;
-      threshold-most = between-most 1 (s .threshold) 16 eh
+      threshold-most = between-most 1 (s .threshold) 16 eh;
     }
 
 pub fits-in-range : (s : Shape) → InRange s → shapeFits s ≡ true
@@ -99,7 +99,7 @@ sizes s h =
     record {
       leaves-most = pow-mono {i = s .depth - 1} {j = 11} (omega arith);
       nodes-most = pow-mono {i = s .depth} {j = 12} h;
-      nodes-least = pow-pos (s .depth)
+      nodes-least = pow-pos (s .depth);
     }
 
 -- One shifted is a power.
@@ -135,3 +135,8 @@ module _ (s : Shape) (d : Bool) (ed : d ≡ between 1 (s .depth) 12) where
         pub last-test : not t ≡ false → (h : Bool) → h ≡ between 1 (s .threshold) 16 → h ≡ shapeFits s
         unfolding shapeFits
         last-test gt h eh = rw (← ed, not-false d gd, ← cells-test, not-false c gc, ← et, not-false t gt) eh
+
+-- The largest region has 20,547 words.
+pub words-most : (s : Shape) → InRange s → regionWords s ≤ 20547
+unfolding regionWords
+words-most s r = omega (arith, sizes s (r .depth-most))

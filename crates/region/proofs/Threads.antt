@@ -26,7 +26,7 @@ loaded a p q r s =
       node = getD a 10 0;
       after = getD a 12 0;
       result = itemOf a 13;
-      copies = record { first = q; second = r; third = s }
+      copies = record { first = q; second = r; third = s };
     }
 
 pub thread-loaded : (b a : List ℕ) (at : ℕ) (p : Place) (q r s : NodeCopy) → a ≡ wordsAt b at 33
@@ -38,17 +38,17 @@ thread-loaded b a at p q r s ea ep eq er es = (λ i. loaded a (ep i) (eq i) (er 
 -- the words of a record are read as that record
 pub thread-again : (t : Thread) → threadOf (threadWords t) ≡ t
 thread-again t = λ i. record {
-      permission = t .permission;
-      place = place-again (t .place) i;
-      item = t .item;
-      own = t .own;
-      depth = t .depth;
-      search = t .search;
-      node = t .node;
-      after = t .after;
-      result = t .result;
-      copies = t .copies
-    }
+  permission = t .permission;
+  place = place-again (t .place) i;
+  item = t .item;
+  own = t .own;
+  depth = t .depth;
+  search = t .search;
+  node = t .node;
+  after = t .after;
+  result = t .result;
+  copies = t .copies;
+}
 
 -- the words that a store lists, the place's two given
 abbrev pub stored : Thread → ℕ → ℕ → List ℕ

@@ -43,7 +43,7 @@ node-codec =
     record {
       same = λ b k v h f. ap (λ ws. nodeOf ws 0) (wordsAt-same (nodeWords v) b k h f);
       only = λ b k j v o. word-apart (nodeWords v) b k j o;
-      reads = λ b b′ k h. ap (λ ws. nodeOf ws 0) (wordsAt-reads b b′ k 3 h)
+      reads = λ b b′ k h. ap (λ ws. nodeOf ws 0) (wordsAt-reads b b′ k 3 h);
     }
 
 cell-codec : Codec cellAt setCellAt cellWords 3
@@ -52,7 +52,7 @@ cell-codec =
     record {
       same = λ b k v h f. ap (λ ws. cellOf ws 0) (wordsAt-same (cellWords v) b k h f);
       only = λ b k j v o. word-apart (cellWords v) b k j o;
-      reads = λ b b′ k h. ap (λ ws. cellOf ws 0) (wordsAt-reads b b′ k 3 h)
+      reads = λ b b′ k h. ap (λ ws. cellOf ws 0) (wordsAt-reads b b′ k 3 h);
     }
 
 thread-codec : Codec threadAt setThreadAt threadWords threadSize
@@ -61,7 +61,7 @@ thread-codec =
     record {
       same = λ b k v h f. ap threadOf (wordsAt-same (threadWords v) b k h f) ∙ thread-again v;
       only = λ b k j v o. word-apart (threadWords v) b k j o;
-      reads = λ b b′ k h. ap threadOf (wordsAt-reads b b′ k threadSize h)
+      reads = λ b b′ k h. ap threadOf (wordsAt-reads b b′ k threadSize h);
     }
 
 lt-or-gt : (k n : ℕ) → (k ≡ n → ⊥) → (k < n) ⊎ (n < k)
@@ -253,13 +253,13 @@ module _ (f : Frame) (b : List ℕ) (w : Within f (length b)) where
     unfolding sharedIn setNodeIn nodeIn
     shared-setNode n v l u g =
         let e : nodeIn f (setNodeIn f b n v) ≡ upd (nodeIn f b) n v =
-            fun-ext (load-stored node-codec emptyNode (nodesOf f) (omega arith) b n v l u (w .nodes) g)
+        fun-ext (load-stored node-codec emptyNode (nodesOf f) (omega arith) b n v l u (w .nodes) g)
         in
         λ i. record {
           node = e i;
           cell = cells-kept f b (setNodeIn f b n v) (node-keeps n v (cellsOf f) (flip (parted .nodes-cells))) i;
           depth = depth-kept f b (setNodeIn f b n v) (node-keeps n v (depthOf f) (parted .depth-nodes)) i;
-          free = free-kept f b (setNodeIn f b n v) (node-keeps n v (freeOf f) (parted .free-nodes)) i
+          free = free-kept f b (setNodeIn f b n v) (node-keeps n v (freeOf f) (parted .free-nodes)) i;
         }
 
     pub threads-setNode : (n : ℕ) (v : Node) → threadIn f (setNodeIn f b n v) ≡ threadIn f b
@@ -270,13 +270,13 @@ module _ (f : Frame) (b : List ℕ) (w : Within f (length b)) where
     unfolding sharedIn setCellIn cellIn
     shared-setCell c v l u g =
         let e : cellIn f (setCellIn f b c v) ≡ upd (cellIn f b) c v =
-            fun-ext (load-stored cell-codec zeroCell (cellsOf f) (omega arith) b c v l u (w .cells) g)
+        fun-ext (load-stored cell-codec zeroCell (cellsOf f) (omega arith) b c v l u (w .cells) g)
         in
         λ i. record {
           node = nodes-kept f b (setCellIn f b c v) (cell-keeps c v (nodesOf f) (parted .nodes-cells)) i;
           cell = e i;
           depth = depth-kept f b (setCellIn f b c v) (cell-keeps c v (depthOf f) (parted .depth-cells)) i;
-          free = free-kept f b (setCellIn f b c v) (cell-keeps c v (freeOf f) (parted .free-cells)) i
+          free = free-kept f b (setCellIn f b c v) (cell-keeps c v (freeOf f) (parted .free-cells)) i;
         }
 
     pub threads-setCell : (c : ℕ) (v : Cell) → threadIn f (setCellIn f b c v) ≡ threadIn f b
@@ -289,7 +289,7 @@ module _ (f : Frame) (b : List ℕ) (w : Within f (length b)) where
           node = nodes-kept f b (setWord b (f .depth) v) (depth-keeps v (nodesOf f) (flip (parted .depth-nodes))) i;
           cell = cells-kept f b (setWord b (f .depth) v) (depth-keeps v (cellsOf f) (flip (parted .depth-cells))) i;
           depth = word-same b (f .depth) v (w .depth) g i;
-          free = free-kept f b (setWord b (f .depth) v) (depth-keeps v (freeOf f) (flip (parted .depth-free))) i
+          free = free-kept f b (setWord b (f .depth) v) (depth-keeps v (freeOf f) (flip (parted .depth-free))) i;
         }
 
     pub threads-setDepth : (v : ℕ) → threadIn f (setWord b (f .depth) v) ≡ threadIn f b
@@ -302,7 +302,7 @@ module _ (f : Frame) (b : List ℕ) (w : Within f (length b)) where
           node = nodes-kept f b (setWord b (f .free) v) (free-keeps v (nodesOf f) (flip (parted .free-nodes))) i;
           cell = cells-kept f b (setWord b (f .free) v) (free-keeps v (cellsOf f) (flip (parted .free-cells))) i;
           depth = depth-kept f b (setWord b (f .free) v) (free-keeps v (depthOf f) (parted .depth-free)) i;
-          free = word-same b (f .free) v (w .free) g i
+          free = word-same b (f .free) v (w .free) g i;
         }
 
     pub threads-setFree : (v : ℕ) → threadIn f (setWord b (f .free) v) ≡ threadIn f b
@@ -315,7 +315,7 @@ module _ (f : Frame) (b : List ℕ) (w : Within f (length b)) where
           node = nodes-kept f b (setThreadIn f b t v) (thread-keeps t v (nodesOf f) (parted .nodes-threads)) i;
           cell = cells-kept f b (setThreadIn f b t v) (thread-keeps t v (cellsOf f) (parted .cells-threads)) i;
           depth = depth-kept f b (setThreadIn f b t v) (thread-keeps t v (depthOf f) (parted .depth-threads)) i;
-          free = free-kept f b (setThreadIn f b t v) (thread-keeps t v (freeOf f) (parted .free-threads)) i
+          free = free-kept f b (setThreadIn f b t v) (thread-keeps t v (freeOf f) (parted .free-threads)) i;
         }
 
     pub threads-setThread : (t : ℕ) (v : Thread) → 1 ≤ t → t ≤ f .shape .threads → Fit (threadWords v)

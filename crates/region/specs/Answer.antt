@@ -32,3 +32,40 @@ answerTag (Refused n) = 0
 -- "answers of three words (code, key, tag)"
 abbrev pub answerWords : Answer → List ℕ
 answerWords a = answerCode a ∷ answerKey a ∷ answerTag a ∷ []
+
+-- the number of a call that is done, and of each refusal ("Refused because of the input", "Refused because of the state")
+abbrev pub done : ℕ
+done = 0
+
+abbrev pub badShape : ℕ
+badShape = 1
+
+abbrev pub badLength : ℕ
+badLength = 2
+
+abbrev pub badThread : ℕ
+badThread = 3
+
+abbrev pub badItem : ℕ
+badItem = 4
+
+abbrev pub shortAnswers : ℕ
+shortAnswers = 5
+
+abbrev pub badSchedule : ℕ
+badSchedule = 6
+
+abbrev pub unreadable : ℕ
+unreadable = 7
+
+abbrev pub notPermitted : ℕ
+notPermitted = 8
+
+abbrev pub threadBusy : ℕ
+threadBusy = 9
+
+abbrev pub noFreeCell : ℕ
+noFreeCell = 10
+
+abbrev pub counterSpent : ℕ
+counterSpent = 11

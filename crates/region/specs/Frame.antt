@@ -15,7 +15,7 @@ frameOf s =
       nodes = 6;
       cells = 6 + 3 * nodeCount s;
       threads = 6 + 3 * nodeCount s + 3 * s .cells;
-      stride = threadSize
+      stride = threadSize;
     }
 
 -- a part of a region: `count` records, `stride` words from one to the next

@@ -34,7 +34,7 @@ threadOf ws =
       node = getD ws 10 0;
       after = getD ws 12 0;
       result = itemOf ws 13;
-      copies = record { first = copyOf ws 15; second = copyOf ws 21; third = copyOf ws 27 }
+      copies = record { first = copyOf ws 15; second = copyOf ws 21; third = copyOf ws 27 };
     }
 
 abbrev pub threadWords : Thread → List ℕ
@@ -82,7 +82,7 @@ idleThread p =
       node = 0;
       after = 0;
       result = zeroItem;
-      copies = zeroCopies
+      copies = zeroCopies;
     }
 
 -- "Going idle zeroes every field but the permission."
@@ -102,7 +102,7 @@ atPlace t x =
       node = t .node;
       after = t .after;
       result = t .result;
-      copies = t .copies
+      copies = t .copies;
     }
 
 unfoldable pub withItem : Thread → Item → Thread
@@ -117,7 +117,7 @@ withItem t x =
       node = t .node;
       after = t .after;
       result = t .result;
-      copies = t .copies
+      copies = t .copies;
     }
 
 unfoldable pub withOwn : Thread → ℕ → Thread
@@ -132,7 +132,7 @@ withOwn t x =
       node = t .node;
       after = t .after;
       result = t .result;
-      copies = t .copies
+      copies = t .copies;
     }
 
 unfoldable pub withDepth : Thread → ℕ → Thread
@@ -147,7 +147,7 @@ withDepth t x =
       node = t .node;
       after = t .after;
       result = t .result;
-      copies = t .copies
+      copies = t .copies;
     }
 
 unfoldable pub withSearch : Thread → Search → Thread
@@ -162,7 +162,7 @@ withSearch t x =
       node = t .node;
       after = t .after;
       result = t .result;
-      copies = t .copies
+      copies = t .copies;
     }
 
 unfoldable pub withNode : Thread → ℕ → Thread
@@ -177,7 +177,7 @@ withNode t x =
       node = x;
       after = t .after;
       result = t .result;
-      copies = t .copies
+      copies = t .copies;
     }
 
 unfoldable pub withAfter : Thread → ℕ → Thread
@@ -192,7 +192,7 @@ withAfter t x =
       node = t .node;
       after = x;
       result = t .result;
-      copies = t .copies
+      copies = t .copies;
     }
 
 unfoldable pub withResult : Thread → Item → Thread
@@ -207,7 +207,7 @@ withResult t x =
       node = t .node;
       after = t .after;
       result = x;
-      copies = t .copies
+      copies = t .copies;
     }
 
 unfoldable pub withCopies : Thread → NodeCopy → NodeCopy → NodeCopy → Thread
@@ -222,7 +222,7 @@ withCopies t x y z =
       node = t .node;
       after = t .after;
       result = t .result;
-      copies = record { first = x; second = y; third = z }
+      copies = record { first = x; second = y; third = z };
     }
 
 -- the first, the second or the third node copy put anew

@@ -1,8 +1,32 @@
 // What a turn answers, and the numbers that stand for it.
 ghost use mathlib.Core.Path.{_≡_};
 ghost use Rattle.region.specs.Answer.{answerCode, answerKey, answerTag};
-
 use crate::record::Item;
+
+// The number of a call that is done, and of each refusal.
+pub const DONE: u32 = 0;
+
+pub const BAD_SHAPE: u32 = 1;
+
+pub const BAD_LENGTH: u32 = 2;
+
+pub const BAD_THREAD: u32 = 3;
+
+pub const BAD_ITEM: u32 = 4;
+
+pub const SHORT_ANSWERS: u32 = 5;
+
+pub const BAD_SCHEDULE: u32 = 6;
+
+pub const UNREADABLE: u32 = 7;
+
+pub const NOT_PERMITTED: u32 = 8;
+
+pub const THREAD_BUSY: u32 = 9;
+
+pub const NO_FREE_CELL: u32 = 10;
+
+pub const COUNTER_SPENT: u32 = 11;
 
 // "An answer is one of moved 0, idle 1, inserted 2, took 3 with key and tag, empty 4, refused 5 with its number as key."
 pub enum Answer {

@@ -6,7 +6,6 @@ ghost use Rattle.words.specs.Word.{word, setWord};
 ghost use Rattle.region.specs.Shape.{InRange};
 ghost use Rattle.region.specs.Frame.{Within, frameOf};
 ghost use Rattle.region.specs.Shared.{nodeIn, setNodeIn, cellIn, setCellIn, threadIn, setThreadIn};
-
 use crate::record::Cell;
 use crate::record::Node;
 use crate::record::load_cell_at;

@@ -9,6 +9,18 @@ mod shape;
 mod thread;
 
 pub use answer::Answer;
+pub use answer::BAD_ITEM;
+pub use answer::BAD_LENGTH;
+pub use answer::BAD_SCHEDULE;
+pub use answer::BAD_SHAPE;
+pub use answer::BAD_THREAD;
+pub use answer::COUNTER_SPENT;
+pub use answer::DONE;
+pub use answer::NO_FREE_CELL;
+pub use answer::NOT_PERMITTED;
+pub use answer::SHORT_ANSWERS;
+pub use answer::THREAD_BUSY;
+pub use answer::UNREADABLE;
 pub use frame::Frame;
 pub use level::level_of;
 pub use place::Place;

@@ -103,7 +103,10 @@ pub fn load_cell_at(b: &[u8], at: usize) -> Cell
     let mut a = [0u32; 3];
     words::load_words(b, at, &mut a);
     Cell {
-        item: Item { key: a[0], tag: a[1] },
+        item: Item {
+            key: a[0],
+            tag: a[1],
+        },
         next: a[2],
     }
 }

@@ -3,9 +3,8 @@ ghost use mathlib.Core.Path.{_≡_};
 ghost use Prim.Native.Nat.{_+_, _*_, _≤_};
 ghost use lib.ListN.{length};
 ghost use Rattle.region.specs.Thread.{idleThread, threadAt, setThreadAt, goneIdle, atPlace, withItem, withOwn, withDepth, withSearch, withNode, withAfter, withResult, withFirst, withSecond, withThird};
-
-use crate::place::place_of;
 use crate::place::Place;
+use crate::place::place_of;
 use crate::record::Item;
 use crate::record::NodeCopy;
 
@@ -52,7 +51,10 @@ pub fn load_thread_at(b: &[u8], at: usize) -> Thread
     Thread {
         permission: a[0],
         place: place_of(a[1], a[11]),
-        item: Item { key: a[2], tag: a[3] },
+        item: Item {
+            key: a[2],
+            tag: a[3],
+        },
         own: a[4],
         depth: a[5],
         search: Search {
@@ -207,7 +209,10 @@ impl Thread {
     {
         let copies = self.copies;
         Thread {
-            copies: Copies { first: copy, ..copies },
+            copies: Copies {
+                first: copy,
+                ..copies
+            },
             ..self
         }
     }
@@ -217,7 +222,10 @@ impl Thread {
     {
         let copies = self.copies;
         Thread {
-            copies: Copies { second: copy, ..copies },
+            copies: Copies {
+                second: copy,
+                ..copies
+            },
             ..self
         }
     }
@@ -227,7 +235,10 @@ impl Thread {
     {
         let copies = self.copies;
         Thread {
-            copies: Copies { third: copy, ..copies },
+            copies: Copies {
+                third: copy,
+                ..copies
+            },
             ..self
         }
     }

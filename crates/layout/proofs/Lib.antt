@@ -1,0 +1,2 @@
+-- What the functions of `layout` need, over plain variables.
+mod Turns

@@ -1,0 +1,213 @@
+-- One turn of each loop and each way out of the functions, over plain variables. Assumes nothing.
+use Prim.Native.Nat.{ℕ, zero, suc, _+_, _-_, _*_, _/_, _%_, _≤_, _<_}
+use native.Mathlib.Numerals.{add-one}
+use native.Mathlib.Omega.{arith}
+use mathlib.Core.Path.{_≡_, refl, sym, ap, _∙_}
+use mathlib.Core.Bool.{Bool, true, false, not, _&&_}
+use mathlib.Core.List.{List, [], _∷_}
+use borrow.Author.Tests.{lt-leb, le-leb, eq-eqb, ne-eqb, lt-ltb, le-ltb, eqb-true, not-true, not-false}
+use lib.Dec.{eqb}
+use lib.ListN.{length, getD, drop, drop-of-length-le}
+use lib.Seq.{drop-cons}
+use Rattle.words.specs.Word.{setWord, setWords}
+use Rattle.words.proofs.Laws.{length-setWord}
+use Rattle.region.specs.Answer.{done, badShape, badLength}
+use Rattle.region.specs.Frame.{frameOf}
+use Rattle.region.specs.Pick.{pick}
+use Rattle.region.specs.Shape.{InRange, shapeFits, regionWords}
+use Rattle.region.specs.declared.frame.Frame.{Frame}
+use Rattle.region.specs.declared.shape.Shape.{Shape}
+use Rattle.region.proofs.Shapes.{in-range, words-most}
+use Rattle.layout.specs.Layout.{Accepted, LaidOut, Laying, atMost, permissionsFit, layoutRefusal, cellWord, threadWord, laidWord, laidWords, layoutBytes}
+
+-- The permissions: those not yet looked at decide.
+pub record Looked (ps : List ℕ) (i : ℕ) : Type 0 where
+  pub within : i ≤ length ps
+  pub left : atMost 3 (drop i ps) ≡ atMost 3 ps
+
+pub look-start : (ps : List ℕ) → Looked ps 0
+look-start ps = record { within = omega arith; left = refl }
+
+pub look-more : {ps : List ℕ} {i : ℕ} → Looked ps i → i < length ps → getD ps i 0 ≤ 3 → Looked ps (i + 1)
+unfolding atMost
+look-more {ps} {i} e h l =
+    record {
+      within = omega arith;
+      left = rw add-one (rw (drop-cons ps i 0 h, le-leb (getD ps i 0) 3 l) at (e .left));
+    }
+
+pub look-bad : {ps : List ℕ} {i : ℕ} → Looked ps i → i < length ps → 3 < getD ps i 0 → false ≡ atMost 3 ps
+unfolding atMost
+look-bad {ps} {i} e h l = rw (drop-cons ps i 0 h, lt-leb (getD ps i 0) 3 l) at (e .left)
+
+pub look-end : {ps : List ℕ} {i : ℕ} → Looked ps i → length ps ≤ i → true ≡ atMost 3 ps
+unfolding atMost
+look-end {ps} {i} e h = rw (drop-of-length-le ps h) at (e .left)
+
+pub other-count : (s : Shape) (ps : List ℕ) → (length ps ≡ s .threads → ⊥) → false ≡ permissionsFit s ps
+unfolding permissionsFit
+other-count s ps n = rw (ne-eqb (length ps) (s .threads) n) refl
+
+pub same-count : (s : Shape) (ps : List ℕ) (r : Bool) → length ps ≡ s .threads → r ≡ atMost 3 ps → r ≡ permissionsFit s ps
+unfolding permissionsFit
+same-count s ps r e er = rw (eq-eqb (length ps) (s .threads) e) er
+
+-- The refusal: the first test that fails decides.
+module _ (s : Shape) (ps : List ℕ) (l : ℕ) (q : Bool) (eq : q ≡ shapeFits s) where
+  pub bad-shape : not q ≡ true → badShape ≡ layoutRefusal s ps l
+  unfolding layoutRefusal pick
+  bad-shape n = rw (← eq, not-true q n) refl
+
+  module _ (gq : not q ≡ false) (p : Bool) (ep : p ≡ permissionsFit s ps) where
+    pub bad-permissions : not p ≡ true → badShape ≡ layoutRefusal s ps l
+    unfolding layoutRefusal pick
+    bad-permissions n = rw (← eq, not-false q gq, ← ep, not-true p n) refl
+
+    module _ (gp : not p ≡ false) (w : ℕ) (ew : w ≡ regionWords s) where
+      pub bad-length : (l ≡ 4 * w → ⊥) → badLength ≡ layoutRefusal s ps l
+      unfolding layoutRefusal pick
+      bad-length n =
+          rw (← eq, not-false q gq, ← ep, not-false p gp, ← ew, ne-eqb l (4 * w) n) refl
+
+      pub no-refusal : l ≡ 4 * w → done ≡ layoutRefusal s ps l
+      unfolding layoutRefusal pick
+      no-refusal e = rw (← eq, not-false q gq, ← ep, not-false p gp, ← ew, eq-eqb l (4 * w) e) refl
+
+pub shape-in-range : (s : Shape) (q : Bool) → q ≡ shapeFits s → not q ≡ false → InRange s
+shape-in-range s q e g = in-range s (sym e ∙ not-false q g)
+
+pub few-bytes : (s : Shape) (q : Bool) (w : ℕ) → q ≡ shapeFits s → not q ≡ false → w ≡ regionWords s → w ≤ 20547
+few-bytes s q w e g ew = omega (arith, words-most s (shape-in-range s q e g))
+
+-- The words.
+module _ (cells j : ℕ) where
+  pub no-next : (j % 3 ≡ 2 → ⊥) → 0 ≡ cellWord cells j
+  unfolding cellWord pick
+  no-next n = rw (ne-eqb (j % 3) 2 n) refl
+
+  pub next-cell : j % 3 ≡ 2 → j / 3 + 1 < cells → j / 3 + 1 + 1 ≡ cellWord cells j
+  unfolding cellWord pick
+  next-cell e h = rw (eq-eqb (j % 3) 2 e, lt-ltb (j / 3 + 1) cells h) (omega arith)
+
+  pub last-cell : j % 3 ≡ 2 → cells ≤ j / 3 + 1 → 0 ≡ cellWord cells j
+  unfolding cellWord pick
+  last-cell e h = rw (eq-eqb (j % 3) 2 e, le-ltb (j / 3 + 1) cells h) refl
+
+module _ (ps : List ℕ) (j : ℕ) where
+  pub no-permission : (j % 33 ≡ 0 → ⊥) → 0 ≡ threadWord ps j
+  unfolding threadWord pick
+  no-permission n = rw (ne-eqb (j % 33) 0 n) refl
+
+  pub permission : j % 33 ≡ 0 → getD ps (j / 33) 0 ≡ threadWord ps j
+  unfolding threadWord pick
+  permission e = rw (eq-eqb (j % 33) 0 e) refl
+
+module _ (s : Shape) (ps : List ℕ) (k c t : ℕ) (g : Laying s ps k c t) where
+  pub laid-header : k < 6 → getD (s .depth ∷ s .cells ∷ s .threads ∷ s .threshold ∷ 1 ∷ 1 ∷ []) k 0 ≡ laidWord s ps k
+  unfolding laidWord pick
+  laid-header h = rw (lt-ltb k 6 h) refl
+
+  module _ (h₁ : 6 ≤ k) where
+    pub laid-node : k < c → 0 ≡ laidWord s ps k
+    unfolding laidWord pick
+    laid-node h = rw (le-ltb k 6 h₁, ← g .cells-at, lt-ltb k c h) refl
+
+    module _ (h₂ : c ≤ k) (r : ℕ) where
+      pub laid-cell : k < t → r ≡ cellWord (s .cells) (k - c) → r ≡ laidWord s ps k
+      unfolding laidWord pick
+      laid-cell h e = rw (le-ltb k 6 h₁, ← g .threads-at, ← g .cells-at, le-ltb k c h₂, lt-ltb k t h) e
+
+      pub laid-thread : t ≤ k → r ≡ threadWord ps (k - t) → r ≡ laidWord s ps k
+      unfolding laidWord pick
+      laid-thread h e = rw (le-ltb k 6 h₁, ← g .threads-at, ← g .cells-at, le-ltb k c h₂, le-ltb k t h) e
+
+  pub in-threads : t ≤ k → k - t < 33 * length ps
+  unfolding regionWords frameOf
+  in-threads h = omega (arith, g .within, g .threads-at, g .permissions)
+
+-- Filling: the words not yet stored, from here, give the whole.
+pub record Filled (s : Shape) (ps : List ℕ) (c t n : ℕ) (b₀ b : List ℕ) (k : ℕ) : Type 0 where
+  pub call : Accepted s ps (length b₀)
+  pub cells-at : c ≡ frameOf s .cells
+  pub threads-at : t ≡ frameOf s .threads
+  pub total : n ≡ regionWords s
+  pub within : k ≤ n
+  pub same : length b ≡ length b₀
+  pub left : setWords b k (laidWords s ps k (n - k)) ≡ setWords b₀ 0 (laidWords s ps 0 (regionWords s))
+
+pub fill-start : (s : Shape) (ps : List ℕ) (f : Frame) (n : ℕ) (b : List ℕ) → Accepted s ps (length b) → f ≡ frameOf s
+    → n ≡ regionWords s → Filled s ps (f .cells) (f .threads) n b b 0
+fill-start s ps f n b a ef en =
+    record {
+      call = a;
+      cells-at = ap (λ g. g .cells) ef;
+      threads-at = ap (λ g. g .threads) ef;
+      total = en;
+      within = omega arith;
+      same = refl;
+      left = ap (λ m. setWords b 0 (laidWords s ps 0 m)) (omega arith);
+    }
+
+module _ {s : Shape} {ps : List ℕ} {c t n : ℕ} {b₀ b : List ℕ} {k : ℕ} (e : Filled s ps c t n b₀ b k) where
+  pub fill-asks : k < n → Laying s ps k c t
+  fill-asks h =
+      record {
+        shape = e .call .shape;
+        permissions = e .call .permissions;
+        within = omega arith;
+        cells-at = e .cells-at;
+        threads-at = e .threads-at;
+      }
+
+  pub fill-more : {b′ : List ℕ} (w : ℕ) → k < n → w ≡ laidWord s ps k → b′ ≡ setWord b k w → Filled s ps c t n b₀ b′ (k + 1)
+  unfolding laidWords
+  fill-more {b′} w h ew eb =
+      let m : n - k ≡ suc (n - (k + 1)) = omega arith in
+      record {
+        call = e .call;
+        cells-at = e .cells-at;
+        threads-at = e .threads-at;
+        total = e .total;
+        within = omega arith;
+        same = ap length eb ∙ length-setWord b k w ∙ e .same;
+        left =
+            ap (λ l. setWords l (k + 1) (laidWords s ps (k + 1) (n - (k + 1)))) (eb ∙ ap (setWord b k) ew)
+            ∙ ap (λ j. setWords (setWord b k (laidWord s ps k)) j (laidWords s ps j (n - (k + 1)))) (add-one k)
+            ∙ ap (λ j. setWords b k (laidWords s ps k j)) (sym m)
+            ∙ e .left;
+      }
+
+  pub fill-end : n ≤ k → b ≡ setWords b₀ 0 (laidWords s ps 0 (regionWords s))
+  unfolding laidWords
+  fill-end h =
+      let m : 0 ≡ n - k = omega arith in
+      ap (λ j. setWords b k (laidWords s ps k j)) m ∙ e .left
+
+-- The whole call.
+pub accepted : (s : Shape) (ps : List ℕ) (l r : ℕ) → r ≡ layoutRefusal s ps l → r ≡ done → Accepted s ps l
+unfolding layoutRefusal permissionsFit pick
+accepted s ps l r e d =
+    go (shapeFits s) (eqb (length ps) (s .threads)) (atMost 3 ps) (eqb l (4 * regionWords s)) refl refl refl (sym e ∙ d)
+  where
+    go : (q p a m : Bool) → shapeFits s ≡ q → eqb (length ps) (s .threads) ≡ p → eqb l (4 * regionWords s) ≡ m
+        → pick (q && (p && a)) (pick m done badLength) badShape ≡ done → Accepted s ps l
+    go true true true true eq ep em z =
+        record {
+          shape = in-range s eq;
+          permissions = eqb-true (length ps) (s .threads) ep;
+          exact = eqb-true l (4 * regionWords s) em;
+        }
+    go true true true false eq ep em z = omega arith
+    go true true false m eq ep em z = omega arith
+    go true false a m eq ep em z = omega arith
+    go false p a m eq ep em z = omega arith
+
+pub refused : (s : Shape) (ps b : List ℕ) (r : ℕ) → r ≡ layoutRefusal s ps (length b) → (r ≡ done → ⊥) → LaidOut s ps b b r
+unfolding layoutBytes pick
+refused s ps b r e n =
+    record { answer = e; bytes = rw (← e, ne-eqb r done n) refl }
+
+pub laid-out : (s : Shape) (ps b b′ : List ℕ) (r : ℕ) → r ≡ layoutRefusal s ps (length b) → r ≡ done
+    → b′ ≡ setWords b 0 (laidWords s ps 0 (regionWords s)) → LaidOut s ps b b′ r
+unfolding layoutBytes pick
+laid-out s ps b b′ r e d eb = record { answer = e; bytes = rw (← e, eq-eqb r done d) eb }

@@ -1,0 +1,2 @@
+-- The definition of the call that lays a region out.
+pub mod Layout
