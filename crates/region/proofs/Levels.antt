@@ -31,3 +31,7 @@ level-holds n p h =
       least = subst (λ j. 2 ^ j ≤ n) e (t .2);
       most = subst (λ j. n < 2 ^ j) e′ (t .3);
     }
+
+pub level-most : (n : ℕ) → level n ≤ 32
+unfolding level
+level-most n = omega (arith, digits-leading 32 n)

@@ -1,0 +1,2 @@
+-- What the crates above cite of readability beside its contracts, and the turns of its own loops.
+mod Turns

@@ -1,0 +1,294 @@
+-- One turn of each loop and each way out of the functions, over plain variables. Assumes nothing.
+use Prim.Native.Nat.{ℕ, zero, suc, _+_, _-_, _*_, _%_, _^_, _≤_, _<_}
+use native.Mathlib.Nat.{add-suc, add-zero}
+use native.Mathlib.Numerals.{add-one}
+use native.Mathlib.Omega.{arith}
+use mathlib.Core.Path.{_≡_, refl, sym, ap, subst, _∙_}
+use mathlib.Core.Bool.{Bool, true, false, not, _&&_, and-true}
+use mathlib.Core.List.{List, [], _∷_}
+use borrow.Author.Tests.{lt-leb, le-leb, eq-eqb, ne-eqb, eqb-true, not-true, not-false}
+use lib.Dec.{leb, eqb}
+use lib.ListN.{length, getD, drop, drop-of-length-le}
+use lib.Pow.{pow-pos}
+use lib.Seq.{drop-cons}
+use Rattle.words.specs.Word.{word, Bytes}
+use Rattle.words.proofs.Laws.{word-fits}
+use Rattle.region.specs.Frame.{Within, frameOf}
+use Rattle.region.specs.Level.{level}
+use Rattle.region.specs.Pick.{pick}
+use Rattle.region.specs.Shape.{InRange, between, shapeFits, nodeCount, regionWords}
+use Rattle.region.specs.Thread.{threadSize}
+use Rattle.region.specs.declared.frame.Frame.{Frame}
+use Rattle.region.specs.declared.shape.Shape.{Shape}
+use Rattle.region.proofs.Frames.{frame-within}
+use Rattle.region.proofs.Levels.{level-most}
+use Rattle.region.proofs.Shapes.{in-range, shifted, words-most}
+use Rattle.readable.specs.Readable.{FieldsAsked, ThreadAsked, ThreadsAsked, anyWord, nodeMaxima, cellMaxima, threadMaxima, triesMost, waitingMost, bounded, threadReadable, allRecords, treeReadable, fieldsReadable, shapeIn, readable, checkAnswer}
+
+free : (b : List ℕ) (k : ℕ) → Bytes b → leb (word b k) anyWord ≡ true
+free b k h = le-leb (word b k) anyWord (omega (arith, word-fits b k h))
+
+-- A node and a cell.
+module _ (b : List ℕ) (at cells : ℕ) where
+  pub node-bad : (w : ℕ) → w ≡ word b at → cells < w → false ≡ bounded b at (nodeMaxima cells)
+  unfolding bounded
+  node-bad w e h = rw (← e, lt-leb w cells h) refl
+
+  pub node-rest : (w d : ℕ) → w ≡ word b at → w ≤ cells → d ≡ word b (at + 1) → Bytes b
+      → leb d 1 ≡ bounded b at (nodeMaxima cells)
+  unfolding bounded
+  node-rest w d e h ed y =
+      rw (← e, le-leb w cells h, free b (suc (suc at)) y, and-true, ← add-one at, ← ed) refl
+
+  pub cell-bad : (w : ℕ) → w ≡ word b (at + 1) → 65535 < w → Bytes b → false ≡ bounded b at (cellMaxima cells)
+  unfolding bounded
+  cell-bad w e h y = rw (free b at y, ← add-one at, ← e, lt-leb w 65535 h) refl
+
+  pub cell-rest : (w n : ℕ) → w ≡ word b (at + 1) → w ≤ 65535 → n ≡ word b (at + 2) → Bytes b
+      → leb n cells ≡ bounded b at (cellMaxima cells)
+  unfolding bounded
+  cell-rest w n e h en y =
+      let two : suc (suc at) ≡ at + 2 = omega arith in
+      rw (free b at y, two, ← add-one at, ← e, le-leb w 65535 h, ← en, and-true) refl
+
+-- A run of words: those not yet looked at decide.
+pub record Passed (b : List ℕ) (at : ℕ) (ms : List ℕ) (i : ℕ) : Type 0 where
+  pub within : i ≤ length ms
+  pub left : bounded b (at + i) (drop i ms) ≡ bounded b at ms
+
+pub pass-start : (b : List ℕ) (at : ℕ) (ms : List ℕ) → Passed b at ms 0
+pass-start b at ms = record { within = omega arith; left = ap (λ k. bounded b k ms) (add-zero at) }
+
+module _ {b : List ℕ} {at : ℕ} {ms : List ℕ} {i : ℕ} (e : Passed b at ms i) where
+  pub pass-more : (w : ℕ) → i < length ms → w ≡ word b (at + i) → w ≤ getD ms i 0 → Passed b at ms (i + 1)
+  unfolding bounded
+  pass-more w h ew l =
+      record {
+        within = omega arith;
+        left =
+            ap (λ k. bounded b (at + k) (drop k ms)) (add-one i)
+            ∙ ap (λ k. bounded b k (drop (suc i) ms)) (add-suc at i)
+            ∙ (rw (drop-cons ms i 0 h, ← ew, le-leb w (getD ms i 0) l) at (e .left));
+      }
+
+  pub pass-bad : (w : ℕ) → i < length ms → w ≡ word b (at + i) → getD ms i 0 < w → false ≡ bounded b at ms
+  unfolding bounded
+  pass-bad w h ew l = rw (drop-cons ms i 0 h, ← ew, lt-leb w (getD ms i 0) l) at (e .left)
+
+  pub pass-end : length ms ≤ i → true ≡ bounded b at ms
+  unfolding bounded
+  pass-end h = rw (drop-of-length-le ms h) at (e .left)
+
+-- Records: those not yet looked at decide.
+pub record Scanned (test : List ℕ → ℕ → Bool) (stride : ℕ) (b : List ℕ) (at n i : ℕ) : Type 0 where
+  pub within : i ≤ n
+  pub left : allRecords test stride b (at + stride * i) (n - i) ≡ allRecords test stride b at n
+
+pub scan-start : (test : List ℕ → ℕ → Bool) (stride : ℕ) (b : List ℕ) (at n : ℕ) → Scanned test stride b at n 0
+scan-start test stride b at n =
+    let k : at + stride * 0 ≡ at = omega arith in
+    record { within = omega arith; left = ap (λ j. allRecords test stride b j (n - 0)) k ∙ ap (allRecords test stride b at) (omega arith) }
+
+module _ {test : List ℕ → ℕ → Bool} {stride : ℕ} {b : List ℕ} {at n i : ℕ} (e : Scanned test stride b at n i) where
+  scan-step : i < n → test b (at + stride * i) && allRecords test stride b (at + stride * i + stride) (n - (i + 1)) ≡ allRecords test stride b at n
+  unfolding allRecords
+  scan-step h =
+      let m : n - i ≡ suc (n - (i + 1)) = omega arith in
+      ap (allRecords test stride b (at + stride * i)) (sym m) ∙ e .left
+
+  pub scan-more : (q : Bool) → i < n → q ≡ test b (at + stride * i) → not q ≡ false → Scanned test stride b at n (i + 1)
+  scan-more q h eq g =
+      let k : at + stride * (i + 1) ≡ at + stride * i + stride = omega arith in
+      record {
+        within = omega arith;
+        left =
+            ap (λ j. allRecords test stride b j (n - (i + 1))) k
+            ∙ (rw (← eq, not-false q g) at (scan-step h));
+      }
+
+  pub scan-bad : (q : Bool) → i < n → q ≡ test b (at + stride * i) → not q ≡ true → false ≡ allRecords test stride b at n
+  scan-bad q h eq g = rw (← eq, not-true q g) at (scan-step h)
+
+  pub scan-end : n ≤ i → true ≡ allRecords test stride b at n
+  unfolding allRecords
+  scan-end h =
+      let m : 0 ≡ n - i = omega arith in
+      ap (allRecords test stride b (at + stride * i)) m ∙ e .left
+
+-- The rules that go by the place.
+module _ (s : Shape) (place : ℕ) where
+  pub tries-leaf : place ≡ 2 → s .threshold - 1 ≡ triesMost s place
+  unfolding triesMost pick
+  tries-leaf e = rw (eq-eqb place 2 e) refl
+
+  pub tries-else : (place ≡ 2 → ⊥) → s .threshold ≡ triesMost s place
+  unfolding triesMost pick
+  tries-else n = rw (ne-eqb place 2 n) refl
+
+module _ (place node : ℕ) where
+  pub not-mending : place < 11 → 0 ≡ waitingMost place node
+  unfolding waitingMost pick
+  not-mending h = rw (lt-leb 11 place h) refl
+
+  module _ (h : 11 ≤ place) (l : ℕ) (e : l ≡ level node) where
+    few-levels : l ≤ 32
+    few-levels = omega (arith, level-most node)
+
+    pub mending-none : l ≡ 0 → 0 ≡ waitingMost place node
+    unfolding waitingMost pick
+    mending-none z = rw (le-leb 11 place h, ← e, z) refl
+
+    module _ (n : l ≡ 0 → ⊥) where
+      pub mark-shift : l - 1 < 32
+      mark-shift = omega (arith, few-levels)
+
+      pub mark-some : 1 ≤ (1 * 2 ^ (l - 1)) % 2 ^ 32
+      mark-some = rw (shifted 32 (l - 1) mark-shift) (pow-pos (l - 1))
+
+      pub mending-marks : (1 * 2 ^ (l - 1)) % 2 ^ 32 - 1 ≡ waitingMost place node
+      unfolding waitingMost pick
+      mending-marks = rw (shifted 32 (l - 1) mark-shift, le-leb 11 place h, ← e) refl
+
+-- A thread's record: the first test that fails decides.
+module _ (s : Shape) (b : List ℕ) (at : ℕ) (q : Bool) (ms : List ℕ) (g : ThreadAsked s b at ms) (eq : q ≡ bounded b at ms) where
+  words-test : q ≡ bounded b at (threadMaxima s)
+  words-test = eq ∙ ap (bounded b at) (g .maxima)
+
+  pub thread-bad : not q ≡ true → false ≡ threadReadable s b at
+  unfolding threadReadable
+  thread-bad n = rw (← words-test, not-true q n) refl
+
+  module _ (gq : not q ≡ false) (p : ℕ) (ep : p ≡ word b (at + 1)) (m : ℕ) (em : m ≡ triesMost s p) (t : ℕ) (et : t ≡ word b (at + 7)) where
+    pub tries-bad : m < t → false ≡ threadReadable s b at
+    unfolding threadReadable
+    tries-bad h = rw (← words-test, not-false q gq, ← ep, ← em, ← et, lt-leb t m h) refl
+
+    pub thread-rest : t ≤ m → (w : ℕ) → w ≡ word b (at + 11) → (n : ℕ) → n ≡ word b (at + 10) → (x : ℕ) → x ≡ waitingMost p n
+        → leb w x ≡ threadReadable s b at
+    unfolding threadReadable
+    thread-rest h w ew n en x ex =
+        rw (← words-test, not-false q gq, ← ep, ← em, ← et, le-leb t m h, ← ew, ← en, ← ex) refl
+
+pub maxima-long : (s : Shape) (b : List ℕ) (at : ℕ) (ms : List ℕ) → ThreadAsked s b at ms → 4 * (at + length ms) ≤ length b
+maxima-long s b at ms g = omega (arith, ap length (g .maxima), g .within)
+
+-- The tree: the first test that fails decides.
+module _ (f : Frame) (b : List ℕ) (d : ℕ) (ed : d ≡ word b (f .depth)) (q : Bool) (eq : q ≡ between 1 d (f .shape .depth)) where
+  depth-test : q ≡ between 1 (word b (f .depth)) (f .shape .depth)
+  depth-test = eq ∙ ap (λ n. between 1 n (f .shape .depth)) ed
+
+  pub depth-bad : not q ≡ true → false ≡ treeReadable f b
+  unfolding treeReadable
+  depth-bad n = rw (← depth-test, not-true q n) refl
+
+  module _ (gq : not q ≡ false) (c : ℕ) (ec : c ≡ word b (f .free)) where
+    pub free-bad : f .shape .cells < c → false ≡ treeReadable f b
+    unfolding treeReadable
+    free-bad h = rw (← depth-test, not-false q gq, ← ec, lt-leb c (f .shape .cells) h) refl
+
+    module _ (h : c ≤ f .shape .cells) (k : ℕ) (ek : k ≡ nodeCount (f .shape)) (n : Bool)
+        (en : n ≡ allRecords (λ l at. bounded l at (nodeMaxima (f .shape .cells))) 3 b (f .nodes) k) where
+      nodes-test : n ≡ allRecords (λ l at. bounded l at (nodeMaxima (f .shape .cells))) 3 b (f .nodes) (nodeCount (f .shape))
+      nodes-test = en ∙ ap (allRecords (λ l at. bounded l at (nodeMaxima (f .shape .cells))) 3 b (f .nodes)) ek
+
+      pub nodes-bad : not n ≡ true → false ≡ treeReadable f b
+      unfolding treeReadable
+      nodes-bad z =
+          rw (← depth-test, not-false q gq, ← ec, le-leb c (f .shape .cells) h, ← nodes-test, not-true n z) refl
+
+      pub tree-rest : not n ≡ false → (r : Bool)
+          → r ≡ allRecords (λ l at. bounded l at (cellMaxima (f .shape .cells))) 3 b (f .cells) (f .shape .cells)
+          → r ≡ treeReadable f b
+      unfolding treeReadable
+      tree-rest z r er =
+          rw (← depth-test, not-false q gq, ← ec, le-leb c (f .shape .cells) h, ← nodes-test, not-false n z) er
+
+pub threads-ask : (s : Shape) (b : List ℕ) (at i : ℕ) (ms : List ℕ) → ThreadsAsked s b at ms → i < s .threads
+    → ThreadAsked s b (at + 33 * i) ms
+threads-ask s b at i ms g h = record { shape = g .shape; within = omega arith; maxima = g .maxima }
+
+-- Every field behind the shape.
+threads-end : (s : Shape) (l : ℕ) → Within (frameOf s) l → 4 * (frameOf s .threads + threadSize * s .threads) ≤ l
+unfolding frameOf
+threads-end s l w = w .threads
+
+module _ (s : Shape) (b : List ℕ) (g : FieldsAsked s (length b)) (f : Frame) (ef : f ≡ frameOf s) where
+  pub tree-asks : Within f (length b)
+  tree-asks = subst (λ x. Within x (length b)) (sym ef) (frame-within s (length b) (g .shape) (g .exact))
+
+  pub threads-within : (ms : List ℕ) → ms ≡ threadMaxima s → ThreadsAsked s b (f .threads) ms
+  threads-within ms em =
+      let w : Within (frameOf s) (length b) = frame-within s (length b) (g .shape) (g .exact) in
+      record {
+        shape = g .shape;
+        within = subst (λ x. 4 * (x .threads + threadSize * s .threads) ≤ length b) (sym ef) (threads-end s (length b) w);
+        maxima = em;
+      }
+
+  module _ (t : Bool) (et : t ≡ treeReadable f b) where
+    tree-test : t ≡ treeReadable (frameOf s) b
+    tree-test = et ∙ ap (λ x. treeReadable x b) ef
+
+    pub tree-bad : not t ≡ true → false ≡ fieldsReadable s b
+    unfolding fieldsReadable
+    tree-bad n = rw (← tree-test, not-true t n) refl
+
+    pub fields-rest : not t ≡ false → (r : Bool) → r ≡ allRecords (threadReadable s) 33 b (f .threads) (s .threads)
+        → r ≡ fieldsReadable s b
+    unfolding fieldsReadable
+    fields-rest n r er =
+        rw
+        (← tree-test, not-false t n)
+        (er ∙ ap (λ x. allRecords (threadReadable s) 33 b (x .threads) (s .threads)) ef)
+
+-- The whole region: the first test that fails decides.
+pub too-short : (b : List ℕ) → length b < 16 → false ≡ readable b
+unfolding readable regionWords
+too-short b h = go (shapeFits (shapeIn b)) (eqb (length b) (4 * regionWords (shapeIn b))) refl
+  where
+    go : (q m : Bool) → eqb (length b) (4 * regionWords (shapeIn b)) ≡ m → false ≡ q && m && fieldsReadable (shapeIn b) b
+    go true true e = absurd (let l = eqb-true (length b) (4 * regionWords (shapeIn b)) e in omega arith)
+    go true false e = refl
+    go false m e = refl
+
+module _ (b : List ℕ) (s : Shape) (es : s ≡ shapeIn b) (q : Bool) (eq : q ≡ shapeFits s) where
+  shape-test : q ≡ shapeFits (shapeIn b)
+  shape-test = eq ∙ ap shapeFits es
+
+  pub shape-bad : not q ≡ true → false ≡ readable b
+  unfolding readable
+  shape-bad n = rw (← shape-test, not-true q n) refl
+
+  module _ (gq : not q ≡ false) where
+    pub shape-in-range : InRange s
+    shape-in-range = in-range s (sym eq ∙ not-false q gq)
+
+    module _ (w : ℕ) (ew : w ≡ regionWords s) where
+      pub few-words : w ≤ 20547
+      few-words = omega (arith, words-most s shape-in-range)
+
+      count-test : w ≡ regionWords (shapeIn b)
+      count-test = ew ∙ ap regionWords es
+
+      pub length-bad : (length b ≡ 4 * w → ⊥) → false ≡ readable b
+      unfolding readable
+      length-bad n = rw (← shape-test, not-false q gq, ← count-test, ne-eqb (length b) (4 * w) n) refl
+
+      module _ (el : length b ≡ 4 * w) where
+        pub fields-asked : FieldsAsked s (length b)
+        fields-asked = record { shape = shape-in-range; exact = el ∙ ap (λ k. 4 * k) ew }
+
+        pub readable-rest : (r : Bool) → r ≡ fieldsReadable s b → r ≡ readable b
+        unfolding readable
+        readable-rest r er =
+            rw
+            (← shape-test, not-false q gq, ← count-test, eq-eqb (length b) (4 * w) el)
+            (er ∙ ap (λ x. fieldsReadable x b) es)
+
+pub check-yes : (b : List ℕ) (q : Bool) → q ≡ readable b → q ≡ true → 0 ≡ checkAnswer b
+unfolding checkAnswer pick
+check-yes b q e t = rw (← e, t) refl
+
+pub check-no : (b : List ℕ) (q : Bool) → q ≡ readable b → q ≡ false → 7 ≡ checkAnswer b
+unfolding checkAnswer pick
+check-no b q e t = rw (← e, t) refl

@@ -1,0 +1,54 @@
+-- `readable::tree_readable` meets its contract: the first test that fails decides. Assumes nothing.
+use borrow.Author.Needs.{needs}
+use Rattle.readable.proofs.tree_readable.Statement.{statement}
+use Rattle.readable.proofs.tree_readable.Tie as tie
+use Rattle.readable.proofs.Turns.{depth-bad, free-bad, nodes-bad, tree-rest}
+
+load-depth-requires : tie.Need-load-depth-requires
+load-depth-requires c κs = search needs
+
+is-between-requires : tie.Need-is-between-requires
+is-between-requires c κs = search needs
+
+returns : tie.Need-returns
+returns c = search depth-bad
+
+load-free-requires : tie.Need-load-free-requires
+load-free-requires c κs = search needs
+
+returns-2 : tie.Need-returns-2
+returns-2 c = search free-bad
+
+node-count-requires : tie.Need-node-count-requires
+node-count-requires c κs = search needs
+
+nodes-readable-requires : tie.Need-nodes-readable-requires
+nodes-readable-requires c κs = search needs
+
+returns-3 : tie.Need-returns-3
+returns-3 c = search nodes-bad
+
+cast-cells-readable : tie.Need-cast-cells-readable
+cast-cells-readable c = search needs
+
+cells-readable-requires : tie.Need-cells-readable-requires
+cells-readable-requires c κs = search needs
+
+returns-4 : tie.Need-returns-4
+returns-4 c = search tree-rest
+
+pub tree-readable-spec : {M : Type 1} → statement M
+tree-readable-spec =
+    tie.close
+    (tie.spec
+    load-depth-requires
+    is-between-requires
+    returns
+    load-free-requires
+    returns-2
+    node-count-requires
+    nodes-readable-requires
+    returns-3
+    cast-cells-readable
+    cells-readable-requires
+    returns-4)

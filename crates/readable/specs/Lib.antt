@@ -1,0 +1,2 @@
+-- What a readable region is.
+pub mod Readable

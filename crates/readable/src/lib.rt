@@ -1,0 +1,247 @@
+// Tells whether a region is readable, ending at the first field out of range.
+ghost use mathlib.Core.Path.{_≡_};
+ghost use Prim.Native.Nat.{_+_, _*_, _≤_};
+ghost use lib.ListN.{length};
+ghost use Rattle.region.specs.Frame.{Within};
+ghost use Rattle.region.specs.Shape.{InRange};
+ghost use Rattle.readable.specs.Readable.{FieldsAsked, ThreadAsked, ThreadsAsked, bounded, nodeMaxima, cellMaxima, threadMaxima, triesMost, waitingMost, threadReadable, allRecords, treeReadable, shapeIn, fieldsReadable, readable, checkAnswer};
+use region::DONE;
+use region::Frame;
+use region::Shape;
+use region::UNREADABLE;
+use words::load_word;
+
+// The node at word `at`: its first cell and its dirty mark; the counter is free.
+fn node_readable(b: &[u8], at: usize, cells: u32) -> bool
+    requires { ⌜ 4 * (at + 3) ≤ length (now b) ⌝ }
+    ensures { λ r. ⌜ r ≡ bounded (now (b .entry)) at (nodeMaxima cells) ⌝ }
+{
+    if cells < load_word(b, at) {
+        return false;
+    }
+    load_word(b, at + 1) <= 1
+}
+
+// The cell at word `at`: its tag and its next cell; the key is free.
+fn cell_readable(b: &[u8], at: usize, cells: u32) -> bool
+    requires { ⌜ 4 * (at + 3) ≤ length (now b) ⌝ }
+    ensures { λ r. ⌜ r ≡ bounded (now (b .entry)) at (cellMaxima cells) ⌝ }
+{
+    if 65535 < load_word(b, at + 1) {
+        return false;
+    }
+    load_word(b, at + 2) <= cells
+}
+
+// The words from word `at` on, each at most its maximum.
+fn words_bounded(b: &[u8], at: usize, maxima: &[u32]) -> bool
+    requires { ⌜ 4 * (at + length (now maxima)) ≤ length (now b) ⌝ }
+    ensures { λ r. ⌜ r ≡ bounded (now (b .entry)) at (now (maxima .entry)) ⌝ }
+{
+    let mut i = 0;
+    while i < maxima.len() {
+        if maxima[i] < load_word(b, at + i) {
+            return false;
+        }
+        i += 1;
+    }
+    true
+}
+
+fn nodes_readable(b: &[u8], at: usize, count: usize, cells: u32) -> bool
+    requires { ⌜ 4 * (at + 3 * count) ≤ length (now b) ⌝ }
+    ensures { λ r. ⌜ r ≡ allRecords (λ l k. bounded l k (nodeMaxima cells)) 3 (now (b .entry)) at count ⌝ }
+{
+    let mut i = 0;
+    while i < count {
+        if !node_readable(b, at + 3 * i, cells) {
+            return false;
+        }
+        i += 1;
+    }
+    true
+}
+
+fn cells_readable(b: &[u8], at: usize, count: usize, cells: u32) -> bool
+    requires { ⌜ 4 * (at + 3 * count) ≤ length (now b) ⌝ }
+    ensures { λ r. ⌜ r ≡ allRecords (λ l k. bounded l k (cellMaxima cells)) 3 (now (b .entry)) at count ⌝ }
+{
+    let mut i = 0;
+    while i < count {
+        if !cell_readable(b, at + 3 * i, cells) {
+            return false;
+        }
+        i += 1;
+    }
+    true
+}
+
+// The most tries at this place.
+fn tries_most(shape: Shape, place: u32) -> u32
+    requires { ⌜ InRange shape ⌝ }
+    ensures { λ r. ⌜ r ≡ triesMost shape place ⌝ }
+{
+    if place == 2 {
+        shape.threshold - 1
+    } else {
+        shape.threshold
+    }
+}
+
+// The greatest waiting levels at this place and node.
+fn waiting_most(place: u32, node: u32) -> u32
+    ensures { λ r. ⌜ r ≡ waitingMost place node ⌝ }
+{
+    if place < 11 {
+        return 0;
+    }
+    let level = region::level_of(node);
+    if level == 0 {
+        return 0;
+    }
+    (1 << (level - 1)) - 1
+}
+
+// The thread's record at word `at`, where maxima are those of the shape.
+fn thread_readable(b: &[u8], at: usize, shape: Shape, maxima: &[u32]) -> bool
+    requires { ⌜ ThreadAsked shape (now b) at (now maxima) ⌝ }
+    ensures { λ r. ⌜ r ≡ threadReadable shape (now (b .entry)) at ⌝ }
+{
+    if !words_bounded(b, at, maxima) {
+        return false;
+    }
+    let place = load_word(b, at + 1);
+    if tries_most(shape, place) < load_word(b, at + 7) {
+        return false;
+    }
+    load_word(b, at + 11) <= waiting_most(place, load_word(b, at + 10))
+}
+
+fn threads_readable(b: &[u8], at: usize, shape: Shape, maxima: &[u32]) -> bool
+    requires { ⌜ ThreadsAsked shape (now b) at (now maxima) ⌝ }
+    ensures { λ r. ⌜ r ≡ allRecords (threadReadable shape) 33 (now (b .entry)) at (shape .threads) ⌝ }
+{
+    let count = shape.threads as usize;
+    let mut i = 0;
+    while i < count {
+        if !thread_readable(b, at + 33 * i, shape, maxima) {
+            return false;
+        }
+        i += 1;
+    }
+    true
+}
+
+// The greatest value of each word of a thread's record.
+fn thread_maxima(shape: Shape) -> [u32; 33]
+    requires { ⌜ InRange shape ⌝ }
+    ensures { λ r. ⌜ r ≡ threadMaxima shape ⌝ }
+{
+    let any = 4294967295;
+    let nodes = shape.node_count() as u32;
+    let c = shape.cells;
+    let d = shape.depth;
+    [
+        3,
+        16,
+        any,
+        65535,
+        c,
+        d,
+        nodes,
+        shape.threshold,
+        d,
+        d,
+        nodes,
+        any,
+        1,
+        any,
+        65535,
+        c,
+        1,
+        any,
+        any,
+        65535,
+        c,
+        c,
+        1,
+        any,
+        any,
+        65535,
+        c,
+        c,
+        1,
+        any,
+        any,
+        65535,
+        c,
+    ]
+}
+
+// The present depth, the first free cell, the nodes and the cells.
+fn tree_readable(b: &[u8], frame: Frame) -> bool
+    requires { ⌜ Within frame (length (now b)) ⌝ }
+    ensures { λ r. ⌜ r ≡ treeReadable frame (now (b .entry)) ⌝ }
+{
+    let shape = frame.shape;
+    if !region::is_between(1, frame.load_depth(b), shape.depth) {
+        return false;
+    }
+    if shape.cells < frame.load_free(b) {
+        return false;
+    }
+    if !nodes_readable(b, frame.nodes, shape.node_count(), shape.cells) {
+        return false;
+    }
+    cells_readable(b, frame.cells, shape.cells as usize, shape.cells)
+}
+
+// Every field behind the shape.
+fn fields_readable(b: &[u8], shape: Shape) -> bool
+    requires { ⌜ FieldsAsked shape (length (now b)) ⌝ }
+    ensures { λ r. ⌜ r ≡ fieldsReadable shape (now (b .entry)) ⌝ }
+{
+    let frame = Frame::of(shape);
+    if !tree_readable(b, frame) {
+        return false;
+    }
+    let maxima = thread_maxima(shape);
+    threads_readable(b, frame.threads, shape, &maxima)
+}
+
+// The shape that the first words give.
+fn load_shape(b: &[u8]) -> Shape
+    requires { ⌜ 16 ≤ length (now b) ⌝ }
+    ensures { λ r. ⌜ r ≡ shapeIn (now (b .entry)) ⌝ }
+{
+    Shape {
+        depth: load_word(b, 0),
+        cells: load_word(b, 1),
+        threads: load_word(b, 2),
+        threshold: load_word(b, 3),
+    }
+}
+
+// Whether the region is readable.
+pub fn is_readable(b: &[u8]) -> bool
+    ensures { λ r. ⌜ r ≡ readable (now (b .entry)) ⌝ }
+{
+    if b.len() < 16 {
+        return false;
+    }
+    let shape = load_shape(b);
+    if !shape.fits() {
+        return false;
+    }
+    if b.len() != 4 * shape.word_count() {
+        return false;
+    }
+    fields_readable(b, shape)
+}
+
+// 0 if the region is readable, else 7.
+pub fn check_region(b: &[u8]) -> u32
+    ensures { λ r. ⌜ r ≡ checkAnswer (now (b .entry)) ⌝ }
+{
+    if is_readable(b) { DONE } else { UNREADABLE }
+}
