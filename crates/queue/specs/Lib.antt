@@ -1,0 +1,2 @@
+-- The calls that the host makes.
+pub mod Calls
