@@ -3,7 +3,7 @@ use Prim.Native.Nat.{ℕ, zero, suc, _+_, _-_, _*_, _%_, _^_, _≤_, _<_}
 use native.Mathlib.Nat.{add-suc, add-zero}
 use native.Mathlib.Numerals.{add-one}
 use native.Mathlib.Omega.{arith}
-use mathlib.Core.Path.{_≡_, refl, sym, ap, subst, _∙_}
+use mathlib.Core.Path.{_≡_, refl, sym, ap, subst, subst₂, _∙_}
 use mathlib.Core.Bool.{Bool, true, false, not, _&&_, and-true}
 use mathlib.Core.List.{List, [], _∷_}
 use borrow.Author.Tests.{lt-leb, le-leb, eq-eqb, ne-eqb, eqb-true, not-true, not-false}
@@ -79,41 +79,70 @@ module _ {b : List ℕ} {at : ℕ} {ms : List ℕ} {i : ℕ} (e : Passed b at ms
   unfolding bounded
   pass-end h = rw (drop-of-length-le ms h) at (e .left)
 
--- Records: those not yet looked at decide.
-pub record Scanned (test : List ℕ → ℕ → Bool) (stride : ℕ) (b : List ℕ) (at n i : ℕ) : Type 0 where
-  pub within : i ≤ n
-  pub left : allRecords test stride b (at + stride * i) (n - i) ≡ allRecords test stride b at n
+-- Records: the m from word k on, not yet looked at, decide.
+pub record Scanned (test : List ℕ → ℕ → Bool) (stride : ℕ) (b : List ℕ) (at n k m : ℕ) : Type 0 where
+  pub within : k + stride * m ≡ at + stride * n
+  pub left : allRecords test stride b k m ≡ allRecords test stride b at n
 
-pub scan-start : (test : List ℕ → ℕ → Bool) (stride : ℕ) (b : List ℕ) (at n : ℕ) → Scanned test stride b at n 0
-scan-start test stride b at n =
-    let k : at + stride * 0 ≡ at = omega arith in
-    record { within = omega arith; left = ap (λ j. allRecords test stride b j (n - 0)) k ∙ ap (allRecords test stride b at) (omega arith) }
+pub scan-start : (test : List ℕ → ℕ → Bool) (stride : ℕ) (b : List ℕ) (at n : ℕ) → Scanned test stride b at n at n
+scan-start test stride b at n = record { within = refl; left = refl }
 
-module _ {test : List ℕ → ℕ → Bool} {stride : ℕ} {b : List ℕ} {at n i : ℕ} (e : Scanned test stride b at n i) where
-  scan-step : i < n → test b (at + stride * i) && allRecords test stride b (at + stride * i + stride) (n - (i + 1)) ≡ allRecords test stride b at n
+module _ {test : List ℕ → ℕ → Bool} {stride : ℕ} {b : List ℕ} {at n k m : ℕ} (e : Scanned test stride b at n k m) where
+  scan-step : 0 < m → test b k && allRecords test stride b (k + stride) (m - 1) ≡ allRecords test stride b at n
   unfolding allRecords
   scan-step h =
-      let m : n - i ≡ suc (n - (i + 1)) = omega arith in
-      ap (allRecords test stride b (at + stride * i)) (sym m) ∙ e .left
+      let j : m ≡ suc (m - 1) = omega arith in
+      ap (allRecords test stride b k) (sym j) ∙ e .left
 
-  pub scan-more : (q : Bool) → i < n → q ≡ test b (at + stride * i) → not q ≡ false → Scanned test stride b at n (i + 1)
+  pub scan-more : (q : Bool) → 0 < m → q ≡ test b k → not q ≡ false → Scanned test stride b at n (k + stride) (m - 1)
   scan-more q h eq g =
-      let k : at + stride * (i + 1) ≡ at + stride * i + stride = omega arith in
-      record {
-        within = omega arith;
-        left =
-            ap (λ j. allRecords test stride b j (n - (i + 1))) k
-            ∙ (rw (← eq, not-false q g) at (scan-step h));
-      }
+      let j : m ≡ (m - 1) + 1 = omega arith in
+      record { within = omega (arith, e .within, ap (λ x. stride * x) j); left = rw (← eq, not-false q g) at (scan-step h) }
 
-  pub scan-bad : (q : Bool) → i < n → q ≡ test b (at + stride * i) → not q ≡ true → false ≡ allRecords test stride b at n
+  pub scan-bad : (q : Bool) → 0 < m → q ≡ test b k → not q ≡ true → false ≡ allRecords test stride b at n
   scan-bad q h eq g = rw (← eq, not-true q g) at (scan-step h)
 
-  pub scan-end : n ≤ i → true ≡ allRecords test stride b at n
+  pub scan-last : 0 < m → m ≤ 1 → (r : Bool) → r ≡ test b k → r ≡ allRecords test stride b at n
+  unfolding allRecords
+  scan-last h l r er =
+      let j : m - 1 ≡ 0 = omega arith in
+      er
+      ∙ sym (and-true (test b k))
+      ∙ ap (λ x. test b k && allRecords test stride b (k + stride) x) (sym j)
+      ∙ scan-step h
+
+  pub scan-end : m ≤ 0 → true ≡ allRecords test stride b at n
   unfolding allRecords
   scan-end h =
-      let m : 0 ≡ n - i = omega arith in
-      ap (allRecords test stride b (at + stride * i)) m ∙ e .left
+      let j : 0 ≡ m = omega arith in
+      ap (allRecords test stride b k) j ∙ e .left
+
+-- Two records in a turn.
+module _ {test : List ℕ → ℕ → Bool} {stride : ℕ} {b : List ℕ} {at n k m : ℕ} (e : Scanned test stride b at n k m)
+    (h : 1 < m) (q : Bool) (eq : q ≡ test b k) where
+  pub first-bad : not q ≡ true → false ≡ allRecords test stride b at n
+  first-bad = scan-bad e q (omega arith) eq
+
+  module _ (gq : not q ≡ false) (p : Bool) (ep : p ≡ test b (k + stride)) where
+    one-passed : Scanned test stride b at n (k + stride) (m - 1)
+    one-passed = scan-more e q (omega arith) eq gq
+
+    pub second-bad : not p ≡ true → false ≡ allRecords test stride b at n
+    second-bad = scan-bad one-passed p (omega arith) ep
+
+    pub two-passed : not p ≡ false → Scanned test stride b at n (k + (stride + stride)) (m - 2)
+    two-passed gp =
+        let j : k + stride + stride ≡ k + (stride + stride) = omega arith in
+        let i : m - 1 - 1 ≡ m - 2 = omega arith in
+        subst₂ (λ x y. Scanned test stride b at n x y) j i (scan-more one-passed p (omega arith) ep gp)
+
+pub none-left : {test : List ℕ → ℕ → Bool} {stride : ℕ} {b : List ℕ} {at n k m : ℕ} → Scanned test stride b at n k m → m ≡ 0
+    → true ≡ allRecords test stride b at n
+none-left e z = scan-end e (omega arith)
+
+pub one-left : {test : List ℕ → ℕ → Bool} {stride : ℕ} {b : List ℕ} {at n k m : ℕ} → Scanned test stride b at n k m → m ≤ 1
+    → (m ≡ 0 → ⊥) → (r : Bool) → r ≡ test b k → r ≡ allRecords test stride b at n
+one-left e l z r er = scan-last e (omega arith) l r er
 
 -- The rules that go by the place.
 module _ (s : Shape) (place : ℕ) where
@@ -203,9 +232,9 @@ module _ (f : Frame) (b : List ℕ) (d : ℕ) (ed : d ≡ word b (f .depth)) (q 
       tree-rest z r er =
           rw (← depth-test, not-false q gq, ← ec, le-leb c (f .shape .cells) h, ← nodes-test, not-false n z) er
 
-pub threads-ask : (s : Shape) (b : List ℕ) (at i : ℕ) (ms : List ℕ) → ThreadsAsked s b at ms → i < s .threads
-    → ThreadAsked s b (at + 33 * i) ms
-threads-ask s b at i ms g h = record { shape = g .shape; within = omega arith; maxima = g .maxima }
+pub threads-ask : {s : Shape} {b : List ℕ} {at : ℕ} {ms : List ℕ} (k m : ℕ) → ThreadsAsked s b at ms
+    → Scanned (threadReadable s) 33 b at (s .threads) k m → 0 < m → ThreadAsked s b k ms
+threads-ask {s} {b} {at} {ms} k m g e h = record { shape = g .shape; within = omega arith; maxima = g .maxima }
 
 -- Every field behind the shape.
 threads-end : (s : Shape) (l : ℕ) → Within (frameOf s) l → 4 * (frameOf s .threads + threadSize * s .threads) ≤ l

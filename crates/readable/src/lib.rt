@@ -48,32 +48,50 @@ fn words_bounded(b: &[u8], at: usize, maxima: &[u32]) -> bool
     true
 }
 
+// The nodes, two in a turn, which halves the turns.
 fn nodes_readable(b: &[u8], at: usize, count: usize, cells: u32) -> bool
     requires { ⌜ 4 * (at + 3 * count) ≤ length (now b) ⌝ }
     ensures { λ r. ⌜ r ≡ allRecords (λ l k. bounded l k (nodeMaxima cells)) 3 (now (b .entry)) at count ⌝ }
 {
-    let mut i = 0;
-    while i < count {
-        if !node_readable(b, at + 3 * i, cells) {
+    let mut k = at;
+    let mut left = count;
+    while 1 < left {
+        if !node_readable(b, k, cells) {
             return false;
         }
-        i += 1;
+        if !node_readable(b, k + 3, cells) {
+            return false;
+        }
+        k += 6;
+        left -= 2;
     }
-    true
+    if left == 0 {
+        return true;
+    }
+    node_readable(b, k, cells)
 }
 
+// The cells, likewise.
 fn cells_readable(b: &[u8], at: usize, count: usize, cells: u32) -> bool
     requires { ⌜ 4 * (at + 3 * count) ≤ length (now b) ⌝ }
     ensures { λ r. ⌜ r ≡ allRecords (λ l k. bounded l k (cellMaxima cells)) 3 (now (b .entry)) at count ⌝ }
 {
-    let mut i = 0;
-    while i < count {
-        if !cell_readable(b, at + 3 * i, cells) {
+    let mut k = at;
+    let mut left = count;
+    while 1 < left {
+        if !cell_readable(b, k, cells) {
             return false;
         }
-        i += 1;
+        if !cell_readable(b, k + 3, cells) {
+            return false;
+        }
+        k += 6;
+        left -= 2;
     }
-    true
+    if left == 0 {
+        return true;
+    }
+    cell_readable(b, k, cells)
 }
 
 // The most tries at this place.
@@ -117,17 +135,19 @@ fn thread_readable(b: &[u8], at: usize, shape: Shape, maxima: &[u32]) -> bool
     load_word(b, at + 11) <= waiting_most(place, load_word(b, at + 10))
 }
 
+// The threads' records.
 fn threads_readable(b: &[u8], at: usize, shape: Shape, maxima: &[u32]) -> bool
     requires { ⌜ ThreadsAsked shape (now b) at (now maxima) ⌝ }
     ensures { λ r. ⌜ r ≡ allRecords (threadReadable shape) 33 (now (b .entry)) at (shape .threads) ⌝ }
 {
-    let count = shape.threads as usize;
-    let mut i = 0;
-    while i < count {
-        if !thread_readable(b, at + 33 * i, shape, maxima) {
+    let mut k = at;
+    let mut left = shape.threads as usize;
+    while 0 < left {
+        if !thread_readable(b, k, shape, maxima) {
             return false;
         }
-        i += 1;
+        k += 33;
+        left -= 1;
     }
     true
 }

@@ -2,42 +2,53 @@
 use native.Mathlib.Omega.{arith}
 use Rattle.readable.proofs.nodes_readable.Statement.{statement}
 use Rattle.readable.proofs.nodes_readable.Tie as tie
-use Prim.Native.Nat.{_-_}
 use Rattle.readable.specs.Readable.{nodeMaxima, bounded}
-use Rattle.readable.proofs.Turns.{Scanned, scan-start, scan-more, scan-bad, scan-end}
+use Rattle.readable.proofs.Turns.{Scanned, scan-start, first-bad, second-bad, two-passed, none-left, one-left}
 
 abbrev Inv-loop : tie.InvT-loop
-Inv-loop b at count cells i₀ i = Scanned (λ l k. bounded l k (nodeMaxima cells)) 3 b at count i
+Inv-loop b at count cells k₀ left₀ k left = Scanned (λ l j. bounded l j (nodeMaxima cells)) 3 b at count k left
 
 abbrev μ-loop : tie.MeasureT-loop
-μ-loop b at count cells i₀ i = count - i
+μ-loop b at count cells k₀ left₀ k left = left
 
 loop-holds : tie.Need-loop-holds Inv-loop μ-loop
 loop-holds c = search scan-start
-
-mul-node-readable : tie.Need-mul-node-readable Inv-loop μ-loop
-mul-node-readable c = omega arith
-
-add-node-readable : tie.Need-add-node-readable Inv-loop μ-loop
-add-node-readable c = omega arith
 
 node-readable-requires : tie.Need-node-readable-requires Inv-loop μ-loop
 node-readable-requires c κs = omega arith
 
 returns : tie.Need-returns Inv-loop μ-loop
-returns c = search scan-bad
+returns c = search first-bad
 
-add-i : tie.Need-add-i Inv-loop μ-loop
-add-i c = omega arith
+add-node-readable : tie.Need-add-node-readable Inv-loop μ-loop
+add-node-readable c = omega arith
+
+node-readable-requires-2 : tie.Need-node-readable-requires-2 Inv-loop μ-loop
+node-readable-requires-2 c κs = omega arith
+
+returns-2 : tie.Need-returns-2 Inv-loop μ-loop
+returns-2 c = search second-bad
+
+add-k : tie.Need-add-k Inv-loop μ-loop
+add-k c = omega arith
+
+sub-left : tie.Need-sub-left Inv-loop μ-loop
+sub-left c = omega arith
 
 loop-less : tie.Need-loop-less Inv-loop μ-loop
 loop-less c = omega arith
 
 loop-again : tie.Need-loop-again Inv-loop μ-loop
-loop-again c = search scan-more
+loop-again c = two-passed (c .before .before .before .before .before .loop .inv) (c .before .before .before .before .loop-test .taken) (c .before .before .before .node-readable .result) (c .before .before .before .node-readable .ensures) (c .before .before .if1 .left) (c .before .node-readable2 .result) (c .before .node-readable2 .ensures) (c .if2 .left)
 
-returns-2 : tie.Need-returns-2 Inv-loop μ-loop
-returns-2 c = search scan-end
+returns-3 : tie.Need-returns-3 Inv-loop μ-loop
+returns-3 c = search none-left
+
+node-readable-requires-3 : tie.Need-node-readable-requires-3 Inv-loop μ-loop
+node-readable-requires-3 c κs = omega arith
+
+returns-4 : tie.Need-returns-4 Inv-loop μ-loop
+returns-4 c = search one-left
 
 pub nodes-readable-spec : {M : Type 1} → statement M
 nodes-readable-spec =
@@ -46,11 +57,15 @@ nodes-readable-spec =
     Inv-loop
     μ-loop
     loop-holds
-    mul-node-readable
-    add-node-readable
     node-readable-requires
     returns
-    add-i
+    add-node-readable
+    node-readable-requires-2
+    returns-2
+    add-k
+    sub-left
     loop-less
     loop-again
-    returns-2)
+    returns-3
+    node-readable-requires-3
+    returns-4)

@@ -2,27 +2,20 @@
 use native.Mathlib.Omega.{arith}
 use Rattle.readable.proofs.threads_readable.Statement.{statement}
 use Rattle.readable.proofs.threads_readable.Tie as tie
-use Prim.Native.Nat.{_-_}
 use Rattle.readable.specs.Readable.{threadReadable}
 use Rattle.readable.proofs.Turns.{Scanned, scan-start, scan-more, scan-bad, scan-end, threads-ask}
 
 abbrev Inv-loop : tie.InvT-loop
-Inv-loop b at shape maxima count i₀ i = Scanned (threadReadable shape) 33 b at (shape .threads) i
+Inv-loop b at shape maxima k₀ left₀ k left = Scanned (threadReadable shape) 33 b at (shape .threads) k left
 
 abbrev μ-loop : tie.MeasureT-loop
-μ-loop b at shape maxima count i₀ i = shape .threads - i
+μ-loop b at shape maxima k₀ left₀ k left = left
 
-cast-count : tie.Need-cast-count Inv-loop μ-loop
-cast-count c = omega arith
+cast-left : tie.Need-cast-left Inv-loop μ-loop
+cast-left c = omega arith
 
 loop-holds : tie.Need-loop-holds Inv-loop μ-loop
 loop-holds c = search scan-start
-
-mul-thread-readable : tie.Need-mul-thread-readable Inv-loop μ-loop
-mul-thread-readable c = omega arith
-
-add-thread-readable : tie.Need-add-thread-readable Inv-loop μ-loop
-add-thread-readable c = omega arith
 
 thread-readable-requires : tie.Need-thread-readable-requires Inv-loop μ-loop
 thread-readable-requires c κs = search threads-ask
@@ -30,8 +23,11 @@ thread-readable-requires c κs = search threads-ask
 returns : tie.Need-returns Inv-loop μ-loop
 returns c = search scan-bad
 
-add-i : tie.Need-add-i Inv-loop μ-loop
-add-i c = omega arith
+add-k : tie.Need-add-k Inv-loop μ-loop
+add-k c = omega arith
+
+sub-left : tie.Need-sub-left Inv-loop μ-loop
+sub-left c = omega arith
 
 loop-less : tie.Need-loop-less Inv-loop μ-loop
 loop-less c = omega arith
@@ -48,13 +44,12 @@ threads-readable-spec =
     (tie.spec
     Inv-loop
     μ-loop
-    cast-count
+    cast-left
     loop-holds
-    mul-thread-readable
-    add-thread-readable
     thread-readable-requires
     returns
-    add-i
+    add-k
+    sub-left
     loop-less
     loop-again
     returns-2)
