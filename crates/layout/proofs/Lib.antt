@@ -1,2 +1,3 @@
--- What the functions of `layout` need, over plain variables.
+-- What the crates above cite of `layout` beside its contracts, and the turns of its own loops.
+pub mod Laws
 mod Turns

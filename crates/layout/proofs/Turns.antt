@@ -184,23 +184,34 @@ module _ {s : Shape} {ps : List ℕ} {c t n : ℕ} {b₀ b : List ℕ} {k : ℕ}
       ap (λ j. setWords b k (laidWords s ps k j)) m ∙ e .left
 
 -- The whole call.
-pub accepted : (s : Shape) (ps : List ℕ) (l r : ℕ) → r ≡ layoutRefusal s ps l → r ≡ done → Accepted s ps l
-unfolding layoutRefusal permissionsFit pick
-accepted s ps l r e d =
-    go (shapeFits s) (eqb (length ps) (s .threads)) (atMost 3 ps) (eqb l (4 * regionWords s)) refl refl refl (sym e ∙ d)
-  where
-    go : (q p a m : Bool) → shapeFits s ≡ q → eqb (length ps) (s .threads) ≡ p → eqb l (4 * regionWords s) ≡ m
-        → pick (q && (p && a)) (pick m done badLength) badShape ≡ done → Accepted s ps l
-    go true true true true eq ep em z =
-        record {
-          shape = in-range s eq;
-          permissions = eqb-true (length ps) (s .threads) ep;
-          exact = eqb-true l (4 * regionWords s) em;
-        }
-    go true true true false eq ep em z = omega arith
-    go true true false m eq ep em z = omega arith
-    go true false a m eq ep em z = omega arith
-    go false p a m eq ep em z = omega arith
+module _ (s : Shape) (ps : List ℕ) (l : ℕ) where
+  -- what a layout that is not refused shows
+  no-refusals : (q p a m : Bool) → shapeFits s ≡ q → eqb (length ps) (s .threads) ≡ p → atMost 3 ps ≡ a
+      → eqb l (4 * regionWords s) ≡ m → pick (q && (p && a)) (pick m done badLength) badShape ≡ done
+      → Accepted s ps l × (atMost 3 ps ≡ true)
+  unfolding pick
+  no-refusals true true true true eq ep ea em z =
+      (record {
+         shape = in-range s eq;
+         permissions = eqb-true (length ps) (s .threads) ep;
+         exact = eqb-true l (4 * regionWords s) em
+       }, ea)
+  no-refusals true true true false eq ep ea em z = absurd (omega arith)
+  no-refusals true true false m eq ep ea em z = absurd (omega arith)
+  no-refusals true false a m eq ep ea em z = absurd (omega arith)
+  no-refusals false p a m eq ep ea em z = absurd (omega arith)
+
+  not-refused : (r : ℕ) → r ≡ layoutRefusal s ps l → r ≡ done → Accepted s ps l × (atMost 3 ps ≡ true)
+  unfolding layoutRefusal permissionsFit pick
+  not-refused r e d =
+      no-refusals (shapeFits s) (eqb (length ps) (s .threads)) (atMost 3 ps) (eqb l (4 * regionWords s)) refl refl refl refl
+      (sym e ∙ d)
+
+  pub accepted : (r : ℕ) → r ≡ layoutRefusal s ps l → r ≡ done → Accepted s ps l
+  accepted r e d = not-refused r e d .0
+
+  pub permitted : (r : ℕ) → r ≡ layoutRefusal s ps l → r ≡ done → atMost 3 ps ≡ true
+  permitted r e d = not-refused r e d .1
 
 pub refused : (s : Shape) (ps b : List ℕ) (r : ℕ) → r ≡ layoutRefusal s ps (length b) → (r ≡ done → ⊥) → LaidOut s ps b b r
 unfolding layoutBytes pick

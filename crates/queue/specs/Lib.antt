@@ -1,2 +1,3 @@
 -- The calls that the host makes.
 pub mod Calls
+pub mod Theorems

@@ -1,7 +1,7 @@
 -- The laws of words and runs: what was stored is read back, what lies apart is left alone, lengths stay, what is read fits, and stores apart commute.
 -- Assumes nothing.
 use Prim.Native.Nat.{ℕ, zero, suc, _+_, _-_, _*_, _/_, _%_, _^_, _≤_, _<_}
-use native.Mathlib.Nat.{div-div-eq-div-mul}
+use native.Mathlib.Nat.{add-zero, add-suc, suc-add, div-div-eq-div-mul}
 use native.Mathlib.Omega.{arith}
 use native.Mathlib.Decide.{ℕ-discrete}
 use mathlib.Core.Path.{_≡_, refl, sym, ap, subst, _∙_}
@@ -181,6 +181,18 @@ wordsAt-same (v ∷ vs) b at h f =
       word-same b at v (omega arith) (f .0),
       wordsAt-same vs (setWord b at v) (suc at) (rw length-setWord (omega arith)) (f .1),
     )
+
+-- A word of a stored run.
+pub word-stored : (vs b : List ℕ) (at i : ℕ) → 4 * (at + length vs) ≤ length b → Fit vs → i < length vs
+    → word (setWords b at vs) (at + i) ≡ getD vs i 0
+word-stored (v ∷ vs) b at zero h f l =
+    ap (word (setWords (setWord b at v) (suc at) vs)) (add-zero at)
+    ∙ word-apart vs (setWord b at v) (suc at) at (inl (omega arith))
+    ∙ word-same b at v (omega arith) (f .0)
+word-stored (v ∷ vs) b at (suc i) h f l =
+    ap (word (setWords (setWord b at v) (suc at) vs)) (add-suc at i ∙ sym (suc-add at i))
+    ∙ word-stored vs (setWord b at v) (suc at) i (rw length-setWord (omega arith)) (f .1) (omega arith)
+word-stored [] b at i h f l = absurd (omega arith)
 
 -- Stores apart commute.
 pub setWord-comm : (b : List ℕ) (j k u v : ℕ) → j ≢ k → setWord (setWord b j u) k v ≡ setWord (setWord b k v) j u

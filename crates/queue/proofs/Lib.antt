@@ -1,0 +1,2 @@
+-- The theorems about the calls together.
+pub mod LaidOutIsReadable
