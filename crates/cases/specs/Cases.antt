@@ -23,7 +23,7 @@ row d c l r =
       shape = record { depth = d; cells = c; threads = 2; threshold = 1 };
       permissions = 3 ∷ 3 ∷ [];
       bytes = l;
-      answer = r
+      answer = r;
     }
 
 abbrev pub table : List Row

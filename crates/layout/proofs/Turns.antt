@@ -190,12 +190,14 @@ module _ (s : Shape) (ps : List ℕ) (l : ℕ) where
       → eqb l (4 * regionWords s) ≡ m → pick (q && (p && a)) (pick m done badLength) badShape ≡ done
       → Accepted s ps l × (atMost 3 ps ≡ true)
   unfolding pick
-  no-refusals true true true true eq ep ea em z =
-      (record {
-         shape = in-range s eq;
-         permissions = eqb-true (length ps) (s .threads) ep;
-         exact = eqb-true l (4 * regionWords s) em
-       }, ea)
+  no-refusals true true true true eq ep ea em z = (
+    record {
+      shape = in-range s eq;
+      permissions = eqb-true (length ps) (s .threads) ep;
+      exact = eqb-true l (4 * regionWords s) em;
+    },
+    ea,
+  )
   no-refusals true true true false eq ep ea em z = absurd (omega arith)
   no-refusals true true false m eq ep ea em z = absurd (omega arith)
   no-refusals true false a m eq ep ea em z = absurd (omega arith)

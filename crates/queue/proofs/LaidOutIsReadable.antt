@@ -27,7 +27,7 @@ bounded-all b (m ∷ ms) at h =
     and-both
     (le-leb (word b at) m (subst (λ k. word b k ≤ m) (add-zero at) (h 0 (omega arith))))
     (bounded-all b ms (suc at) λ i l.
-       subst (λ k. word b k ≤ getD ms i 0) (add-suc at i ∙ sym (suc-add at i)) (h (suc i) (omega arith)))
+    subst (λ k. word b k ≤ getD ms i 0) (add-suc at i ∙ sym (suc-add at i)) (h (suc i) (omega arith)))
 
 all-pass : (test : List ℕ → ℕ → Bool) (stride : ℕ) (b : List ℕ) (at n : ℕ) → ((i : ℕ) → i < n → test b (at + stride * i) ≡ true)
     → allRecords test stride b at n ≡ true
@@ -141,11 +141,11 @@ module _ (s : Shape) (ps b : List ℕ) (e : layoutRefusal s ps (length b) ≡ do
 
   same-shape : shapeIn laid ≡ s
   same-shape = λ i. record {
-      depth = header 0 (omega arith) i;
-      cells = header 1 (omega arith) i;
-      threads = header 2 (omega arith) i;
-      threshold = header 3 (omega arith) i
-    }
+    depth = header 0 (omega arith) i;
+    cells = header 1 (omega arith) i;
+    threads = header 2 (omega arith) i;
+    threshold = header 3 (omega arith) i;
+  }
 
   laid-readable : readable laid ≡ true
   unfolding readable fieldsReadable laid

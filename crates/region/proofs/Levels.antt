@@ -1,9 +1,10 @@
 -- A node's level: its digits and its leading zeros make 32, and "Level j holds nodes 2^(j−1) to 2^j − 1". Assumes nothing.
 use Prim.Native.Nat.{ℕ, zero, suc, _+_, _-_, _/_, _^_, _≤_, _<_}
+use native.Mathlib.Nat.{div-one}
 use native.Mathlib.Omega.{arith}
-use mathlib.Core.Path.{_≡_, refl, subst}
+use mathlib.Core.Path.{_≡_, refl, sym, ap, subst, _∙_}
 use lib.Count.{leadingZeros, leading-top}
-use Rattle.region.specs.Level.{digits, level}
+use Rattle.region.specs.Level.{ancestor, digits, level}
 
 digits-leading : (k n : ℕ) → digits k n + leadingZeros k n ≡ k
 unfolding digits leadingZeros
@@ -35,3 +36,18 @@ level-holds n p h =
 pub level-most : (n : ℕ) → level n ≤ 32
 unfolding level
 level-most n = omega (arith, digits-leading 32 n)
+
+-- Ancestors.
+module _ (n j l : ℕ) (e : l ≡ level n) where
+  pub ancestor-itself : l ≤ j → n ≡ ancestor n j
+  unfolding ancestor
+  ancestor-itself h =
+      let z : 0 ≡ level n - j = omega arith in
+      sym (div-one n) ∙ ap (λ k. n / 2 ^ k) z
+
+  pub few-halvings : 1 ≤ j → j < l → l - j < 32
+  few-halvings p h = omega (arith, level-most n)
+
+  pub ancestor-halved : j < l → n / 2 ^ (l - j) ≡ ancestor n j
+  unfolding ancestor
+  ancestor-halved h = ap (λ k. n / 2 ^ (k - j)) e

@@ -3,6 +3,7 @@ pub mod Entries
 pub mod Frames
 pub mod Levels
 pub mod Places
+mod Returns
 pub mod Shapes
 pub mod Threads
 pub mod Views

@@ -1,5 +1,5 @@
 -- "Level j holds nodes 2^(j−1) to 2^j − 1" (document 01, The region): a node's level is the number of its binary digits.
-use Prim.Native.Nat.{ℕ, zero, suc, _/_}
+use Prim.Native.Nat.{ℕ, zero, suc, _-_, _/_, _^_}
 
 -- the binary digits of n, at most k of them
 unfoldable pub digits : ℕ → ℕ → ℕ
@@ -11,3 +11,12 @@ digits (suc k) (suc n) = suc (digits k (suc n / 2))
 unfoldable pub level : ℕ → ℕ
 unfolding digits
 level n = digits 32 n
+
+-- the ancestor of node n at level j: "Node n has children 2n and 2n + 1"
+unfoldable pub ancestor : ℕ → ℕ → ℕ
+unfolding level
+ancestor n j = n / 2 ^ (level n - j)
+
+-- "waiting levels (bit j−1 for level j)": the deepest is the place of the greatest bit, and its mark that bit
+abbrev pub mark : ℕ → ℕ
+mark j = 2 ^ (j - 1)

@@ -1,12 +1,15 @@
 -- The thread's record as a run of 33 words, and the values that its methods hand back (document 01, The region).
-use Prim.Native.Nat.{ℕ}
+use Prim.Native.Nat.{ℕ, _-_}
 use mathlib.Core.List.{List, [], _∷_, _++_}
+use lib.Dec.{eqb}
 use lib.ListN.{getD}
 use Rattle.words.specs.Word.{wordsAt, setWords}
+use Rattle.region.specs.Level.{ancestor, level, mark}
+use Rattle.region.specs.Pick.{pick}
 use Rattle.region.specs.Place.{placeOf, placeNumber, waitingLevels}
 use Rattle.region.specs.Record.{itemOf, copyOf, copyWords, zeroItem, zeroCopy}
 use Rattle.region.specs.declared.place.Place.{Place}
-use Rattle.region.specs.declared.place.Place.the-variants.{Idle}
+use Rattle.region.specs.declared.place.Place.the-variants.{Idle, ReadDepth, ReadRoot, MendReadNode}
 use Rattle.region.specs.declared.record.Item.{Item}
 use Rattle.region.specs.declared.record.NodeCopy.{NodeCopy}
 use Rattle.region.specs.declared.thread.Copies.{Copies}
@@ -237,3 +240,26 @@ withSecond t x = withCopies t (t .copies .first) x (t .copies .third)
 unfoldable pub withThird : Thread → NodeCopy → Thread
 unfolding withCopies
 withThird t x = withCopies t (t .copies .first) (t .copies .second) x
+
+-- "Beginning sets the place (I1 or E1) and, for a put, key, tag and own cell."
+unfoldable pub begunPut : Thread → Item → ℕ → Thread
+unfolding atPlace withItem withOwn
+begunPut t i own = atPlace (withOwn (withItem t i) own) ReadDepth
+
+unfoldable pub begunTake : Thread → Thread
+unfolding atPlace
+begunTake t = atPlace t ReadRoot
+
+-- "Mend n": on to M1 at node n, with these levels waiting
+unfoldable pub mending : Thread → ℕ → ℕ → Thread
+unfolding atPlace withNode
+mending t n w = atPlace (withNode t n) (MendReadNode w)
+
+-- "Return: M1 at the deepest waiting level's ancestor, whose mark is cleared; if none waits, by after" (0 back to E1, 1 answer)
+unfoldable pub returned : Thread → ℕ → Thread
+unfolding mending goneIdle atPlace pick
+returned t w =
+    pick
+    (eqb w 0)
+    (pick (eqb (t .after) 0) (atPlace t ReadRoot) (goneIdle t))
+    (mending t (ancestor (t .node) (level w)) (w - mark (level w)))

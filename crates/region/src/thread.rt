@@ -2,7 +2,10 @@
 ghost use mathlib.Core.Path.{_≡_};
 ghost use Prim.Native.Nat.{_+_, _*_, _≤_};
 ghost use lib.ListN.{length};
-ghost use Rattle.region.specs.Thread.{idleThread, threadAt, setThreadAt, goneIdle, atPlace, withItem, withOwn, withDepth, withSearch, withNode, withAfter, withResult, withFirst, withSecond, withThird};
+ghost use Rattle.region.specs.Thread.{idleThread, threadAt, setThreadAt, goneIdle, begunPut, begunTake, mending, returned, atPlace, withItem, withOwn, withDepth, withSearch, withNode, withAfter, withResult, withFirst, withSecond, withThird};
+use crate::level::ancestor_at;
+use crate::level::level_of;
+use crate::level::mark_of;
 use crate::place::Place;
 use crate::place::place_of;
 use crate::record::Item;
@@ -154,6 +157,51 @@ impl Thread {
         ensures { λ r. ⌜ r ≡ goneIdle self ⌝ }
     {
         Thread::idle(self.permission)
+    }
+
+    // A put of item begins, with this cell of its own.
+    pub fn begun_put(self, item: Item, own: u32) -> Thread
+        ensures { λ r. ⌜ r ≡ begunPut self item own ⌝ }
+    {
+        Thread {
+            place: Place::ReadDepth,
+            item,
+            own,
+            ..self
+        }
+    }
+
+    // A take begins.
+    pub fn begun_take(self) -> Thread
+        ensures { λ r. ⌜ r ≡ begunTake self ⌝ }
+    {
+        self.at_place(Place::ReadRoot)
+    }
+
+    // On to mending this node, with these levels waiting.
+    pub fn mending(self, node: u32, waiting: u32) -> Thread
+        ensures { λ r. ⌜ r ≡ mending self node waiting ⌝ }
+    {
+        Thread {
+            place: Place::MendReadNode(waiting),
+            node,
+            ..self
+        }
+    }
+
+    // The return from mending, with these levels waiting.
+    pub fn returned(self, waiting: u32) -> Thread
+        ensures { λ r. ⌜ r ≡ returned self waiting ⌝ }
+    {
+        if waiting == 0 {
+            if self.after == 0 {
+                return self.at_place(Place::ReadRoot);
+            }
+            return self.gone_idle();
+        }
+        let deepest = level_of(waiting);
+        let node = ancestor_at(self.node, deepest);
+        self.mending(node, waiting - mark_of(deepest))
     }
 
     pub fn at_place(self, place: Place) -> Thread

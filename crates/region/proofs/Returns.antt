@@ -1,0 +1,39 @@
+-- The ways out of the return from mending, over plain variables. Assumes nothing.
+use Prim.Native.Nat.{ℕ, _-_, _≤_, _<_, _^_}
+use native.Mathlib.Omega.{arith}
+use mathlib.Core.Path.{_≡_, refl, sym, ap, _∙_}
+use borrow.Author.Tests.{eq-eqb, ne-eqb}
+use Rattle.region.specs.Level.{ancestor, level, mark}
+use Rattle.region.specs.Pick.{pick}
+use Rattle.region.specs.Thread.{atPlace, goneIdle, mending, returned}
+use Rattle.region.specs.declared.place.Place.the-variants.{ReadRoot}
+use Rattle.region.specs.declared.thread.Thread.{Thread}
+use Rattle.region.proofs.Levels.{level-holds, level-most}
+
+module _ (t r : Thread) (w : ℕ) where
+  pub back-to-root : w ≡ 0 → t .after ≡ 0 → r ≡ atPlace t ReadRoot → r ≡ returned t w
+  unfolding returned pick
+  back-to-root ew ea e = rw (eq-eqb w 0 ew, eq-eqb (t .after) 0 ea) e
+
+  pub answered : w ≡ 0 → (t .after ≡ 0 → ⊥) → r ≡ goneIdle t → r ≡ returned t w
+  unfolding returned pick
+  answered ew na e = rw (eq-eqb w 0 ew, ne-eqb (t .after) 0 na) e
+
+  module _ (nw : w ≡ 0 → ⊥) (fits : w < 2 ^ 32) (l : ℕ) (el : l ≡ level w) where
+    pub some-level : 1 ≤ l
+    some-level = omega (arith, level-holds w (omega arith) fits .some)
+
+    pub few-levels : l ≤ 32
+    few-levels = omega (arith, level-most w)
+
+    pub mark-within : (m : ℕ) → m ≡ mark l → m ≤ w
+    mark-within m em =
+        let h = level-holds w (omega arith) fits .least in
+        omega (arith, h, em ∙ ap mark el)
+
+    pub to-ancestor : (a m : ℕ) → a ≡ ancestor (t .node) l → m ≡ mark l → r ≡ mending t a (w - m) → r ≡ returned t w
+    unfolding returned pick
+    to-ancestor a m ea em e =
+        rw
+        (ne-eqb w 0 nw)
+        (e ∙ (λ i. mending t ((ea ∙ ap (ancestor (t .node)) el) i) (w - (em ∙ ap mark el) i)))

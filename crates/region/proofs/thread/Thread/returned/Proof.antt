@@ -1,0 +1,50 @@
+-- `region::thread::Thread::returned` meets its contract: none waits, or the deepest level's ancestor is next. Assumes nothing.
+use borrow.Author.Needs.{needs}
+use Rattle.region.proofs.thread.Thread.returned.Statement.{statement}
+use Rattle.region.proofs.thread.Thread.returned.Tie as tie
+use Rattle.region.proofs.Returns.{back-to-root, answered, some-level, few-levels, mark-within, to-ancestor}
+
+at-place-requires : tie.Need-at-place-requires
+at-place-requires c κs = search needs
+
+returns : tie.Need-returns
+returns c = search back-to-root
+
+gone-idle-requires : tie.Need-gone-idle-requires
+gone-idle-requires c κs = search needs
+
+returns-2 : tie.Need-returns-2
+returns-2 c = search answered
+
+level-of-requires : tie.Need-level-of-requires
+level-of-requires c κs = search needs
+
+ancestor-at-requires : tie.Need-ancestor-at-requires
+ancestor-at-requires c κs = search some-level
+
+mark-of-requires : tie.Need-mark-of-requires
+mark-of-requires c κs = (search some-level, search few-levels)
+
+sub-mending : tie.Need-sub-mending
+sub-mending c = search mark-within
+
+mending-requires : tie.Need-mending-requires
+mending-requires c κs = search needs
+
+returns-3 : tie.Need-returns-3
+returns-3 c = search to-ancestor
+
+pub returned-spec : {M : Type 1} → statement M
+returned-spec =
+    tie.close
+    (tie.spec
+    at-place-requires
+    returns
+    gone-idle-requires
+    returns-2
+    level-of-requires
+    ancestor-at-requires
+    mark-of-requires
+    sub-mending
+    mending-requires
+    returns-3)
