@@ -1,0 +1,3 @@
+-- What the crates above cite of `access` beside its contracts, and the ways out of its own functions.
+pub mod OrderLaws
+mod Ways

@@ -1,0 +1,12 @@
+-- `access::plan::plan_of` meets its contract. Assumes nothing.
+use Rattle.access.proofs.plan.plan_of.Statement.{statement}
+use Rattle.access.proofs.plan.plan_of.Tie as tie
+use mathlib.Core.Path.{refl}
+use Rattle.access.specs.Plan.{plan}
+
+returns : tie.Need-returns
+unfolding plan
+returns c = refl
+
+pub plan-of-spec : {M : Type 1} → statement M
+plan-of-spec = tie.close (tie.spec returns)

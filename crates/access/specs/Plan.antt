@@ -1,0 +1,28 @@
+-- What a turn decides: the effect on shared memory, the thread's record afterwards, and the answer.
+use Prim.Native.Nat.{ℕ}
+use Rattle.region.specs.Thread.{atPlace}
+use Rattle.region.specs.declared.answer.Answer.{Answer}
+use Rattle.region.specs.declared.answer.Answer.the-variants.{Moved, Refused}
+use Rattle.region.specs.declared.place.Place.{Place}
+use Rattle.region.specs.declared.thread.Thread.{Thread}
+use Rattle.access.specs.declared.effect.Effect.{Effect}
+use Rattle.access.specs.declared.effect.Effect.the-variants.{Nothing}
+use Rattle.access.specs.declared.plan.Plan.{Plan}
+
+unfoldable pub plan : Effect → Thread → Answer → Plan
+plan e t a = record { effect = e; thread = t; answer = a }
+
+-- the thread's record is all that changes
+unfoldable pub moved : Thread → Plan
+unfolding plan
+moved t = plan Nothing t Moved
+
+-- on to a place
+unfoldable pub onTo : Thread → Place → Plan
+unfolding moved
+onTo t p = moved (atPlace t p)
+
+-- a refused turn: "the thread keeps its place"
+unfoldable pub refused : Thread → ℕ → Plan
+unfolding plan
+refused t n = plan Nothing t (Refused n)

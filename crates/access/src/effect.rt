@@ -1,0 +1,87 @@
+// What a turn does to shared memory, as a value, and the one function that carries it out on the lent bytes.
+ghost use mathlib.Core.Path.{_≡_};
+ghost use lib.ListN.{length};
+ghost use Rattle.region.specs.Frame.{Within};
+ghost use Rattle.access.specs.Effect.{effectBytes, freedBytes, pushBytes};
+
+use region::Cell;
+use region::Frame;
+use region::Item;
+use region::Node;
+
+// The values of nodes are whole: their counters were counted up where refusal 11 was tested.
+pub enum Effect {
+    Nothing,
+    // the present depth grows to this
+    Grow(u32),
+    // a cell becomes the head of a node's list; next is the head until now
+    Push {
+        node: u32,
+        value: Node,
+        cell: u32,
+        next: u32,
+    },
+    // the root's head leaves its list, and its cell is freed
+    Pop { value: Node, cell: u32 },
+    // a node and its child exchange lists
+    Exchange {
+        node: u32,
+        value: Node,
+        child: u32,
+        below: Node,
+    },
+    // a node becomes clean
+    Clean { node: u32, value: Node },
+}
+
+// Frees a cell: zero, and at the front of the chain.
+fn free_cell(f: Frame, b: &mut [u8], cell: u32)
+    requires { ⌜ Within f (length (now b)) ⌝ }
+    ensures { λ r. ⌜ now (b .exit) ≡ freedBytes f (now (b .entry)) cell ⌝ }
+{
+    let next = f.load_free(b);
+    let item = Item { key: 0, tag: 0 };
+    f.store_cell(b, cell, Cell { item, next });
+    f.store_free(b, cell);
+}
+
+// Makes a cell the head of a node's list.
+fn push(f: Frame, b: &mut [u8], node: u32, value: Node, cell: u32, next: u32)
+    requires { ⌜ Within f (length (now b)) ⌝ }
+    ensures { λ r. ⌜ now (b .exit) ≡ pushBytes f (now (b .entry)) node value cell next ⌝ }
+{
+    let held = f.load_cell(b, cell);
+    f.store_node(b, node, value);
+    f.store_cell(b, cell, Cell { next, ..held });
+}
+
+// Carries an effect out on the bytes.
+pub fn carry_out(f: Frame, b: &mut [u8], effect: Effect)
+    requires { ⌜ Within f (length (now b)) ⌝ }
+    ensures { λ r. ⌜ now (b .exit) ≡ effectBytes f (now (b .entry)) effect ⌝ }
+{
+    match effect {
+        Effect::Nothing => {}
+        Effect::Grow(depth) => f.store_depth(b, depth),
+        Effect::Push {
+            node,
+            value,
+            cell,
+            next,
+        } => push(f, b, node, value, cell, next),
+        Effect::Pop { value, cell } => {
+            f.store_node(b, 1, value);
+            free_cell(f, b, cell);
+        }
+        Effect::Exchange {
+            node,
+            value,
+            child,
+            below,
+        } => {
+            f.store_node(b, node, value);
+            f.store_node(b, child, below);
+        }
+        Effect::Clean { node, value } => f.store_node(b, node, value),
+    }
+}
