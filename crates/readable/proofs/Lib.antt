@@ -1,2 +1,3 @@
 -- What the crates above cite of readability beside its contracts, and the turns of its own loops.
+pub mod Laws
 mod Turns

@@ -2,7 +2,8 @@
 ghost use mathlib.Core.Path.{_≡_};
 ghost use Prim.Native.Nat.{_+_, _*_, _≤_};
 ghost use lib.ListN.{length};
-ghost use Rattle.region.specs.Frame.{Within};
+ghost use mathlib.Core.Bool.{true};
+ghost use Rattle.region.specs.Frame.{Within, frameOf};
 ghost use Rattle.region.specs.Shape.{InRange};
 ghost use Rattle.readable.specs.Readable.{FieldsAsked, ThreadAsked, ThreadsAsked, bounded, nodeMaxima, cellMaxima, threadMaxima, triesMost, waitingMost, threadReadable, allRecords, treeReadable, shapeIn, fieldsReadable, readable, checkAnswer};
 use region::DONE;
@@ -240,6 +241,14 @@ fn load_shape(b: &[u8]) -> Shape
         threads: load_word(b, 2),
         threshold: load_word(b, 3),
     }
+}
+
+// The frame of a readable region.
+pub fn frame_of(b: &[u8]) -> Frame
+    requires { ⌜ readable (now b) ≡ true ⌝ }
+    ensures { λ r. ⌜ r ≡ frameOf (shapeIn (now (b .entry))) ⌝ }
+{
+    Frame::of(load_shape(b))
 }
 
 // Whether the region is readable.

@@ -10,9 +10,9 @@ use mathlib.Core.Bool.{Bool, true, false}
 use mathlib.Core.List.{List}
 use borrow.Author.Tests.{eq-eqb, ne-eqb}
 use lib.Dec.{eqb}
-use lib.ListN.{length}
+use lib.ListN.{length, getD}
 use Rattle.words.specs.Word.{word, setWord, wordsAt, setWords, Bytes, Fit}
-use Rattle.words.proofs.Laws.{word-same, word-other, word-apart, wordsAt-same, wordsAt-reads, length-setWord, length-setWords, bytes-setWord, bytes-setWords}
+use Rattle.words.proofs.Laws.{word-stored, word-same, word-other, word-apart, wordsAt-same, wordsAt-reads, length-setWord, length-setWords, bytes-setWord, bytes-setWords}
 use Rattle.region.specs.Frame.{Part, Apart, before, behind, Parted, Within, partSize, depthOf, freeOf, nodesOf, cellsOf, threadsOf}
 use Rattle.region.specs.Pick.{pick, upd}
 use Rattle.region.specs.Record.{nodeOf, nodeWords, emptyNode, nodeAt, setNodeAt, cellOf, cellWords, zeroCell, cellAt, setCellAt}
@@ -28,7 +28,7 @@ use Rattle.region.proofs.Shapes.{between-least, between-most, is-betwee
 use Rattle.region.proofs.Threads.{thread-again}
 
 -- Word j lies outside a run of n words from word k on.
-abbrev Outside : ℕ → ℕ → ℕ → Type 0
+abbrev pub Outside : ℕ → ℕ → ℕ → Type 0
 Outside k n j = (j < k) ⊎ (k + n ≤ j)
 
 -- A record of `size` words: what is stored is read back, only its words change, and it is read from them alone.
@@ -99,6 +99,15 @@ module _ {A : Type 0} {at : List ℕ → ℕ → A} {put : List ℕ → ℕ → 
           let s = entry-end p n (λ z. omega arith) u in
           cd .only b (entry p n) j v (⊎-elim (λ h. inl (omega arith)) (λ h. inr (omega arith)) o)
       go false e = refl
+
+  -- a store leaves alone what lies outside its record
+  record-only : (b : List ℕ) (n j : ℕ) (v : A) → Outside (entry p n) size j → word (storeEntry put p b n v) j ≡ word b j
+  unfolding storeEntry pick
+  record-only b n j v o = go (between 1 n (p .count))
+    where
+      go : (q : Bool) → word (pick q (put b (entry p n) v) b) j ≡ word b j
+      go true = cd .only b (entry p n) j v o
+      go false = refl
 
   -- a load sees its part alone
   load-kept : (b b′ : List ℕ) → Kept p b b′ → (k : ℕ) → loadEntry at none p b′ k ≡ loadEntry at none p b k
@@ -230,6 +239,19 @@ module _ (f : Frame) (b : List ℕ) (w : Within f (length b)) where
   pub word-setThreadIn : (t j : ℕ) (v : Thread) → Outside ((threadsOf f) .start) (partSize (threadsOf f)) j → word (setThreadIn f b t v) j ≡ word b j
   unfolding setThreadIn
   word-setThreadIn t j v o = store-only thread-codec (idleThread 0) (threadsOf f) (w .stride) b t j v o
+
+  -- a thread's record is all that its store changes
+  pub word-setThread : (t j : ℕ) (v : Thread) → Outside (entry (threadsOf f) t) threadSize j → word (setThreadIn f b t v) j ≡ word b j
+  unfolding setThreadIn
+  word-setThread t j v o = record-only thread-codec (idleThread 0) (threadsOf f) (w .stride) b t j v o
+
+  pub thread-stored-words : (t i : ℕ) (v : Thread) → 1 ≤ t → t ≤ f .shape .threads → Fit (threadWords v) → i < threadSize
+      → word (setThreadIn f b t v) (entry (threadsOf f) t + i) ≡ getD (threadWords v) i 0
+  unfolding setThreadIn setThreadAt
+  thread-stored-words t i v l u g h =
+      let s = entry-end (threadsOf f) t (λ z. omega arith) u in
+      ap (λ x. word x (entry (threadsOf f) t + i)) (store-there thread-codec (idleThread 0) (threadsOf f) (w .stride) b t v l u)
+      ∙ word-stored (threadWords v) b (entry (threadsOf f) t) i (omega (arith, s, w .threads, w .stride)) g h
 
   node-keeps : (n : ℕ) (v : Node) (p : Part) → Apart p (nodesOf f) → Kept p b (setNodeIn f b n v)
   node-keeps n v p a j l u = word-setNodeIn n j v (outside a j l u)

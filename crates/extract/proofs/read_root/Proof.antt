@@ -1,0 +1,17 @@
+-- `extract::read_root` meets its contract. Assumes nothing.
+use borrow.Author.Needs.{needs}
+use Rattle.extract.proofs.read_root.Statement.{statement}
+use Rattle.extract.proofs.read_root.Tie as tie
+use Rattle.extract.proofs.Ways.{root-reads}
+
+read-node-requires : tie.Need-read-node-requires
+read-node-requires c κs = search needs
+
+root-read-requires : tie.Need-root-read-requires
+root-read-requires c κs = search needs
+
+returns : tie.Need-returns
+returns c = search root-reads
+
+pub read-root-spec : {M : Type 1} → statement M
+read-root-spec = tie.close (tie.spec read-node-requires root-read-requires returns)

@@ -1,0 +1,2 @@
+-- The two places of a take.
+pub mod Extract

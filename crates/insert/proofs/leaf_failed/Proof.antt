@@ -1,0 +1,34 @@
+-- `insert::leaf_failed` meets its contract. Assumes nothing.
+use borrow.Author.Needs.{needs}
+use Rattle.insert.proofs.leaf_failed.Statement.{statement}
+use Rattle.insert.proofs.leaf_failed.Tie as tie
+use Rattle.insert.proofs.Ways.{try-failed}
+
+next-tries-requires : tie.Need-next-tries-requires
+next-tries-requires c κs = search needs
+
+with-search-requires : tie.Need-with-search-requires
+with-search-requires c κs = search needs
+
+with-first-requires : tie.Need-with-first-requires
+with-first-requires c κs = search needs
+
+failed-place-requires : tie.Need-failed-place-requires
+failed-place-requires c κs = search needs
+
+on-to-requires : tie.Need-on-to-requires
+on-to-requires c κs = search needs
+
+returns : tie.Need-returns
+returns c = search try-failed
+
+pub leaf-failed-spec : {M : Type 1} → statement M
+leaf-failed-spec =
+    tie.close
+    (tie.spec
+    next-tries-requires
+    with-search-requires
+    with-first-requires
+    failed-place-requires
+    on-to-requires
+    returns)

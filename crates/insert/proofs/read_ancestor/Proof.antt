@@ -1,0 +1,38 @@
+-- `insert::read_ancestor` meets its contract: there is a middle level, or the turn is refused. Assumes nothing.
+use borrow.Author.Needs.{needs}
+use Rattle.insert.proofs.read_ancestor.Statement.{statement}
+use Rattle.insert.proofs.read_ancestor.Tie as tie
+use Rattle.insert.proofs.Ways.{no-middle, middle-most, middle-read}
+
+middle-level-requires : tie.Need-middle-level-requires
+middle-level-requires c κs = search needs
+
+refused-requires : tie.Need-refused-requires
+refused-requires c κs = search needs
+
+returns : tie.Need-returns
+returns c = search no-middle
+
+ancestor-at-requires : tie.Need-ancestor-at-requires
+ancestor-at-requires c κs = search needs
+
+read-node-requires : tie.Need-read-node-requires
+read-node-requires c κs = search needs
+
+ancestor-read-requires : tie.Need-ancestor-read-requires
+ancestor-read-requires c κs = search middle-most
+
+returns-2 : tie.Need-returns-2
+returns-2 c = search middle-read
+
+pub read-ancestor-spec : {M : Type 1} → statement M
+read-ancestor-spec =
+    tie.close
+    (tie.spec
+    middle-level-requires
+    refused-requires
+    returns
+    ancestor-at-requires
+    read-node-requires
+    ancestor-read-requires
+    returns-2)

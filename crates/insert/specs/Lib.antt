@@ -1,0 +1,2 @@
+-- The eight places of a put.
+pub mod Insert

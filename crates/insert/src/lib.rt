@@ -1,0 +1,292 @@
+// The eight places of a put, I1 to I8: each decides a plan and changes nothing itself.
+ghost use mathlib.Core.Path.{_≡_};
+ghost use Prim.Native.Nat.{_≤_};
+ghost use lib.ListN.{length};
+ghost use Rattle.region.specs.Frame.{Within};
+ghost use Rattle.region.specs.Shared.{sharedIn};
+ghost use Rattle.insert.specs.Insert.{ancestorRead, bothSame, failedPlace, growDepth, insertAt, insertAtRoot, insertBelow, leafFailed, leafOf, leafRead, middleLevel, nextTries, readAncestor, readDepth, readLeaf, readParent, readTarget, searchOn, targetPlace};
+use access::Effect;
+use access::Plan;
+use region::Answer;
+use region::COUNTER_SPENT;
+use region::Frame;
+use region::NodeCopy;
+use region::Place;
+use region::Search;
+use region::Shape;
+use region::Thread;
+use region::UNREADABLE;
+
+// I1
+pub fn read_depth(f: Frame, b: &[u8], t: Thread) -> Plan
+    requires { ⌜ Within f (length (now b)) ⌝ }
+    ensures { λ r. ⌜ r ≡ readDepth (sharedIn f (now (b .entry))) t ⌝ }
+{
+    let depth = f.load_depth(b);
+    let old = t.search;
+    let search = Search { tries: 0, ..old };
+    access::on_to(t.with_depth(depth).with_search(search), Place::ReadLeaf)
+}
+
+// The search goes on, or the insertion point is found; before is the thread's record to keep if refused.
+fn search_on(before: Thread, t: Thread) -> Plan
+    ensures { λ r. ⌜ r ≡ searchOn before t ⌝ }
+{
+    let leaf = t.search.leaf;
+    let hi = t.search.hi;
+    if t.search.lo < hi {
+        return access::on_to(t, Place::ReadAncestor);
+    }
+    if !region::is_between(1, hi, region::level_of(leaf)) {
+        return access::refused(before, UNREADABLE);
+    }
+    access::on_to(
+        t.with_node(region::ancestor_at(leaf, hi)),
+        Place::ReadTarget,
+    )
+}
+
+// The leaf that a choice names at depth d.
+fn leaf_of(d: u32, choice: u32) -> u32
+    requires { ⌜ (1 ≤ d) × (d ≤ 12) ⌝ }
+    ensures { λ r. ⌜ r ≡ leafOf d choice ⌝ }
+{
+    let leaves = region::mark_of(d);
+    leaves + choice % leaves
+}
+
+// The tries after one more, at most the threshold.
+fn next_tries(shape: Shape, t: Thread) -> u32
+    ensures { λ r. ⌜ r ≡ nextTries shape t ⌝ }
+{
+    let tries = t.search.tries;
+    if tries < shape.threshold {
+        return tries + 1;
+    }
+    shape.threshold
+}
+
+// The place after a leaf whose value is below the item.
+fn failed_place(shape: Shape, t: Thread) -> Place
+    ensures { λ r. ⌜ r ≡ failedPlace shape t ⌝ }
+{
+    if next_tries(shape, t) < shape.threshold {
+        return Place::ReadLeaf;
+    }
+    if t.depth < shape.depth {
+        return Place::GrowDepth;
+    }
+    Place::ReadDepth
+}
+
+// The leaf's value is below the item.
+fn leaf_failed(shape: Shape, t: Thread, leaf: u32, q: NodeCopy) -> Plan
+    ensures { λ r. ⌜ r ≡ leafFailed shape t leaf q ⌝ }
+{
+    let old = t.search;
+    let search = Search {
+        leaf,
+        tries: next_tries(shape, t),
+        lo: old.lo,
+        hi: old.hi,
+    };
+    access::on_to(t.with_search(search).with_first(q), failed_place(shape, t))
+}
+
+// The leaf was read: the search begins, or the try failed.
+fn leaf_read(shape: Shape, t: Thread, leaf: u32, q: NodeCopy) -> Plan
+    ensures { λ r. ⌜ r ≡ leafRead shape t leaf q ⌝ }
+{
+    if !access::item_le(t.item, access::value_of(q)) {
+        return leaf_failed(shape, t, leaf, q);
+    }
+    let search = Search {
+        leaf,
+        tries: t.search.tries,
+        lo: 1,
+        hi: t.depth,
+    };
+    search_on(t, t.with_search(search).with_first(q))
+}
+
+// I2
+pub fn read_leaf(f: Frame, b: &[u8], t: Thread, choice: u32) -> Plan
+    requires { ⌜ Within f (length (now b)) ⌝ }
+    ensures { λ r. ⌜ r ≡ readLeaf (f .shape) (sharedIn f (now (b .entry))) t choice ⌝ }
+{
+    let shape = f.shape;
+    if !access::is_level(shape, t.depth) {
+        return access::refused(t, UNREADABLE);
+    }
+    let leaf = leaf_of(t.depth, choice);
+    leaf_read(shape, t, leaf, access::read_node(f, b, leaf))
+}
+
+// The ancestor at this level was read: one of the levels between which the search looks moves.
+fn ancestor_read(t: Thread, middle: u32, q: NodeCopy) -> Plan
+    requires { ⌜ middle ≤ 32 ⌝ }
+    ensures { λ r. ⌜ r ≡ ancestorRead t middle q ⌝ }
+{
+    let old = t.search;
+    if access::item_le(t.item, access::value_of(q)) {
+        let search = Search { hi: middle, ..old };
+        return search_on(t, t.with_search(search).with_first(q));
+    }
+    let search = Search {
+        lo: middle + 1,
+        ..old
+    };
+    search_on(t, t.with_search(search).with_first(q))
+}
+
+// The level in the middle of the search, 0 where there is none.
+fn middle_level(t: Thread) -> u32
+    ensures { λ r. ⌜ r ≡ middleLevel t ⌝ }
+{
+    let lo = t.search.lo as usize;
+    let hi = t.search.hi as usize;
+    if hi <= lo {
+        return 0;
+    }
+    let middle = (lo + hi) / 2;
+    if (region::level_of(t.search.leaf) as usize) < middle {
+        return 0;
+    }
+    middle as u32
+}
+
+// I3
+pub fn read_ancestor(f: Frame, b: &[u8], t: Thread) -> Plan
+    requires { ⌜ Within f (length (now b)) ⌝ }
+    ensures { λ r. ⌜ r ≡ readAncestor (sharedIn f (now (b .entry))) t ⌝ }
+{
+    let middle = middle_level(t);
+    if middle == 0 {
+        return access::refused(t, UNREADABLE);
+    }
+    let node = region::ancestor_at(t.search.leaf, middle);
+    ancestor_read(t, middle, access::read_node(f, b, node))
+}
+
+// I4
+pub fn grow_depth(f: Frame, b: &[u8], t: Thread) -> Plan
+    requires { ⌜ Within f (length (now b)) ⌝ }
+    ensures { λ r. ⌜ r ≡ growDepth (f .shape) (sharedIn f (now (b .entry))) t ⌝ }
+{
+    let shape = f.shape;
+    let d = t.depth;
+    if !access::is_level(shape, d) {
+        return access::refused(t, UNREADABLE);
+    }
+    if !access::is_level(shape, d + 1) {
+        return access::refused(t, UNREADABLE);
+    }
+    if f.load_depth(b) == d {
+        return access::plan_of(
+            Effect::Grow(d + 1),
+            t.at_place(Place::ReadDepth),
+            Answer::Moved,
+        );
+    }
+    access::on_to(t, Place::ReadDepth)
+}
+
+// The place after reading the node to insert at.
+fn target_place(t: Thread, q: NodeCopy) -> Place
+    ensures { λ r. ⌜ r ≡ targetPlace t q ⌝ }
+{
+    if access::item_lt(access::value_of(q), t.item) {
+        return Place::ReadDepth;
+    }
+    if t.node == 1 {
+        return Place::InsertAtRoot;
+    }
+    Place::ReadParent
+}
+
+// I5
+pub fn read_target(f: Frame, b: &[u8], t: Thread) -> Plan
+    requires { ⌜ Within f (length (now b)) ⌝ }
+    ensures { λ r. ⌜ r ≡ readTarget (sharedIn f (now (b .entry))) t ⌝ }
+{
+    if t.node == 0 {
+        return access::refused(t, UNREADABLE);
+    }
+    let q = access::read_node(f, b, t.node);
+    access::on_to(t.with_first(q), target_place(t, q))
+}
+
+// The update of I6 and I8 at node n, where its comparison came out so.
+fn insert_at(t: Thread, n: u32, holds: bool) -> Plan
+    ensures { λ r. ⌜ r ≡ insertAt t n holds ⌝ }
+{
+    if !holds {
+        return access::on_to(t, Place::ReadDepth);
+    }
+    let node = t.copies.first.node;
+    if access::is_spent(node) {
+        return access::refused(t, COUNTER_SPENT);
+    }
+    let effect = Effect::Push {
+        node: n,
+        value: access::updated_node(node, t.own, node.dirty),
+        cell: t.own,
+        next: node.first,
+    };
+    access::plan_of(effect, t.gone_idle(), Answer::Inserted)
+}
+
+// I6
+pub fn insert_at_root(f: Frame, b: &[u8], t: Thread) -> Plan
+    requires { ⌜ Within f (length (now b)) ⌝ }
+    ensures { λ r. ⌜ r ≡ insertAtRoot (sharedIn f (now (b .entry))) t ⌝ }
+{
+    if t.own == 0 {
+        return access::refused(t, UNREADABLE);
+    }
+    insert_at(
+        t,
+        1,
+        access::same_node(f.load_node(b, 1), t.copies.first.node),
+    )
+}
+
+// I7
+pub fn read_parent(f: Frame, b: &[u8], t: Thread) -> Plan
+    requires { ⌜ Within f (length (now b)) ⌝ }
+    ensures { λ r. ⌜ r ≡ readParent (sharedIn f (now (b .entry))) t ⌝ }
+{
+    if t.node < 2 {
+        return access::refused(t, UNREADABLE);
+    }
+    let q = access::read_node(f, b, t.node / 2);
+    if access::item_lt(t.item, access::value_of(q)) {
+        return access::on_to(t.with_second(q), Place::ReadDepth);
+    }
+    access::on_to(t.with_second(q), Place::InsertBelow)
+}
+
+// Whether the node and its parent are as they were copied.
+fn both_same(f: Frame, b: &[u8], t: Thread) -> bool
+    requires { ⌜ Within f (length (now b)) ⌝ }
+    ensures { λ r. ⌜ r ≡ bothSame (sharedIn f (now (b .entry))) t ⌝ }
+{
+    if !access::same_node(f.load_node(b, t.node), t.copies.first.node) {
+        return false;
+    }
+    access::same_node(f.load_node(b, t.node / 2), t.copies.second.node)
+}
+
+// I8
+pub fn insert_below(f: Frame, b: &[u8], t: Thread) -> Plan
+    requires { ⌜ Within f (length (now b)) ⌝ }
+    ensures { λ r. ⌜ r ≡ insertBelow (sharedIn f (now (b .entry))) t ⌝ }
+{
+    if t.node < 2 {
+        return access::refused(t, UNREADABLE);
+    }
+    if t.own == 0 {
+        return access::refused(t, UNREADABLE);
+    }
+    insert_at(t, t.node, both_same(f, b, t))
+}

@@ -1,0 +1,97 @@
+-- Beginning a put and a take on a whole region (document 01, The sixteen places and the refusals).
+use Prim.Native.Nat.{ℕ, _/_, _%_}
+use mathlib.Core.Path.{_≡_}
+use mathlib.Core.Bool.{Bool, _&&_}
+use mathlib.Core.List.{List}
+use lib.Dec.{leb, eqb}
+use Rattle.words.specs.Word.{word, setWord}
+use Rattle.region.specs.Answer.{done, badThread, badItem, unreadable, notPermitted, threadBusy, noFreeCell}
+use Rattle.region.specs.Frame.{frameOf}
+use Rattle.region.specs.Pick.{pick}
+use Rattle.region.specs.Place.{placeNumber}
+use Rattle.region.specs.Shape.{between}
+use Rattle.region.specs.Shared.{cellIn, setCellIn, threadIn, setThreadIn}
+use Rattle.region.specs.Thread.{begunPut, begunTake}
+use Rattle.region.specs.declared.frame.Frame.{Frame}
+use Rattle.region.specs.declared.record.Item.{Item}
+use Rattle.region.specs.declared.thread.Thread.{Thread}
+use Rattle.readable.specs.Readable.{readable, shapeIn}
+
+-- the frame of a region that holds one queue
+abbrev pub frameIn : List ℕ → Frame
+frameIn b = frameOf (shapeIn b)
+
+-- "bit 0 put, bit 1 take; 0 is the empty list and grants nothing"
+unfoldable pub mayPut : Thread → Bool
+mayPut t = eqb (t .permission % 2) 1
+
+unfoldable pub mayTake : Thread → Bool
+mayTake t = eqb (t .permission / 2 % 2) 1
+
+unfoldable pub isIdle : Thread → Bool
+isIdle t = eqb (placeNumber (t .place)) 0
+
+-- "Keys are 0 to 4,294,967,294.", "Tags are 0 to 65,535."
+unfoldable pub isItem : Item → Bool
+isItem i = leb (i .key) 4294967294 && leb (i .tag) 65535
+
+-- 9 and 10, behind the permission
+unfoldable pub putBusy : Frame → List ℕ → Thread → ℕ
+putBusy f b t = pick (isIdle t) (pick (eqb (word b (f .free)) 0) noFreeCell done) threadBusy
+
+-- "Put 7, 3, 4, 8, 9, 10."
+unfoldable pub putRefusal : List ℕ → ℕ → Item → ℕ
+unfolding putBusy
+putRefusal b t i =
+    pick
+    (readable b)
+    (pick
+    (between 1 t (shapeIn b .threads))
+    (pick
+    (isItem i)
+    (pick (mayPut (threadIn (frameIn b) b t)) (putBusy (frameIn b) b (threadIn (frameIn b) b t)) notPermitted)
+    badItem)
+    badThread)
+    unreadable
+
+-- "Own cell is the first free one; key and tag are written in it, next 0": it leaves the chain
+unfoldable pub putBegun : Frame → List ℕ → ℕ → Item → List ℕ
+putBegun f b t i =
+    setThreadIn f
+    (setCellIn f
+    (setWord b (f .free) (cellIn f b (word b (f .free)) .next))
+    (word b (f .free))
+    (record { item = i; next = 0 }))
+    t
+    (begunPut (threadIn f b t) i (word b (f .free)))
+
+unfoldable pub putBytes : List ℕ → ℕ → Item → List ℕ
+unfolding putBegun
+putBytes b t i = pick (eqb (putRefusal b t i) done) (putBegun (frameIn b) b t i) b
+
+-- "Take 7, 3, 8, 9."
+unfoldable pub takeRefusal : List ℕ → ℕ → ℕ
+takeRefusal b t =
+    pick
+    (readable b)
+    (pick
+    (between 1 t (shapeIn b .threads))
+    (pick (mayTake (threadIn (frameIn b) b t)) (pick (isIdle (threadIn (frameIn b) b t)) done threadBusy) notPermitted)
+    badThread)
+    unreadable
+
+unfoldable pub takeBytes : List ℕ → ℕ → List ℕ
+takeBytes b t =
+    pick
+    (eqb (takeRefusal b t) done)
+    (setThreadIn (frameIn b) b t (begunTake (threadIn (frameIn b) b t)))
+    b
+
+-- what the calls answer and leave
+pub record PutBegun (b b′ : List ℕ) (t : ℕ) (i : Item) (r : ℕ) : Type 0 where
+  pub answer : r ≡ putRefusal b t i
+  pub bytes : b′ ≡ putBytes b t i
+
+pub record TakeBegun (b b′ : List ℕ) (t r : ℕ) : Type 0 where
+  pub answer : r ≡ takeRefusal b t
+  pub bytes : b′ ≡ takeBytes b t

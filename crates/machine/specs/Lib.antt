@@ -1,0 +1,3 @@
+-- One turn and the two beginnings, on a region's bytes.
+pub mod Begin
+pub mod Turn

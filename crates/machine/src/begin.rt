@@ -1,0 +1,141 @@
+// Beginning a put and a take: calls on a whole region, which refuse what they cannot begin and then change no byte.
+ghost use mathlib.Core.Path.{_≡_};
+ghost use lib.ListN.{length};
+ghost use Rattle.region.specs.Frame.{Within};
+ghost use Rattle.machine.specs.Begin.{PutBegun, TakeBegun, isIdle, isItem, mayPut, mayTake, putBegun, putBusy, putRefusal, takeRefusal};
+
+use region::BAD_ITEM;
+use region::BAD_THREAD;
+use region::Cell;
+use region::DONE;
+use region::Frame;
+use region::Item;
+use region::NOT_PERMITTED;
+use region::NO_FREE_CELL;
+use region::THREAD_BUSY;
+use region::Thread;
+use region::UNREADABLE;
+
+fn may_put(t: Thread) -> bool
+    ensures { λ r. ⌜ r ≡ mayPut t ⌝ }
+{
+    t.permission % 2 == 1
+}
+
+fn may_take(t: Thread) -> bool
+    ensures { λ r. ⌜ r ≡ mayTake t ⌝ }
+{
+    t.permission / 2 % 2 == 1
+}
+
+fn is_idle(t: Thread) -> bool
+    ensures { λ r. ⌜ r ≡ isIdle t ⌝ }
+{
+    let place = t.place;
+    place.number() == 0
+}
+
+fn is_item(i: Item) -> bool
+    ensures { λ r. ⌜ r ≡ isItem i ⌝ }
+{
+    if 4294967294 < i.key {
+        return false;
+    }
+    i.tag <= 65535
+}
+
+// Refusals 9 and 10 of a put.
+fn put_busy(f: Frame, b: &[u8], t: Thread) -> u32
+    requires { ⌜ Within f (length (now b)) ⌝ }
+    ensures { λ r. ⌜ r ≡ putBusy f (now (b .entry)) t ⌝ }
+{
+    if !is_idle(t) {
+        return THREAD_BUSY;
+    }
+    if f.load_free(b) == 0 {
+        return NO_FREE_CELL;
+    }
+    DONE
+}
+
+// The refusal of a put, or done.
+fn put_refusal(b: &[u8], thread: u32, item: Item) -> u32
+    ensures { λ r. ⌜ r ≡ putRefusal (now (b .entry)) thread item ⌝ }
+{
+    if !readable::is_readable(b) {
+        return UNREADABLE;
+    }
+    let f = readable::frame_of(b);
+    let shape = f.shape;
+    if !region::is_between(1, thread, shape.threads) {
+        return BAD_THREAD;
+    }
+    if !is_item(item) {
+        return BAD_ITEM;
+    }
+    let t = f.load_thread(b, thread);
+    if !may_put(t) {
+        return NOT_PERMITTED;
+    }
+    put_busy(f, b, t)
+}
+
+// Takes the first free cell from the chain and begins the put with it.
+fn put_begun(f: Frame, b: &mut [u8], thread: u32, item: Item)
+    requires { ⌜ Within f (length (now b)) ⌝ }
+    ensures { λ r. ⌜ now (b .exit) ≡ putBegun f (now (b .entry)) thread item ⌝ }
+{
+    let own = f.load_free(b);
+    let cell = f.load_cell(b, own);
+    let t = f.load_thread(b, thread);
+    f.store_free(b, cell.next);
+    f.store_cell(b, own, Cell { item, next: 0 });
+    f.store_thread(b, thread, t.begun_put(item, own));
+}
+
+// Begins a put of item by a thread: 0 if begun, else the refusal (7, 3, 4, 8, 9, 10).
+pub fn begin_put(b: &mut [u8], thread: u32, item: Item) -> u32
+    ensures { λ r. ⌜ PutBegun (now (b .entry)) (now (b .exit)) thread item r ⌝ }
+{
+    let refused = put_refusal(b, thread, item);
+    if refused == DONE {
+        let f = readable::frame_of(b);
+        put_begun(f, b, thread, item);
+    }
+    refused
+}
+
+// The refusal of a take, or done.
+fn take_refusal(b: &[u8], thread: u32) -> u32
+    ensures { λ r. ⌜ r ≡ takeRefusal (now (b .entry)) thread ⌝ }
+{
+    if !readable::is_readable(b) {
+        return UNREADABLE;
+    }
+    let f = readable::frame_of(b);
+    let shape = f.shape;
+    if !region::is_between(1, thread, shape.threads) {
+        return BAD_THREAD;
+    }
+    let t = f.load_thread(b, thread);
+    if !may_take(t) {
+        return NOT_PERMITTED;
+    }
+    if !is_idle(t) {
+        return THREAD_BUSY;
+    }
+    DONE
+}
+
+// Begins a take by a thread: 0 if begun, else the refusal (7, 3, 8, 9).
+pub fn begin_take(b: &mut [u8], thread: u32) -> u32
+    ensures { λ r. ⌜ TakeBegun (now (b .entry)) (now (b .exit)) thread r ⌝ }
+{
+    let refused = take_refusal(b, thread);
+    if refused == DONE {
+        let f = readable::frame_of(b);
+        let t = f.load_thread(b, thread);
+        f.store_thread(b, thread, t.begun_take());
+    }
+    refused
+}

@@ -1,0 +1,2 @@
+-- The ways out of the functions of `moundify`.
+mod Ways

@@ -1,0 +1,2 @@
+-- The six places of mending.
+pub mod Moundify

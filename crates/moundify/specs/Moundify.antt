@@ -1,0 +1,150 @@
+-- The places of mending n, M1 to M6 (document 01, The sixteen places; Listing 1, moundify, lines 32 to 56). n is the thread's node, w the
+-- waiting levels that its place carries.
+use Prim.Native.Nat.{ℕ, _+_, _*_, _^_, _≤_, _<_}
+use mathlib.Core.Bool.{Bool, not, _&&_, _||_}
+use lib.Dec.{ltb, eqb}
+use Rattle.region.specs.Answer.{unreadable, counterSpent}
+use Rattle.region.specs.Level.{level, mark}
+use Rattle.region.specs.Pick.{pick}
+use Rattle.region.specs.Shared.{Shared}
+use Rattle.region.specs.Thread.{mending, returned, withDepth, withFirst, withSecond, withThird}
+use Rattle.region.specs.declared.answer.Answer.{Answer}
+use Rattle.region.specs.declared.answer.Answer.the-variants.{Moved, Took}
+use Rattle.region.specs.declared.place.Place.the-variants.{MendReadNode, MendReadDepth, MendReadLeft, MendReadRight, MendSwap, MendClean}
+use Rattle.region.specs.declared.record.NodeCopy.{NodeCopy}
+use Rattle.region.specs.declared.shape.Shape.{Shape}
+use Rattle.region.specs.declared.thread.Thread.{Thread}
+use Rattle.access.specs.Order.{itemLe, itemLt, valueOf}
+use Rattle.access.specs.Plan.{plan, moved, onTo, refused}
+use Rattle.access.specs.Read.{isDirty, isNode, isSpent, readNode, sameNode, updated}
+use Rattle.access.specs.declared.effect.Effect.{Effect}
+use Rattle.access.specs.declared.effect.Effect.the-variants.{Nothing, Exchange, Clean}
+use Rattle.access.specs.declared.plan.Plan.{Plan}
+
+-- "Return: .. if none waits, by after": what the turn that returns answers
+unfoldable pub returnAnswer : Thread → ℕ → Answer
+returnAnswer t w = pick (eqb w 0 && not (eqb (t .after) 0)) (Took (t .result)) Moved
+
+unfoldable pub returning : Effect → Thread → ℕ → Plan
+unfolding returnAnswer
+returning e t w = plan e (returned t w) (returnAnswer t w)
+
+-- M1 "READ n." (line 33); node 0 is refused 7, here and below
+unfoldable pub mendReadNode : Shared → Thread → ℕ → Plan
+mendReadNode m t w =
+    pick (eqb (t .node) 0) (refused t unreadable) (onTo (withFirst t (readNode m (t .node))) (MendReadDepth w))
+
+-- "clean returns; level d goes to M6; else M3" (lines 35 and 36)
+unfoldable pub depthRead : Thread → ℕ → ℕ → Plan
+unfolding returning
+depthRead t d w =
+    pick
+    (isDirty (t .copies .first .node))
+    (pick (eqb (level (t .node)) d) (onTo (withDepth t d) (MendClean w)) (onTo (withDepth t d) (MendReadLeft w)))
+    (returning Nothing (withDepth t d) w)
+
+-- M2 "READ depth into d" (line 34)
+unfoldable pub mendReadDepth : Shared → Thread → ℕ → Plan
+unfolding depthRead
+mendReadDepth m t w = pick (eqb (t .node) 0) (refused t unreadable) (depthRead t (m .depth) w)
+
+-- M3 "READ 2n." (line 37); a child not in the tree is refused 7, here and below
+unfoldable pub mendReadLeft : Shape → Shared → Thread → ℕ → Plan
+mendReadLeft s m t w =
+    pick
+    (isNode s (2 * t .node))
+    (onTo (withSecond t (readNode m (2 * t .node))) (MendReadRight w))
+    (refused t unreadable)
+
+-- "n's level waits": its mark joins those of the levels above
+unfoldable pub marked : ℕ → ℕ → ℕ
+marked w j = pick (ltb w (mark j)) (w + mark j) w
+
+-- "left val ≤ right val and < n's val, or right val < left val and < n's val" (lines 45 and 50)
+unfoldable pub childLess : Thread → Bool
+childLess t =
+    (itemLe (valueOf (t .copies .second)) (valueOf (t .copies .third))
+    && itemLt (valueOf (t .copies .second)) (valueOf (t .copies .first)))
+    || (itemLt (valueOf (t .copies .third)) (valueOf (t .copies .second))
+    && itemLt (valueOf (t .copies .third)) (valueOf (t .copies .first)))
+
+-- "left dirty, n's level waits, mend 2n; else right dirty likewise; else .. M5; else M6" (lines 39 to 56)
+unfoldable pub childrenRead : Thread → ℕ → Plan
+unfolding marked childLess
+childrenRead t w =
+    pick
+    (isDirty (t .copies .second .node))
+    (moved (mending t (2 * t .node) (marked w (level (t .node)))))
+    (pick
+    (isDirty (t .copies .third .node))
+    (moved (mending t (2 * t .node + 1) (marked w (level (t .node)))))
+    (pick (childLess t) (onTo t (MendSwap w)) (onTo t (MendClean w))))
+
+-- M4 "READ 2n + 1" (line 38)
+unfoldable pub mendReadRight : Shape → Shared → Thread → ℕ → Plan
+unfolding childrenRead
+mendReadRight s m t w =
+    pick
+    (not (eqb (t .node) 0) && isNode s (2 * t .node + 1))
+    (childrenRead (withThird t (readNode m (2 * t .node + 1))) w)
+    (refused t unreadable)
+
+-- "n gets the child's list, clean; the child gets n's list, dirty. Success: mend the child. Failure: M1." q is the child's copy, c its
+-- number; where its comparison came out so (lines 46 to 54)
+unfoldable pub exchangeAt : Thread → ℕ → ℕ → NodeCopy → Bool → Plan
+exchangeAt t w c q holds =
+    pick
+    holds
+    (pick
+    (isSpent (t .copies .first .node) || isSpent (q .node))
+    (refused t counterSpent)
+    (plan
+    (Exchange (t .node) (updated (t .copies .first .node) (q .node .first) 0) c (updated (q .node) (t .copies .first .node .first) 1))
+    (mending t c w)
+    Moved))
+    (onTo t (MendReadNode w))
+
+-- both nodes of the DCAS equal their copies
+unfoldable pub bothSame : Shared → Thread → ℕ → NodeCopy → Bool
+bothSame m t c q = sameNode (m .node (t .node)) (t .copies .first .node) && sameNode (m .node c) (q .node)
+
+-- DCAS of n and its child c
+unfoldable pub exchangeWith : Shape → Shared → Thread → ℕ → ℕ → NodeCopy → Plan
+unfolding exchangeAt bothSame
+exchangeWith s m t w c q =
+    pick
+    (not (eqb (t .node) 0) && isNode s c)
+    (exchangeAt t w c q (bothSame m t c q))
+    (refused t unreadable)
+
+-- M5 "DCAS (left child if left val ≤ right val, else right)"
+unfoldable pub mendSwap : Shape → Shared → Thread → ℕ → Plan
+unfolding exchangeWith
+mendSwap s m t w =
+    pick
+    (itemLe (valueOf (t .copies .second)) (valueOf (t .copies .third)))
+    (exchangeWith s m t w (2 * t .node) (t .copies .second))
+    (exchangeWith s m t w (2 * t .node + 1) (t .copies .third))
+
+-- n becomes clean, and the mending returns
+unfoldable pub cleanAt : Thread → ℕ → Plan
+unfolding returning
+cleanAt t w =
+    pick
+    (isSpent (t .copies .first .node))
+    (refused t counterSpent)
+    (returning (Clean (t .node) (updated (t .copies .first .node) (t .copies .first .node .first) 0)) t w)
+
+-- M6 "CAS n to clean. Success returns. Failure: M1." (line 56, and line 36 as corrected)
+unfoldable pub mendClean : Shared → Thread → ℕ → Plan
+unfolding cleanAt
+mendClean m t w =
+    pick
+    (eqb (t .node) 0)
+    (refused t unreadable)
+    (pick (sameNode (m .node (t .node)) (t .copies .first .node)) (cleanAt t w) (onTo t (MendReadNode w)))
+
+-- what M4's local work asks of its node: it exists, and its right child's number fits a word
+pub record ChildrenAsked (t : Thread) : Type 0 where
+  pub some : 1 ≤ t .node
+  pub few : 2 * t .node + 1 < 2 ^ 32

@@ -1,0 +1,241 @@
+// The six places of mending, M1 to M6: each decides a plan and changes nothing itself. w are the levels that wait.
+ghost use mathlib.Core.Path.{_≡_};
+ghost use Prim.Native.Nat.{_≤_};
+ghost use lib.ListN.{length};
+ghost use Rattle.region.specs.Frame.{Within};
+ghost use Rattle.region.specs.Shared.{sharedIn};
+ghost use Rattle.moundify.specs.Moundify.{ChildrenAsked, bothSame, childLess, childrenRead, cleanAt, depthRead, exchangeAt, exchangeWith, marked, mendClean, mendReadDepth, mendReadLeft, mendReadNode, mendReadRight, mendSwap, returnAnswer, returning};
+
+use access::Effect;
+use access::Plan;
+use region::Answer;
+use region::COUNTER_SPENT;
+use region::Frame;
+use region::NodeCopy;
+use region::Place;
+use region::Thread;
+use region::UNREADABLE;
+
+// What the turn that returns from mending answers.
+fn return_answer(t: Thread, w: u32) -> Answer
+    ensures { λ r. ⌜ r ≡ returnAnswer t w ⌝ }
+{
+    if w != 0 {
+        return Answer::Moved;
+    }
+    if t.after == 0 {
+        return Answer::Moved;
+    }
+    let result = t.result;
+    Answer::Took(result)
+}
+
+// The return from mending, after an effect.
+fn returning(effect: Effect, t: Thread, w: u32) -> Plan
+    ensures { λ r. ⌜ r ≡ returning effect t w ⌝ }
+{
+    access::plan_of(effect, t.returned(w), return_answer(t, w))
+}
+
+// M1
+pub fn mend_read_node(f: Frame, b: &[u8], t: Thread, w: u32) -> Plan
+    requires { ⌜ Within f (length (now b)) ⌝ }
+    ensures { λ r. ⌜ r ≡ mendReadNode (sharedIn f (now (b .entry))) t w ⌝ }
+{
+    if t.node == 0 {
+        return access::refused(t, UNREADABLE);
+    }
+    let q = access::read_node(f, b, t.node);
+    access::on_to(t.with_first(q), Place::MendReadDepth(w))
+}
+
+// The depth was read: the node is clean, at the tree's last level, or above it.
+fn depth_read(t: Thread, d: u32, w: u32) -> Plan
+    ensures { λ r. ⌜ r ≡ depthRead t d w ⌝ }
+{
+    let kept = t.with_depth(d);
+    if !access::is_dirty(t.copies.first.node) {
+        return returning(Effect::Nothing, kept, w);
+    }
+    if region::level_of(t.node) == d {
+        return access::on_to(kept, Place::MendClean(w));
+    }
+    access::on_to(kept, Place::MendReadLeft(w))
+}
+
+// M2
+pub fn mend_read_depth(f: Frame, b: &[u8], t: Thread, w: u32) -> Plan
+    requires { ⌜ Within f (length (now b)) ⌝ }
+    ensures { λ r. ⌜ r ≡ mendReadDepth (sharedIn f (now (b .entry))) t w ⌝ }
+{
+    if t.node == 0 {
+        return access::refused(t, UNREADABLE);
+    }
+    depth_read(t, f.load_depth(b), w)
+}
+
+// M3
+pub fn mend_read_left(f: Frame, b: &[u8], t: Thread, w: u32) -> Plan
+    requires { ⌜ Within f (length (now b)) ⌝ }
+    ensures { λ r. ⌜ r ≡ mendReadLeft (f .shape) (sharedIn f (now (b .entry))) t w ⌝ }
+{
+    let left = 2 * (t.node as usize);
+    if !access::is_node(f.shape, left) {
+        return access::refused(t, UNREADABLE);
+    }
+    let q = access::read_node(f, b, left as u32);
+    access::on_to(t.with_second(q), Place::MendReadRight(w))
+}
+
+// The waiting levels w with level j.
+fn marked(w: u32, j: u32) -> u32
+    requires { ⌜ (1 ≤ j) × (j ≤ 32) ⌝ }
+    ensures { λ r. ⌜ r ≡ marked w j ⌝ }
+{
+    let mark = region::mark_of(j);
+    if w < mark {
+        return w + mark;
+    }
+    w
+}
+
+// Whether the lesser child is less than the node.
+fn child_less(t: Thread) -> bool
+    ensures { λ r. ⌜ r ≡ childLess t ⌝ }
+{
+    let node = access::value_of(t.copies.first);
+    let left = access::value_of(t.copies.second);
+    let right = access::value_of(t.copies.third);
+    if access::item_le(left, right) {
+        return access::item_lt(left, node);
+    }
+    access::item_lt(right, node)
+}
+
+// The children were read: one is dirty and is mended first, or one is less, or the node may be cleaned.
+fn children_read(t: Thread, w: u32) -> Plan
+    requires { ⌜ ChildrenAsked t ⌝ }
+    ensures { λ r. ⌜ r ≡ childrenRead t w ⌝ }
+{
+    if access::is_dirty(t.copies.second.node) {
+        let waiting = marked(w, region::level_of(t.node));
+        return access::moved(t.mending(2 * t.node, waiting));
+    }
+    if access::is_dirty(t.copies.third.node) {
+        let waiting = marked(w, region::level_of(t.node));
+        return access::moved(t.mending(2 * t.node + 1, waiting));
+    }
+    if child_less(t) {
+        return access::on_to(t, Place::MendSwap(w));
+    }
+    access::on_to(t, Place::MendClean(w))
+}
+
+// M4
+pub fn mend_read_right(f: Frame, b: &[u8], t: Thread, w: u32) -> Plan
+    requires { ⌜ Within f (length (now b)) ⌝ }
+    ensures { λ r. ⌜ r ≡ mendReadRight (f .shape) (sharedIn f (now (b .entry))) t w ⌝ }
+{
+    if t.node == 0 {
+        return access::refused(t, UNREADABLE);
+    }
+    let right = 2 * (t.node as usize) + 1;
+    if !access::is_node(f.shape, right) {
+        return access::refused(t, UNREADABLE);
+    }
+    let q = access::read_node(f, b, right as u32);
+    children_read(t.with_third(q), w)
+}
+
+// The exchange of the node's list and its child's, where the comparison came out so.
+fn exchange_at(t: Thread, w: u32, c: u32, q: NodeCopy, holds: bool) -> Plan
+    ensures { λ r. ⌜ r ≡ exchangeAt t w c q holds ⌝ }
+{
+    if !holds {
+        return access::on_to(t, Place::MendReadNode(w));
+    }
+    let n = t.copies.first.node;
+    let k = q.node;
+    if access::is_spent(n) {
+        return access::refused(t, COUNTER_SPENT);
+    }
+    if access::is_spent(k) {
+        return access::refused(t, COUNTER_SPENT);
+    }
+    let effect = Effect::Exchange {
+        node: t.node,
+        value: access::updated_node(n, k.first, 0),
+        child: c,
+        below: access::updated_node(k, n.first, 1),
+    };
+    access::plan_of(effect, t.mending(c, w), Answer::Moved)
+}
+
+// Whether the node and the child are as they were copied.
+fn both_same(f: Frame, b: &[u8], t: Thread, c: u32, q: NodeCopy) -> bool
+    requires { ⌜ Within f (length (now b)) ⌝ }
+    ensures { λ r. ⌜ r ≡ bothSame (sharedIn f (now (b .entry))) t c q ⌝ }
+{
+    if !access::same_node(f.load_node(b, t.node), t.copies.first.node) {
+        return false;
+    }
+    access::same_node(f.load_node(b, c), q.node)
+}
+
+// DCAS of the node and its child.
+fn exchange_with(f: Frame, b: &[u8], t: Thread, w: u32, child: usize, q: NodeCopy) -> Plan
+    requires { ⌜ Within f (length (now b)) ⌝ }
+    ensures { λ r. ⌜ r ≡ exchangeWith (f .shape) (sharedIn f (now (b .entry))) t w child q ⌝ }
+{
+    if t.node == 0 {
+        return access::refused(t, UNREADABLE);
+    }
+    if !access::is_node(f.shape, child) {
+        return access::refused(t, UNREADABLE);
+    }
+    let c = child as u32;
+    exchange_at(t, w, c, q, both_same(f, b, t, c, q))
+}
+
+// M5
+pub fn mend_swap(f: Frame, b: &[u8], t: Thread, w: u32) -> Plan
+    requires { ⌜ Within f (length (now b)) ⌝ }
+    ensures { λ r. ⌜ r ≡ mendSwap (f .shape) (sharedIn f (now (b .entry))) t w ⌝ }
+{
+    let node = t.node as usize;
+    let left = t.copies.second;
+    let right = t.copies.third;
+    if access::item_le(access::value_of(left), access::value_of(right)) {
+        return exchange_with(f, b, t, w, 2 * node, left);
+    }
+    exchange_with(f, b, t, w, 2 * node + 1, right)
+}
+
+// The node becomes clean, where it is as it was copied.
+fn clean_at(t: Thread, w: u32) -> Plan
+    ensures { λ r. ⌜ r ≡ cleanAt t w ⌝ }
+{
+    let n = t.copies.first.node;
+    if access::is_spent(n) {
+        return access::refused(t, COUNTER_SPENT);
+    }
+    let effect = Effect::Clean {
+        node: t.node,
+        value: access::updated_node(n, n.first, 0),
+    };
+    returning(effect, t, w)
+}
+
+// M6
+pub fn mend_clean(f: Frame, b: &[u8], t: Thread, w: u32) -> Plan
+    requires { ⌜ Within f (length (now b)) ⌝ }
+    ensures { λ r. ⌜ r ≡ mendClean (sharedIn f (now (b .entry))) t w ⌝ }
+{
+    if t.node == 0 {
+        return access::refused(t, UNREADABLE);
+    }
+    if !access::same_node(f.load_node(b, t.node), t.copies.first.node) {
+        return access::on_to(t, Place::MendReadNode(w));
+    }
+    clean_at(t, w)
+}
