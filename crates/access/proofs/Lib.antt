@@ -1,3 +1,4 @@
 -- What the crates above cite of `access` beside its contracts, and the ways out of its own functions.
+pub mod EffectLaws
 pub mod OrderLaws
 mod Ways

@@ -231,20 +231,24 @@ module _ (t : Thread) (w c : ℕ) (q : NodeCopy) (holds : Bool) (r : Plan) where
           (not-false holds h, ← ep, g, ← ek, j)
           (er ∙ (λ i. plan (Exchange (t .node) (ex i) c (ey i)) (eu i) Moved))
 
+node-test : (f : Frame) (b : List ℕ) (n : ℕ) (x y : Node) (p : Bool) → x ≡ nodeIn f b n → p ≡ sameNode x y
+    → p ≡ sameNode (sharedIn f b .node n) y
+unfolding sharedIn
+node-test f b n x y p ex ep = ep ∙ ap (λ z. sameNode z y) ex
+
 module _ (f : Frame) (b : List ℕ) (t : Thread) (c : ℕ) (q : NodeCopy) (x : Node) (ex : x ≡ nodeIn f b (t .node)) (p : Bool)
     (ep : p ≡ sameNode x (t .copies .first .node)) where
-  node-test : p ≡ sameNode (sharedIn f b .node (t .node)) (t .copies .first .node)
-  unfolding sharedIn
-  node-test = ep ∙ ap (λ y. sameNode y (t .copies .first .node)) ex
-
   pub node-changed : not p ≡ true → false ≡ bothSame (sharedIn f b) t c q
   unfolding bothSame
-  node-changed h = rw (← node-test, not-true p h) refl
+  node-changed h = rw (← node-test f b (t .node) x (t .copies .first .node) p ex ep, not-true p h) refl
 
   pub child-decides : not p ≡ false → (y : Node) (r : Bool) → y ≡ nodeIn f b c → r ≡ sameNode y (q .node)
       → r ≡ bothSame (sharedIn f b) t c q
-  unfolding bothSame sharedIn
-  child-decides h y r ey er = rw (← node-test, not-false p h) (er ∙ ap (λ z. sameNode z (q .node)) ey)
+  unfolding bothSame
+  child-decides h y r ey er =
+      rw
+      (← node-test f b (t .node) x (t .copies .first .node) p ex ep, not-false p h)
+      (node-test f b c y (q .node) r ey er)
 
 module _ (s : Shape) (m : Shared) (t : Thread) (w c : ℕ) (q : NodeCopy) (r : Plan) where
   pub exchange-without-node : t .node ≡ 0 → r ≡ refused t unreadable → r ≡ exchangeWith s m t w c q
@@ -292,14 +296,12 @@ module _ (f : Frame) (b : List ℕ) (t : Thread) (w : ℕ) (r : Plan) where
 
   module _ (n : t .node ≡ 0 → ⊥) (x : Node) (ex : x ≡ nodeIn f b (t .node)) (p : Bool)
       (ep : p ≡ sameNode x (t .copies .first .node)) where
-    clean-test : p ≡ sameNode (sharedIn f b .node (t .node)) (t .copies .first .node)
-    unfolding sharedIn
-    clean-test = ep ∙ ap (λ y. sameNode y (t .copies .first .node)) ex
-
     pub clean-changed : not p ≡ true → r ≡ onTo t (MendReadNode w) → r ≡ mendClean (sharedIn f b) t w
     unfolding mendClean pick
-    clean-changed h er = rw (ne-eqb (t .node) 0 n, ← clean-test, not-true p h) er
+    clean-changed h er =
+        rw (ne-eqb (t .node) 0 n, ← node-test f b (t .node) x (t .copies .first .node) p ex ep, not-true p h) er
 
     pub clean-tried : not p ≡ false → r ≡ cleanAt t w → r ≡ mendClean (sharedIn f b) t w
     unfolding mendClean pick
-    clean-tried h er = rw (ne-eqb (t .node) 0 n, ← clean-test, not-false p h) er
+    clean-tried h er =
+        rw (ne-eqb (t .node) 0 n, ← node-test f b (t .node) x (t .copies .first .node) p ex ep, not-false p h) er

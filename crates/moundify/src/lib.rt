@@ -5,7 +5,6 @@ ghost use lib.ListN.{length};
 ghost use Rattle.region.specs.Frame.{Within};
 ghost use Rattle.region.specs.Shared.{sharedIn};
 ghost use Rattle.moundify.specs.Moundify.{ChildrenAsked, bothSame, childLess, childrenRead, cleanAt, depthRead, exchangeAt, exchangeWith, marked, mendClean, mendReadDepth, mendReadLeft, mendReadNode, mendReadRight, mendSwap, returnAnswer, returning};
-
 use access::Effect;
 use access::Plan;
 use region::Answer;

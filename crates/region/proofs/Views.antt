@@ -72,7 +72,7 @@ lt-or-gt k n ne = go (decLt k n)
     go (no h) = inr (omega arith)
 
 -- The words of part p are the same in b and in b′.
-abbrev Kept : Part → List ℕ → List ℕ → Type 0
+abbrev pub Kept : Part → List ℕ → List ℕ → Type 0
 Kept p b b′ = (j : ℕ) → p .start ≤ j → j < p .start + partSize p → word b′ j ≡ word b j
 
 -- Two records of one part lie apart.
@@ -184,7 +184,7 @@ module _ (f : Frame) (b : List ℕ) where
   free-kept b′ h = h (f .free) (omega arith) (omega arith)
 
   module _ (w : Within f (length b)) where
-    threads-kept : (b′ : List ℕ) → Kept (threadsOf f) b b′ → threadIn f b′ ≡ threadIn f b
+    pub threads-kept : (b′ : List ℕ) → Kept (threadsOf f) b b′ → threadIn f b′ ≡ threadIn f b
     unfolding threadIn
     threads-kept b′ h = fun-ext (load-kept thread-codec (idleThread 0) (threadsOf f) (w .stride) b b′ h)
 

@@ -1,19 +1,16 @@
+-- `moundify::return_answer` meets its contract: others wait, or none does and `after` decides. Assumes nothing.
 use Rattle.moundify.proofs.return_answer.Statement.{statement}
 use Rattle.moundify.proofs.return_answer.Tie as tie
-use Rattle.moundify.proofs.return_answer.Reads as reads
-use Rattle.moundify.proofs.return_answer.Lts as lts
+use Rattle.moundify.proofs.Ways.{others-wait, back-to-root, answered}
 
--- src/lib.rt:24:9
 returns : tie.Need-returns
-returns c = ?
+returns c = search others-wait
 
--- src/lib.rt:27:9
 returns-2 : tie.Need-returns-2
-returns-2 c = ?
+returns-2 c = search back-to-root
 
--- src/lib.rt:20:1
 returns-3 : tie.Need-returns-3
-returns-3 c = ?
+returns-3 c = search answered
 
 pub return-answer-spec : {M : Type 1} → statement M
 return-answer-spec = tie.close (tie.spec returns returns-2 returns-3)

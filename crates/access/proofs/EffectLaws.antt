@@ -1,0 +1,132 @@
+-- An effect on the bytes is the effect on shared memory read from them; the threads' records, the length and every word outside the
+-- parts that it stores to are left alone. Assumes nothing.
+use Prim.Native.Nat.{ℕ, _+_, _-_, _*_, _^_, _≤_, _<_}
+use native.Mathlib.Omega.{arith}
+use mathlib.Core.Path.{_≡_, refl, sym, ap, subst, _∙_}
+use mathlib.Core.Logic.{_⊎_, inl, inr, ⊎-elim}
+use mathlib.Core.List.{List}
+use lib.ListN.{length}
+use Rattle.words.specs.Word.{word, setWord, Bytes, Fit}
+use Rattle.words.proofs.Laws.{word-other, length-setWord, bytes-setWord}
+use Rattle.region.specs.Frame.{Part, Parted, Within, partSize, depthOf, freeOf, nodesOf, cellsOf, threadsOf}
+use Rattle.region.specs.Record.{nodeWords, cellWords, zeroItem}
+use Rattle.region.specs.Shape.{nodeCount}
+use Rattle.region.specs.Shared.{Shared, putNode, putCell, putDepth, putFree, nodeIn, cellIn, threadIn, sharedIn, setNodeIn, setCellIn}
+use Rattle.region.specs.declared.frame.Frame.{Frame}
+use Rattle.region.specs.declared.record.Cell.{Cell}
+use Rattle.region.specs.declared.record.Node.{Node}
+use Rattle.region.proofs.Views.{Outside, length-setNodeIn, length-setCellIn, bytes-setNodeIn, bytes-setCellIn, word-setNodeIn, word-setCellIn, shared-setNode, shared-setCell, shared-setDepth, shared-setFree, threads-setNode, threads-setCell, threads-setDepth, threads-setFree}
+use Rattle.access.specs.Effect.{effectShared, effectBytes, freedBytes, pushBytes, freed}
+use Rattle.access.specs.declared.effect.Effect.{Effect}
+use Rattle.access.specs.declared.effect.Effect.the-variants.{Nothing, Grow, Push, Pop, Exchange, Clean}
+
+-- numbers of nodes and cells that exist, and values that fit their words
+abbrev pub IsNode : Frame → ℕ → Type 0
+IsNode f n = (1 ≤ n) × (n ≤ nodeCount (f .shape))
+
+abbrev pub IsCell : Frame → ℕ → Type 0
+IsCell f c = (1 ≤ c) × (c ≤ f .shape .cells)
+
+abbrev pub EffectFits : Frame → List ℕ → Effect → Type 0
+EffectFits f b Nothing = Unit
+EffectFits f b (Grow d) = d < 2 ^ 32
+EffectFits f b (Push n v c x) =
+    IsNode f n × IsCell f c × Fit (nodeWords v) × Fit (cellWords (record { item = cellIn f b c .item; next = x }))
+EffectFits f b (Pop v c) =
+    IsNode f 1 × IsCell f c × Fit (nodeWords v) × (word b (f .free) < 2 ^ 32)
+EffectFits f b (Exchange n v k w) = IsNode f n × IsNode f k × Fit (nodeWords v) × Fit (nodeWords w)
+EffectFits f b (Clean n v) = IsNode f n × Fit (nodeWords v)
+
+-- The length stays.
+length-freed : (f : Frame) (b : List ℕ) (c : ℕ) → length (freedBytes f b c) ≡ length b
+unfolding freedBytes
+length-freed f b c = length-setWord _ (f .free) c ∙ length-setCellIn f b c _
+
+pub length-effect : (f : Frame) (b : List ℕ) (e : Effect) → length (effectBytes f b e) ≡ length b
+unfolding effectBytes pushBytes
+length-effect f b Nothing = refl
+length-effect f b (Grow d) = length-setWord b (f .depth) d
+length-effect f b (Push n v c x) = length-setCellIn f (setNodeIn f b n v) c _ ∙ length-setNodeIn f b n v
+length-effect f b (Pop v c) = length-freed f (setNodeIn f b 1 v) c ∙ length-setNodeIn f b 1 v
+length-effect f b (Exchange n v k w) = length-setNodeIn f (setNodeIn f b n v) k w ∙ length-setNodeIn f b n v
+length-effect f b (Clean n v) = length-setNodeIn f b n v
+
+module _ (f : Frame) (parted : Parted f) where
+  within-after : (b b′ : List ℕ) → length b′ ≡ length b → Within f (length b) → Within f (length b′)
+  within-after b b′ e w = subst (Within f) (sym e) w
+
+  -- The two sayings of an effect agree.
+  freed-shared : (b : List ℕ) (c : ℕ) → Within f (length b) → IsCell f c → word b (f .free) < 2 ^ 32 → c < 2 ^ 32
+      → sharedIn f (freedBytes f b c) ≡ freed (sharedIn f b) c
+  unfolding freedBytes sharedIn
+  freed-shared b c w i h hc =
+      let z : Cell = record { item = zeroItem; next = word b (f .free) } in
+      let b₁ : List ℕ = setCellIn f b c z in
+      let w₁ = within-after b b₁ (length-setCellIn f b c z) w in
+      shared-setFree f b₁ w₁ parted c hc
+      ∙ ap (λ m. putFree m c) (shared-setCell f b w parted c z (i .0) (i .1) (omega arith, (omega arith, (h, tt))))
+
+  module _ (b : List ℕ) (w : Within f (length b)) (few : f .shape .cells < 2 ^ 32) where
+    push-shared : (n : ℕ) (v : Node) (c x : ℕ) → EffectFits f b (Push n v c x)
+        → sharedIn f (pushBytes f b n v c x)
+        ≡ putCell (putNode (sharedIn f b) n v) c (record { item = sharedIn f b .cell c .item; next = x })
+    unfolding pushBytes sharedIn
+    push-shared n v c x g =
+        let y : Cell = record { item = cellIn f b c .item; next = x } in
+        let w₁ = within-after b (setNodeIn f b n v) (length-setNodeIn f b n v) w in
+        shared-setCell f (setNodeIn f b n v) w₁ parted c y (g .1 .0) (g .1 .1) (g .3)
+        ∙ ap (λ m. putCell m c y) (shared-setNode f b w parted n v (g .0 .0) (g .0 .1) (g .2))
+
+    pop-shared : (v : Node) (c : ℕ) → EffectFits f b (Pop v c)
+        → sharedIn f (freedBytes f (setNodeIn f b 1 v) c) ≡ freed (putNode (sharedIn f b) 1 v) c
+    unfolding sharedIn
+    pop-shared v c g =
+        let e = shared-setNode f b w parted 1 v (g .0 .0) (g .0 .1) (g .2) in
+        let w₁ = within-after b (setNodeIn f b 1 v) (length-setNodeIn f b 1 v) w in
+        let k : word (setNodeIn f b 1 v) (f .free) ≡ word b (f .free) = ap (λ m. m .free) e in
+        freed-shared (setNodeIn f b 1 v) c w₁ (g .1) (omega (arith, k, g .3)) (omega (arith, g .1 .1, few))
+        ∙ ap (λ m. freed m c) e
+
+    exchange-shared : (n : ℕ) (v : Node) (k : ℕ) (x : Node) → EffectFits f b (Exchange n v k x)
+        → sharedIn f (setNodeIn f (setNodeIn f b n v) k x) ≡ putNode (putNode (sharedIn f b) n v) k x
+    exchange-shared n v k x g =
+        let w₁ = within-after b (setNodeIn f b n v) (length-setNodeIn f b n v) w in
+        shared-setNode f (setNodeIn f b n v) w₁ parted k x (g .1 .0) (g .1 .1) (g .3)
+        ∙ ap (λ m. putNode m k x) (shared-setNode f b w parted n v (g .0 .0) (g .0 .1) (g .2))
+
+    pub effect-shared : (e : Effect) → EffectFits f b e → sharedIn f (effectBytes f b e) ≡ effectShared (sharedIn f b) e
+    unfolding effectBytes effectShared
+    effect-shared Nothing g = refl
+    effect-shared (Grow d) g = shared-setDepth f b w parted d g
+    effect-shared (Push n v c x) g = push-shared n v c x g
+    effect-shared (Pop v c) g = pop-shared v c g
+    effect-shared (Exchange n v k x) g = exchange-shared n v k x g
+    effect-shared (Clean n v) g = shared-setNode f b w parted n v (g .0 .0) (g .0 .1) (g .1)
+
+  -- Words outside the parts that effects store to.
+  pub record Elsewhere (j : ℕ) : Type 0 where
+    pub nodes : Outside (nodesOf f .start) (partSize (nodesOf f)) j
+    pub cells : Outside (cellsOf f .start) (partSize (cellsOf f)) j
+    pub depth : j ≡ f .depth → ⊥
+    pub free : j ≡ f .free → ⊥
+
+  module _ (j : ℕ) (o : Elsewhere j) where
+    node-word : (b : List ℕ) (n : ℕ) (v : Node) → Within f (length b) → word (setNodeIn f b n v) j ≡ word b j
+    node-word b n v w = word-setNodeIn f b w n j v (o .nodes)
+
+    freed-word : (b : List ℕ) (c : ℕ) → Within f (length b) → word (freedBytes f b c) j ≡ word b j
+    unfolding freedBytes
+    freed-word b c w = word-other _ (f .free) j c (o .free) ∙ word-setCellIn f b w c j _ (o .cells)
+
+    pub effect-word : (b : List ℕ) → Within f (length b) → (e : Effect) → word (effectBytes f b e) j ≡ word b j
+    unfolding effectBytes pushBytes
+    effect-word b w Nothing = refl
+    effect-word b w (Grow d) = word-other b (f .depth) j d (o .depth)
+    effect-word b w (Push n v c x) =
+        word-setCellIn f (setNodeIn f b n v) (within-after b (setNodeIn f b n v) (length-setNodeIn f b n v) w) c j _ (o .cells)
+        ∙ node-word b n v w
+    effect-word b w (Pop v c) =
+        freed-word (setNodeIn f b 1 v) c (within-after b (setNodeIn f b 1 v) (length-setNodeIn f b 1 v) w) ∙ node-word b 1 v w
+    effect-word b w (Exchange n v k x) =
+        node-word (setNodeIn f b n v) k x (within-after b (setNodeIn f b n v) (length-setNodeIn f b n v) w) ∙ node-word b n v w
+    effect-word b w (Clean n v) = node-word b n v w
