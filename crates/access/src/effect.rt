@@ -3,7 +3,6 @@ ghost use mathlib.Core.Path.{_≡_};
 ghost use lib.ListN.{length};
 ghost use Rattle.region.specs.Frame.{Within};
 ghost use Rattle.access.specs.Effect.{effectBytes, freedBytes, pushBytes};
-
 use region::Cell;
 use region::Frame;
 use region::Item;
@@ -22,7 +21,10 @@ pub enum Effect {
         next: u32,
     },
     // the root's head leaves its list, and its cell is freed
-    Pop { value: Node, cell: u32 },
+    Pop {
+        value: Node,
+        cell: u32,
+    },
     // a node and its child exchange lists
     Exchange {
         node: u32,
@@ -31,7 +33,10 @@ pub enum Effect {
         below: Node,
     },
     // a node becomes clean
-    Clean { node: u32, value: Node },
+    Clean {
+        node: u32,
+        value: Node,
+    },
 }
 
 // Frees a cell: zero, and at the front of the chain.

@@ -1,7 +1,6 @@
 // The order of values.
 ghost use mathlib.Core.Path.{_≡_};
 ghost use Rattle.access.specs.Order.{itemLe, itemLt, valueOf};
-
 use region::Item;
 use region::NodeCopy;
 

@@ -1,7 +1,6 @@
 // What a turn decides.
 ghost use mathlib.Core.Path.{_≡_};
 ghost use Rattle.access.specs.Plan.{moved, onTo, plan, refused};
-
 use crate::effect::Effect;
 use region::Answer;
 use region::Place;

@@ -6,7 +6,6 @@ ghost use lib.ListN.{length};
 ghost use Rattle.region.specs.Frame.{Within};
 ghost use Rattle.region.specs.Shared.{sharedIn};
 ghost use Rattle.access.specs.Read.{isDirty, isLevel, isNode, isSpent, readNode, sameNode, updated};
-
 use region::Frame;
 use region::Node;
 use region::NodeCopy;

@@ -6,7 +6,6 @@ ghost use Rattle.region.specs.Frame.{Within};
 ghost use Rattle.region.specs.Shared.{sharedIn};
 ghost use Rattle.access.specs.Read.{isSpent};
 ghost use Rattle.extract.specs.Extract.{headRemoved, readRoot, removeHead, rootRead};
-
 use access::Effect;
 use access::Plan;
 use region::Answer;
@@ -48,7 +47,11 @@ fn head_removed(t: Thread, q: NodeCopy) -> Plan
         cell: q.node.first,
     };
     let item = q.head.item;
-    access::plan_of(effect, t.with_result(item).with_after(1).mending(1, 0), Answer::Moved)
+    access::plan_of(
+        effect,
+        t.with_result(item).with_after(1).mending(1, 0),
+        Answer::Moved,
+    )
 }
 
 // E2

@@ -3,15 +3,14 @@ ghost use mathlib.Core.Path.{_≡_};
 ghost use lib.ListN.{length};
 ghost use Rattle.region.specs.Frame.{Within};
 ghost use Rattle.machine.specs.Begin.{PutBegun, TakeBegun, isIdle, isItem, mayPut, mayTake, putBegun, putBusy, putRefusal, takeRefusal};
-
 use region::BAD_ITEM;
 use region::BAD_THREAD;
 use region::Cell;
 use region::DONE;
 use region::Frame;
 use region::Item;
-use region::NOT_PERMITTED;
 use region::NO_FREE_CELL;
+use region::NOT_PERMITTED;
 use region::THREAD_BUSY;
 use region::Thread;
 use region::UNREADABLE;

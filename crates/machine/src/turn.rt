@@ -4,7 +4,6 @@ ghost use lib.ListN.{length};
 ghost use Rattle.region.specs.Frame.{Within};
 ghost use Rattle.region.specs.Shared.{sharedIn};
 ghost use Rattle.machine.specs.Turn.{Turned, carriedOut, decide, staysPut};
-
 use access::Effect;
 use access::Plan;
 use region::Answer;

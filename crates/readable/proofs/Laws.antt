@@ -25,7 +25,7 @@ bounded-all b (m ∷ ms) at h =
     and-both
     (le-leb (word b at) m (subst (λ k. word b k ≤ m) (add-zero at) (h 0 (omega arith))))
     (bounded-all b ms (suc at) λ i l.
-       subst (λ k. word b k ≤ getD ms i 0) (add-suc at i ∙ sym (suc-add at i)) (h (suc i) (omega arith)))
+    subst (λ k. word b k ≤ getD ms i 0) (add-suc at i ∙ sym (suc-add at i)) (h (suc i) (omega arith)))
 
 pub bounded-at : (b ms : List ℕ) (at i : ℕ) → bounded b at ms ≡ true → i < length ms → word b (at + i) ≤ getD ms i 0
 unfolding bounded
@@ -92,7 +92,7 @@ module _ (b : List ℕ) where
         free-most = leb-true (word b 5) (s .cells) ee;
         nodes = λ i l. pass-at (λ x at. bounded x at (nodeMaxima (s .cells))) 3 b (frameOf s .nodes) (nodeCount s) i en l;
         cells = λ i l. pass-at (λ x at. bounded x at (cellMaxima (s .cells))) 3 b (frameOf s .cells) (s .cells) i ec l;
-        threads = λ i l. pass-at (threadReadable s) 33 b (frameOf s .threads) (s .threads) i et l
+        threads = λ i l. pass-at (threadReadable s) 33 b (frameOf s .threads) (s .threads) i et l;
       }
 
   pub good : readable b ≡ true → Good (shapeIn b) b

@@ -218,40 +218,106 @@ module _ (s : Shape) (r : InRange s) where
     thread-le : AllLe (threadWords t) (threadMaxima s)
     thread-le =
         let g = h .fields in
-        let waiting-any : waitingLevels (t .place) ≤ anyWord = waiting-few s t (t .place) (h .place) in
-        (g .permission, (
-          number-most (t .place), (
-          below-any (g .item-key), (
-          g .item-tag, (
-          g .own, (
-          g .depth, (
-          g .leaf, (
-          g .tries, (
-          g .lo, (
-          g .hi, (
-          g .node, (
-          waiting-any, (
-          g .after, (
-          below-any (g .result-key), (
-          g .result-tag, (
-          g .first .node .first, (
-          g .first .node .dirty, (
-          below-any (g .first .node .counter), (
-          below-any (g .first .head .key), (
-          g .first .head .tag, (
-          g .first .head .next, (
-          g .second .node .first, (
-          g .second .node .dirty, (
-          below-any (g .second .node .counter), (
-          below-any (g .second .head .key), (
-          g .second .head .tag, (
-          g .second .head .next, (
-          g .third .node .first, (
-          g .third .node .dirty, (
-          below-any (g .third .node .counter), (
-          below-any (g .third .head .key), (
-          g .third .head .tag, (
-          g .third .head .next, tt)))))))))))))))))))))))))))))))))
+        let waiting-any : waitingLevels (t .place) ≤ anyWord = waiting-few s t (t .place) (h .place) in (
+          g .permission,
+          (
+            number-most (t .place),
+            (
+              below-any (g .item-key),
+              (
+                g .item-tag,
+                (
+                  g .own,
+                  (
+                    g .depth,
+                    (
+                      g .leaf,
+                      (
+                        g .tries,
+                        (
+                          g .lo,
+                          (
+                            g .hi,
+                            (
+                              g .node,
+                              (
+                                waiting-any,
+                                (
+                                  g .after,
+                                  (
+                                    below-any (g .result-key),
+                                    (
+                                      g .result-tag,
+                                      (
+                                        g .first .node .first,
+                                        (
+                                          g .first .node .dirty,
+                                          (
+                                            below-any (g .first .node .counter),
+                                            (
+                                              below-any (g .first .head .key),
+                                              (
+                                                g .first .head .tag,
+                                                (
+                                                  g .first .head .next,
+                                                  (
+                                                    g .second .node .first,
+                                                    (
+                                                      g .second .node .dirty,
+                                                      (
+                                                        below-any (g .second .node .counter),
+                                                        (
+                                                          below-any (g .second .head .key),
+                                                          (
+                                                            g .second .head .tag,
+                                                            (
+                                                              g .second .head .next,
+                                                              (
+                                                                g .third .node .first,
+                                                                (
+                                                                  g .third .node .dirty,
+                                                                  (
+                                                                    below-any (g .third .node .counter),
+                                                                    (
+                                                                      below-any (g .third .head .key),
+                                                                      (
+                                                                        g .third .head .tag,
+                                                                        (
+                                                                          g .third .head .next,
+                                                                          tt,
+                                                                        ),
+                                                                      ),
+                                                                    ),
+                                                                  ),
+                                                                ),
+                                                              ),
+                                                            ),
+                                                          ),
+                                                        ),
+                                                      ),
+                                                    ),
+                                                  ),
+                                                ),
+                                              ),
+                                            ),
+                                          ),
+                                        ),
+                                      ),
+                                    ),
+                                  ),
+                                ),
+                              ),
+                            ),
+                          ),
+                        ),
+                      ),
+                    ),
+                  ),
+                ),
+              ),
+            ),
+          ),
+        )
 
     pub thread-fit : Fit (threadWords t)
     thread-fit = all-fit (threadWords t) (threadMaxima s) thread-le maxima-fit
@@ -266,7 +332,7 @@ module _ (cells : ℕ) (b : List ℕ) (at : ℕ) where
       record {
         first = leb-true (word b at) cells (and-left (leb (word b at) cells) _ e);
         dirty = leb-true (word b (suc at)) 1 (and-left (leb (word b (suc at)) 1) _ r₁);
-        counter = omega (arith, leb-true (word b (suc (suc at))) anyWord (and-left (leb (word b (suc (suc at))) anyWord) _ r₂))
+        counter = omega (arith, leb-true (word b (suc (suc at))) anyWord (and-left (leb (word b (suc (suc at))) anyWord) _ r₂));
       }
 
   node-bounded : NodeGood cells (nodeAt b at) → bounded b at (nodeMaxima cells) ≡ true
@@ -286,7 +352,7 @@ module _ (cells : ℕ) (b : List ℕ) (at : ℕ) where
       record {
         key = omega (arith, leb-true (word b at) anyWord (and-left (leb (word b at) anyWord) _ e));
         tag = leb-true (word b (suc at)) 65535 (and-left (leb (word b (suc at)) 65535) _ r₁);
-        next = leb-true (word b (suc (suc at))) cells (and-left (leb (word b (suc (suc at))) cells) _ r₂)
+        next = leb-true (word b (suc (suc at))) cells (and-left (leb (word b (suc (suc at))) cells) _ r₂);
       }
 
   cell-bounded : CellGood cells (cellAt b at) → bounded b at (cellMaxima cells) ≡ true
@@ -339,12 +405,12 @@ module _ (s : Shape) (b : List ℕ) (g : Good s b) where
   good-shared =
       record {
         node = load-good (NodeGood (s .cells)) nodeAt emptyNode (nodesOf (frameOf s)) b (empty-good (s .cells))
-          (λ i l. node-good (s .cells) b _ (g .nodes i l));
+            (λ i l. node-good (s .cells) b _ (g .nodes i l));
         cell = load-good (CellGood (s .cells)) cellAt zeroCell (cellsOf (frameOf s)) b (zero-good (s .cells))
-          (λ i l. cell-good (s .cells) b _ (g .cells i l));
+            (λ i l. cell-good (s .cells) b _ (g .cells i l));
         depth-least = g .depth-least;
         depth-most = g .depth-most;
-        free = g .free-most
+        free = g .free-most;
       }
 
   pub good-within : Within (frameOf s) (length b)
@@ -365,7 +431,7 @@ make-good s b es r el m ts =
       free-most = m .free;
       nodes = λ i l. node-bounded (s .cells) b _ (subst (NodeGood (s .cells)) (load-at nodeAt emptyNode (nodesOf (frameOf s)) b i l) (m .node (suc i)));
       cells = λ i l. cell-bounded (s .cells) b _ (subst (CellGood (s .cells)) (load-at cellAt zeroCell (cellsOf (frameOf s)) b i l) (m .cell (suc i)));
-      threads = ts
+      threads = ts;
     }
 
 -- A thread's record: in range as words, in range as a record.
@@ -437,17 +503,17 @@ module _ (s : Shape) (r : InRange s) (b : List ℕ) (at : ℕ) (e : threadReadab
         result-key = fit (le 13 (omega arith));
         result-tag = le 14 (omega arith);
         first = record {
-            node = record { first = le 15 (omega arith); dirty = le 16 (omega arith); counter = fit (le 17 (omega arith)) };
-            head = record { key = fit (le 18 (omega arith)); tag = le 19 (omega arith); next = le 20 (omega arith) }
-          };
+          node = record { first = le 15 (omega arith); dirty = le 16 (omega arith); counter = fit (le 17 (omega arith)) };
+          head = record { key = fit (le 18 (omega arith)); tag = le 19 (omega arith); next = le 20 (omega arith) };
+        };
         second = record {
-            node = record { first = le 21 (omega arith); dirty = le 22 (omega arith); counter = fit (le 23 (omega arith)) };
-            head = record { key = fit (le 24 (omega arith)); tag = le 25 (omega arith); next = le 26 (omega arith) }
-          };
+          node = record { first = le 21 (omega arith); dirty = le 22 (omega arith); counter = fit (le 23 (omega arith)) };
+          head = record { key = fit (le 24 (omega arith)); tag = le 25 (omega arith); next = le 26 (omega arith) };
+        };
         third = record {
-            node = record { first = le 27 (omega arith); dirty = le 28 (omega arith); counter = fit (le 29 (omega arith)) };
-            head = record { key = fit (le 30 (omega arith)); tag = le 31 (omega arith); next = le 32 (omega arith) }
-          }
+          node = record { first = le 27 (omega arith); dirty = le 28 (omega arith); counter = fit (le 29 (omega arith)) };
+          head = record { key = fit (le 30 (omega arith)); tag = le 31 (omega arith); next = le 32 (omega arith) };
+        };
       }
 
   place-of-good : PlaceGood s (threadAt b at) (threadAt b at .place)
@@ -467,25 +533,25 @@ pub idle-good : (s : Shape) (p : ℕ) → p ≤ 3 → ThreadGood s (idleThread p
 idle-good s p h =
     record {
       fields =
-        record {
-          permission = h;
-          item-key = omega arith;
-          item-tag = omega arith;
-          own = omega arith;
-          depth = omega arith;
-          leaf = omega arith;
-          tries = omega arith;
-          lo = omega arith;
-          hi = omega arith;
-          node = omega arith;
-          after = omega arith;
-          result-key = omega arith;
-          result-tag = omega arith;
-          first = zero-copy-good (s .cells);
-          second = zero-copy-good (s .cells);
-          third = zero-copy-good (s .cells)
-        };
-      place = tt
+          record {
+            permission = h;
+            item-key = omega arith;
+            item-tag = omega arith;
+            own = omega arith;
+            depth = omega arith;
+            leaf = omega arith;
+            tries = omega arith;
+            lo = omega arith;
+            hi = omega arith;
+            node = omega arith;
+            after = omega arith;
+            result-key = omega arith;
+            result-tag = omega arith;
+            first = zero-copy-good (s .cells);
+            second = zero-copy-good (s .cells);
+            third = zero-copy-good (s .cells);
+          };
+      place = tt;
     }
 
 pub good-thread : (s : Shape) (b : List ℕ) → Good s b → (t : ℕ) → ThreadGood s (threadIn (frameOf s) b t)
@@ -507,9 +573,13 @@ pub thread-reads : (s : Shape) (b b′ : List ℕ) (at : ℕ) → ((j : ℕ) →
     → threadReadable s b′ at ≡ threadReadable s b at
 unfolding threadReadable
 thread-reads s b b′ at h =
-    rw
-    (bounded-reads b b′ (threadMaxima s) at h, h (at + 7) (omega arith) (omega arith), h (at + 1) (omega arith) (omega arith),
-    h (at + 11) (omega arith) (omega arith), h (at + 10) (omega arith) (omega arith))
+    rw (
+      bounded-reads b b′ (threadMaxima s) at h,
+      h (at + 7) (omega arith) (omega arith),
+      h (at + 1) (omega arith) (omega arith),
+      h (at + 11) (omega arith) (omega arith),
+      h (at + 10) (omega arith) (omega arith),
+    )
     refl
 
 -- Storing a record in range keeps the region readable.
@@ -528,7 +598,7 @@ module _ (s : Shape) (r : InRange s) (b : List ℕ) (w : Within (frameOf s) (len
       and-both
       (and-both
       (bounded-all (setThreadIn (frameOf s) b t v) (threadMaxima s) at λ i h.
-       subst (λ x. x ≤ getD (threadMaxima s) i 0) (sym (stored-word i h)) (all-at (threadWords v) (threadMaxima s) i (thread-le s r v g)))
+      subst (λ x. x ≤ getD (threadMaxima s) i 0) (sym (stored-word i h)) (all-at (threadWords v) (threadMaxima s) i (thread-le s r v g)))
       (le-leb _ _
       (subst₂ (λ x y. x ≤ triesMost s y) (sym (stored-word 7 (omega arith))) (sym (stored-word 1 (omega arith)))
       (tries-rule s v (v .place) (g .fields .tries) (g .place)))))
@@ -552,11 +622,11 @@ module _ (s : Shape) (r : InRange s) (b : List ℕ) (w : Within (frameOf s) (len
 pub shape-kept : (s : Shape) (b b′ : List ℕ) → shapeIn b ≡ s → ((k : ℕ) → k < 4 → word b′ k ≡ word b k) → shapeIn b′ ≡ s
 shape-kept s b b′ e h =
     (λ i. record {
-       depth = h 0 (omega arith) i;
-       cells = h 1 (omega arith) i;
-       threads = h 2 (omega arith) i;
-       threshold = h 3 (omega arith) i
-     })
+      depth = h 0 (omega arith) i;
+      cells = h 1 (omega arith) i;
+      threads = h 2 (omega arith) i;
+      threshold = h 3 (omega arith) i;
+    })
     ∙ e
 
 low-words : (s : Shape) (k : ℕ) → k < 4 → k < frameOf s .threads
