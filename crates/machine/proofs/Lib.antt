@@ -1,4 +1,2 @@
--- The theorems about turns and beginnings, and the ways out of the functions of `machine`.
-mod PlansGood
-mod TreeLevels
+-- The ways out of the functions of `machine`.
 mod Ways

@@ -1,7 +1,7 @@
 // One turn of a thread, and the beginnings of a put and a take, on a region's bytes.
-mod begin;
-mod turn;
+mod beginnings;
+mod turns;
 
-pub use begin::begin_put;
-pub use begin::begin_take;
-pub use turn::turn;
+pub use beginnings::begin_put;
+pub use beginnings::begin_take;
+pub use turns::turn;

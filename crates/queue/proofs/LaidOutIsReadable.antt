@@ -18,25 +18,8 @@ use Rattle.region.proofs.Shapes.{and-both, is-between, fits-in-range, sizes}
 use Rattle.layout.specs.Layout.{atMost, layoutRefusal, cellWord, threadWord, laidWord, layoutBytes}
 use Rattle.layout.proofs.Laws.{cellWord-most, threadWord-most, threadWord-rest, laid-shape, laid-permissions, laid-length, laid-word}
 use Rattle.readable.specs.Readable.{anyWord, nodeMaxima, cellMaxima, threadMaxima, bounded, threadReadable, allRecords, treeReadable, fieldsReadable, shapeIn, readable}
+use Rattle.readable.proofs.Laws.{all-pass, bounded-all}
 use Rattle.queue.specs.Theorems.{LaidOutIsReadable}
-
-bounded-all : (b ms : List ℕ) (at : ℕ) → ((i : ℕ) → i < length ms → word b (at + i) ≤ getD ms i 0) → bounded b at ms ≡ true
-unfolding bounded
-bounded-all b [] at h = refl
-bounded-all b (m ∷ ms) at h =
-    and-both
-    (le-leb (word b at) m (subst (λ k. word b k ≤ m) (add-zero at) (h 0 (omega arith))))
-    (bounded-all b ms (suc at) λ i l.
-    subst (λ k. word b k ≤ getD ms i 0) (add-suc at i ∙ sym (suc-add at i)) (h (suc i) (omega arith)))
-
-all-pass : (test : List ℕ → ℕ → Bool) (stride : ℕ) (b : List ℕ) (at n : ℕ) → ((i : ℕ) → i < n → test b (at + stride * i) ≡ true)
-    → allRecords test stride b at n ≡ true
-unfolding allRecords
-all-pass test stride b at zero h = refl
-all-pass test stride b at (suc n) h =
-    and-both
-    (subst (λ k. test b k ≡ true) (omega arith) (h 0 (omega arith)))
-    (all-pass test stride b (at + stride) n λ i l. subst (λ k. test b k ≡ true) (omega arith) (h (suc i) (omega arith)))
 
 module _ (s : Shape) (ps b : List ℕ) (e : layoutRefusal s ps (length b) ≡ done) where
   r : InRange s

@@ -30,6 +30,22 @@ pub extern "C" fn mound_layout(
     )
 }
 
+// Begins a put of an item, a key with a tag, by a thread: 0 if begun. Refusals 7, 3, 4, 8, 9, 10.
+#[no_mangle]
+pub extern "C" fn mound_put(region: &mut [u8], thread: u32, key: u32, tag: u32) -> u32
+    ensures { λ r. ⌜ PutBegun (now (region .entry)) (now (region .exit)) thread (itemOf key tag) r ⌝ }
+{
+    machine::begin_put(region, thread, Item { key, tag })
+}
+
+// Begins a take by a thread: 0 if begun. Refusals 7, 3, 8, 9.
+#[no_mangle]
+pub extern "C" fn mound_take(region: &mut [u8], thread: u32) -> u32
+    ensures { λ r. ⌜ TakeBegun (now (region .entry)) (now (region .exit)) thread r ⌝ }
+{
+    machine::begin_take(region, thread)
+}
+
 // Whether the region is readable: 0 for yes, else 7.
 #[no_mangle]
 pub extern "C" fn mound_check(region: &[u8]) -> u32

@@ -1,0 +1,12 @@
+-- `machine::beginnings::may_take` meets its contract. Assumes nothing.
+use Rattle.machine.proofs.beginnings.may_take.Statement.{statement}
+use Rattle.machine.proofs.beginnings.may_take.Tie as tie
+use mathlib.Core.Path.{refl}
+use Rattle.machine.specs.Begin.{mayTake}
+
+returns : tie.Need-returns
+unfolding mayTake
+returns c = refl
+
+pub may-take-spec : {M : Type 1} → statement M
+may-take-spec = tie.close (tie.spec returns)

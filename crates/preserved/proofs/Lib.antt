@@ -1,0 +1,4 @@
+-- What turns and beginnings preserve.
+mod EffectsGood
+mod PlansGood
+mod TreeLevels

@@ -1,0 +1,677 @@
+-- Every plan keeps what a readable region promises: its effect and its thread's record are in range. Assumes nothing.
+use Prim.Native.Nat.{ℕ, zero, suc, _+_, _-_, _*_, _/_, _%_, _^_, _≤_, _<_, min}
+use native.Mathlib.Nat.{div-le-self, mod-lt}
+use native.Mathlib.Omega.{arith}
+use mathlib.Core.Path.{_≡_, refl, sym, ap, subst, _∙_}
+use mathlib.Core.Bool.{Bool, true, false, not, _&&_, _||_, true≢false}
+use borrow.Author.Tests.{ltb-true, ltb-false, leb-true, leb-false, eqb-true, eqb-false, not-true, not-false}
+use lib.Dec.{leb, ltb, eqb}
+use lib.Pow.{pow-mono, pow-pos}
+use Rattle.region.specs.Answer.{unreadable, counterSpent}
+use Rattle.region.specs.Level.{ancestor, level, mark}
+use Rattle.region.specs.Pick.{pick}
+use Rattle.region.specs.Shape.{InRange, between, nodeCount}
+use Rattle.region.specs.Shared.{Shared}
+use Rattle.region.specs.Thread.{idleThread, goneIdle, begunPut, begunTake, mending, returned, atPlace, withItem, withOwn, withDepth, withSearch, withNode, withAfter, withResult, withFirst, withSecond, withThird}
+use Rattle.region.specs.declared.answer.Answer.{Answer}
+use Rattle.region.specs.declared.answer.Answer.the-variants.{Moved, Idle}
+use Rattle.region.specs.declared.place.Place.{Place}
+use Rattle.region.specs.declared.place.Place.the-variants.{Idle as AtRest, ReadDepth, ReadLeaf, ReadAncestor, GrowDepth, ReadTarget, InsertAtRoot, ReadParent, InsertBelow, ReadRoot, RemoveHead, MendReadNode, MendReadDepth, MendReadLeft, MendReadRight, MendSwap, MendClean}
+use Rattle.region.specs.declared.record.Item.{Item}
+use Rattle.region.specs.declared.record.Node.{Node}
+use Rattle.region.specs.declared.record.NodeCopy.{NodeCopy}
+use Rattle.region.specs.declared.shape.Shape.{Shape}
+use Rattle.region.specs.declared.thread.Search.{Search}
+use Rattle.region.specs.declared.thread.Thread.{Thread}
+use Rattle.region.proofs.Shapes.{and-left, and-right, between-least, between-most, sizes}
+use Rattle.access.specs.Order.{itemLe, itemLt, valueOf}
+use Rattle.access.specs.Plan.{plan, moved, onTo, refused}
+use Rattle.access.specs.Read.{isDirty, isLevel, isNode, isSpent, readNode, sameNode, updated}
+use Rattle.access.specs.declared.effect.Effect.{Effect}
+use Rattle.access.specs.declared.effect.Effect.the-variants.{Nothing, Grow, Push, Pop, Exchange, Clean}
+use Rattle.access.specs.declared.plan.Plan.{Plan}
+use Rattle.insert.specs.Insert.{searching, readDepth, searchOn, leafOf, nextTries, failedPlace, leafFailed, leafRead, readLeaf, ancestorRead, middleLevel, readAncestor, growDepth, targetPlace, readTarget, insertAt, insertAtRoot, readParent, bothSame as nodeAndParent, insertBelow}
+use Rattle.extract.specs.Extract.{rootRead, readRoot, headRemoved, removeHead}
+use Rattle.moundify.specs.Moundify.{returnAnswer, returning, mendReadNode, depthRead, mendReadDepth, mendReadLeft, marked, childLess, childrenRead, mendReadRight, exchangeAt, bothSame, exchangeWith, mendSwap, cleanAt, mendClean}
+use Rattle.readable.proofs.Stores.{NodeGood, CellGood, CopyGood, FieldsGood, WaitsAbove, PlaceGood, ThreadGood, SharedGood, idle-good}
+use Rattle.preserved.proofs.TreeLevels.{twice, waits-at-child, waits-marked, waits-returned}
+
+pub pick-good : {A : Type 0} (P : A → Type 0) (q : Bool) {a b : A} → (q ≡ true → P a) → (q ≡ false → P b) → P (pick q a b)
+unfolding pick
+pick-good P true h g = h refl
+pick-good P false h g = g refl
+
+or-left : (a b : Bool) → a || b ≡ false → a ≡ false
+or-left true b e = e
+or-left false b e = refl
+
+or-right : (a b : Bool) → a || b ≡ false → b ≡ false
+or-right true b e = absurd (true≢false e)
+or-right false b e = e
+
+-- effects in range
+abbrev pub NodeIn : Shape → ℕ → Type 0
+NodeIn s n = (1 ≤ n) × (n ≤ nodeCount s)
+
+abbrev pub CellIn : Shape → ℕ → Type 0
+CellIn s c = (1 ≤ c) × (c ≤ s .cells)
+
+abbrev pub EffectGood : Shape → Effect → Type 0
+EffectGood s Nothing = Unit
+EffectGood s (Grow d) = (1 ≤ d) × (d ≤ s .depth)
+EffectGood s (Push n v c x) = NodeIn s n × CellIn s c × NodeGood (s .cells) v × (x ≤ s .cells)
+EffectGood s (Pop v c) = CellIn s c × NodeGood (s .cells) v
+EffectGood s (Exchange n v k w) = NodeIn s n × NodeIn s k × NodeGood (s .cells) v × NodeGood (s .cells) w
+EffectGood s (Clean n v) = NodeIn s n × NodeGood (s .cells) v
+
+pub record PlanGood (s : Shape) (p : Plan) : Type 0 where
+  pub effect : EffectGood s (p .effect)
+  pub thread : ThreadGood s (p .thread)
+
+-- what a place asks goes by tries and node alone
+place-same : (s : Shape) (t u : Thread) (p : Place) → t .search .tries ≡ u .search .tries → t .node ≡ u .node → PlaceGood s t p
+    → PlaceGood s u p
+place-same s t u AtRest et en h = tt
+place-same s t u ReadDepth et en h = tt
+place-same s t u ReadLeaf et en h = omega arith
+place-same s t u ReadAncestor et en h = tt
+place-same s t u GrowDepth et en h = tt
+place-same s t u ReadTarget et en h = tt
+place-same s t u InsertAtRoot et en h = tt
+place-same s t u ReadParent et en h = tt
+place-same s t u InsertBelow et en h = tt
+place-same s t u ReadRoot et en h = tt
+place-same s t u RemoveHead et en h = tt
+place-same s t u (MendReadNode w) et en h = subst (λ n. WaitsAbove n w) en h
+place-same s t u (MendReadDepth w) et en h = subst (λ n. WaitsAbove n w) en h
+place-same s t u (MendReadLeft w) et en h = subst (λ n. WaitsAbove n w) en h
+place-same s t u (MendReadRight w) et en h = subst (λ n. WaitsAbove n w) en h
+place-same s t u (MendSwap w) et en h = subst (λ n. WaitsAbove n w) en h
+place-same s t u (MendClean w) et en h = subst (λ n. WaitsAbove n w) en h
+
+-- Setters keep the fields in range.
+module _ (s : Shape) (t : Thread) (g : FieldsGood s t) where
+  fields-at : (p : Place) → FieldsGood s (atPlace t p)
+  unfolding atPlace
+  fields-at p =
+      record {
+        permission = g .permission;
+        item-key = g .item-key;
+        item-tag = g .item-tag;
+        own = g .own;
+        depth = g .depth;
+        leaf = g .leaf;
+        tries = g .tries;
+        lo = g .lo;
+        hi = g .hi;
+        node = g .node;
+        after = g .after;
+        result-key = g .result-key;
+        result-tag = g .result-tag;
+        first = g .first;
+        second = g .second;
+        third = g .third;
+      }
+
+  fields-depth : (d : ℕ) → d ≤ s .depth → FieldsGood s (withDepth t d)
+  unfolding withDepth
+  fields-depth d h =
+      record {
+        permission = g .permission;
+        item-key = g .item-key;
+        item-tag = g .item-tag;
+        own = g .own;
+        depth = h;
+        leaf = g .leaf;
+        tries = g .tries;
+        lo = g .lo;
+        hi = g .hi;
+        node = g .node;
+        after = g .after;
+        result-key = g .result-key;
+        result-tag = g .result-tag;
+        first = g .first;
+        second = g .second;
+        third = g .third;
+      }
+
+  fields-search : (x : Search) → x .leaf ≤ nodeCount s → x .tries ≤ s .threshold → x .lo ≤ s .depth → x .hi ≤ s .depth
+      → FieldsGood s (withSearch t x)
+  unfolding withSearch
+  fields-search x hl ht hlo hhi =
+      record {
+        permission = g .permission;
+        item-key = g .item-key;
+        item-tag = g .item-tag;
+        own = g .own;
+        depth = g .depth;
+        leaf = hl;
+        tries = ht;
+        lo = hlo;
+        hi = hhi;
+        node = g .node;
+        after = g .after;
+        result-key = g .result-key;
+        result-tag = g .result-tag;
+        first = g .first;
+        second = g .second;
+        third = g .third;
+      }
+
+  fields-node : (n : ℕ) → n ≤ nodeCount s → FieldsGood s (withNode t n)
+  unfolding withNode
+  fields-node n h =
+      record {
+        permission = g .permission;
+        item-key = g .item-key;
+        item-tag = g .item-tag;
+        own = g .own;
+        depth = g .depth;
+        leaf = g .leaf;
+        tries = g .tries;
+        lo = g .lo;
+        hi = g .hi;
+        node = h;
+        after = g .after;
+        result-key = g .result-key;
+        result-tag = g .result-tag;
+        first = g .first;
+        second = g .second;
+        third = g .third;
+      }
+
+  fields-after : (a : ℕ) → a ≤ 1 → FieldsGood s (withAfter t a)
+  unfolding withAfter
+  fields-after a h =
+      record {
+        permission = g .permission;
+        item-key = g .item-key;
+        item-tag = g .item-tag;
+        own = g .own;
+        depth = g .depth;
+        leaf = g .leaf;
+        tries = g .tries;
+        lo = g .lo;
+        hi = g .hi;
+        node = g .node;
+        after = h;
+        result-key = g .result-key;
+        result-tag = g .result-tag;
+        first = g .first;
+        second = g .second;
+        third = g .third;
+      }
+
+  fields-result : (i : Item) → i .key < 2 ^ 32 → i .tag ≤ 65535 → FieldsGood s (withResult t i)
+  unfolding withResult
+  fields-result i hk ht =
+      record {
+        permission = g .permission;
+        item-key = g .item-key;
+        item-tag = g .item-tag;
+        own = g .own;
+        depth = g .depth;
+        leaf = g .leaf;
+        tries = g .tries;
+        lo = g .lo;
+        hi = g .hi;
+        node = g .node;
+        after = g .after;
+        result-key = hk;
+        result-tag = ht;
+        first = g .first;
+        second = g .second;
+        third = g .third;
+      }
+
+  fields-item : (i : Item) → i .key < 2 ^ 32 → i .tag ≤ 65535 → FieldsGood s (withItem t i)
+  unfolding withItem
+  fields-item i hk ht =
+      record {
+        permission = g .permission;
+        item-key = hk;
+        item-tag = ht;
+        own = g .own;
+        depth = g .depth;
+        leaf = g .leaf;
+        tries = g .tries;
+        lo = g .lo;
+        hi = g .hi;
+        node = g .node;
+        after = g .after;
+        result-key = g .result-key;
+        result-tag = g .result-tag;
+        first = g .first;
+        second = g .second;
+        third = g .third;
+      }
+
+  fields-own : (c : ℕ) → c ≤ s .cells → FieldsGood s (withOwn t c)
+  unfolding withOwn
+  fields-own c h =
+      record {
+        permission = g .permission;
+        item-key = g .item-key;
+        item-tag = g .item-tag;
+        own = h;
+        depth = g .depth;
+        leaf = g .leaf;
+        tries = g .tries;
+        lo = g .lo;
+        hi = g .hi;
+        node = g .node;
+        after = g .after;
+        result-key = g .result-key;
+        result-tag = g .result-tag;
+        first = g .first;
+        second = g .second;
+        third = g .third;
+      }
+
+  fields-first : (q : NodeCopy) → CopyGood (s .cells) q → FieldsGood s (withFirst t q)
+  unfolding withFirst
+  fields-first q h =
+      record {
+        permission = g .permission;
+        item-key = g .item-key;
+        item-tag = g .item-tag;
+        own = g .own;
+        depth = g .depth;
+        leaf = g .leaf;
+        tries = g .tries;
+        lo = g .lo;
+        hi = g .hi;
+        node = g .node;
+        after = g .after;
+        result-key = g .result-key;
+        result-tag = g .result-tag;
+        first = h;
+        second = g .second;
+        third = g .third;
+      }
+
+  fields-second : (q : NodeCopy) → CopyGood (s .cells) q → FieldsGood s (withSecond t q)
+  unfolding withSecond
+  fields-second q h =
+      record {
+        permission = g .permission;
+        item-key = g .item-key;
+        item-tag = g .item-tag;
+        own = g .own;
+        depth = g .depth;
+        leaf = g .leaf;
+        tries = g .tries;
+        lo = g .lo;
+        hi = g .hi;
+        node = g .node;
+        after = g .after;
+        result-key = g .result-key;
+        result-tag = g .result-tag;
+        first = g .first;
+        second = h;
+        third = g .third;
+      }
+
+  fields-third : (q : NodeCopy) → CopyGood (s .cells) q → FieldsGood s (withThird t q)
+  unfolding withThird
+  fields-third q h =
+      record {
+        permission = g .permission;
+        item-key = g .item-key;
+        item-tag = g .item-tag;
+        own = g .own;
+        depth = g .depth;
+        leaf = g .leaf;
+        tries = g .tries;
+        lo = g .lo;
+        hi = g .hi;
+        node = g .node;
+        after = g .after;
+        result-key = g .result-key;
+        result-tag = g .result-tag;
+        first = g .first;
+        second = g .second;
+        third = h;
+      }
+
+  -- on to a place, to mending, idle
+  at-good : (p : Place) → PlaceGood s t p → ThreadGood s (atPlace t p)
+  unfolding atPlace
+  at-good p h = record { fields = fields-at p; place = place-same s t (atPlace t p) p refl refl h }
+
+  onTo-good : (p : Place) → PlaceGood s t p → PlanGood s (onTo t p)
+  unfolding onTo
+  onTo-good p h = record { effect = tt; thread = at-good p h }
+
+  gone-good : ThreadGood s (goneIdle t)
+  unfolding goneIdle
+  gone-good = idle-good s (t .permission) (g .permission)
+
+mending-good : (s : Shape) (t : Thread) → FieldsGood s t → (n w : ℕ) → n ≤ nodeCount s → WaitsAbove n w → ThreadGood s (mending t n w)
+unfolding mending withNode
+mending-good s t g n w hn hw = at-good s (withNode t n) (fields-node s t g n hn) (MendReadNode w) hw
+
+refused-good : (s : Shape) (t : Thread) → ThreadGood s t → (n : ℕ) → PlanGood s (refused t n)
+unfolding refused
+refused-good s t g n = record { effect = tt; thread = g }
+
+plan-good : (s : Shape) (e : Effect) (t : Thread) (a : Answer) → EffectGood s e → ThreadGood s t → PlanGood s (plan e t a)
+unfolding plan
+plan-good s e t a he ht = record { effect = he; thread = ht }
+
+moved-good : (s : Shape) (t : Thread) → ThreadGood s t → PlanGood s (moved t)
+unfolding moved
+moved-good s t h = record { effect = tt; thread = h }
+
+-- The places.
+module _ (s : Shape) (r : InRange s) (m : Shared) (sm : SharedGood s m) where
+  read-good : (n : ℕ) → CopyGood (s .cells) (readNode m n)
+  unfolding readNode
+  read-good n = record { node = sm .node n; head = sm .cell (m .node n .first) }
+
+  pub some-nodes : 1 ≤ nodeCount s
+  some-nodes = omega (arith, pow-mono {i = 1} {j = s .depth} (r .depth-least))
+
+  updated-good : (n : Node) (first dirty : ℕ) → NodeGood (s .cells) n → isSpent n ≡ false → first ≤ s .cells → dirty ≤ 1
+      → NodeGood (s .cells) (updated n first dirty)
+  unfolding updated isSpent
+  updated-good n first dirty g e hf hd =
+      let ne = eqb-false (n .counter) 4294967295 e in
+      record { first = hf; dirty = hd; counter = omega (arith, g .counter, ne) }
+
+  module _ (t : Thread) (gt : ThreadGood s t) where
+    g : FieldsGood s t
+    g = gt .fields
+
+    -- I1
+    readDepth-good : PlanGood s (readDepth m t)
+    unfolding readDepth withSearch
+    readDepth-good =
+        let d = fields-depth s t g (m .depth) (sm .depth-most) in
+        onTo-good s _
+        (fields-search s (withDepth t (m .depth)) d (searching (t .search .leaf) 0 (t .search .lo) (t .search .hi)) (g .leaf) (omega arith) (g .lo) (g .hi))
+        ReadLeaf
+        (omega (arith, r .threshold-least))
+
+    -- the search goes on from a record u in range
+    ancestor-few : (n j : ℕ) → n ≤ nodeCount s → ancestor n j ≤ nodeCount s
+    unfolding ancestor
+    ancestor-few n j h = omega (arith, h, div-le-self n (2 ^ (level n - j)))
+
+    searchOn-good : (u : Thread) → FieldsGood s u → PlanGood s (searchOn t u)
+    unfolding searchOn
+    searchOn-good u gu =
+        pick-good (PlanGood s) (ltb (u .search .lo) (u .search .hi)) (λ h. onTo-good s u gu ReadAncestor tt)
+        (λ h. pick-good (PlanGood s) (between 1 (u .search .hi) (level (u .search .leaf)))
+        (λ k. onTo-good s _ (fields-node s u gu _ (ancestor-few (u .search .leaf) (u .search .hi) (gu .leaf))) ReadTarget tt)
+        (λ k. refused-good s t gt unreadable))
+
+    -- I2
+    leaf-few : (d c : ℕ) → isLevel s d ≡ true → leafOf d c ≤ nodeCount s
+    unfolding isLevel leafOf
+    leaf-few d c e =
+        let l = between-least 1 d (s .depth) e in
+        let u = between-most 1 d (s .depth) e in
+        omega (arith, mod-lt c (pow-pos (d - 1)), twice d l, pow-mono {i = d} {j = s .depth} u)
+
+    leafFailed-good : (leaf : ℕ) → leaf ≤ nodeCount s → (q : NodeCopy) → CopyGood (s .cells) q → PlanGood s (leafFailed s t leaf q)
+    unfolding leafFailed failedPlace nextTries withFirst withSearch
+    leafFailed-good leaf hl q hq =
+        let x = searching leaf (nextTries s t) (t .search .lo) (t .search .hi) in
+        let u = withFirst (withSearch t x) q in
+        onTo-good s u
+        (fields-first s (withSearch t x) (fields-search s t g x hl (omega arith) (g .lo) (g .hi)) q hq)
+        (failedPlace s t)
+        (pick-good (PlaceGood s u) (ltb (nextTries s t) (s .threshold)) (λ h. ltb-true (nextTries s t) (s .threshold) h)
+        (λ h. pick-good (PlaceGood s u) (ltb (t .depth) (s .depth)) (λ k. tt) (λ k. tt)))
+
+    leafRead-good : (leaf : ℕ) → leaf ≤ nodeCount s → (q : NodeCopy) → CopyGood (s .cells) q → PlanGood s (leafRead s t leaf q)
+    unfolding leafRead
+    leafRead-good leaf hl q hq =
+        pick-good (PlanGood s) (itemLe (t .item) (valueOf q))
+        (λ h. searchOn-good _
+        (fields-first s _
+        (fields-search s t g (searching leaf (t .search .tries) 1 (t .depth)) hl (g .tries) (r .depth-least) (g .depth))
+        q hq))
+        (λ h. leafFailed-good leaf hl q hq)
+
+    readLeaf-good : (c : ℕ) → PlanGood s (readLeaf s m t c)
+    unfolding readLeaf
+    readLeaf-good c =
+        pick-good (PlanGood s) (isLevel s (t .depth))
+        (λ h. leafRead-good (leafOf (t .depth) c) (leaf-few (t .depth) c h) _ (read-good (leafOf (t .depth) c)))
+        (λ h. refused-good s t gt unreadable)
+
+    -- I3: the middle lies below hi
+    middle-few : (middleLevel t ≡ 0 → ⊥) → middleLevel t + 1 ≤ s .depth
+    unfolding middleLevel pick
+    middle-few n = go (ltb (t .search .lo) (t .search .hi)) (leb ((t .search .lo + t .search .hi) / 2) (level (t .search .leaf))) refl n
+      where
+        go : (q p : Bool) → ltb (t .search .lo) (t .search .hi) ≡ q
+            → (pick q (pick p ((t .search .lo + t .search .hi) / 2) 0) 0 ≡ 0 → ⊥)
+            → pick q (pick p ((t .search .lo + t .search .hi) / 2) 0) 0 + 1 ≤ s .depth
+        go true true e k = omega (arith, ltb-true (t .search .lo) (t .search .hi) e, g .hi)
+        go true false e k = absurd (k refl)
+        go false p e k = absurd (k refl)
+
+    ancestorRead-good : (j : ℕ) → j + 1 ≤ s .depth → (q : NodeCopy) → CopyGood (s .cells) q → PlanGood s (ancestorRead t j q)
+    unfolding ancestorRead
+    ancestorRead-good j hj q hq =
+        let x = searching (t .search .leaf) (t .search .tries) (t .search .lo) j in
+        let y = searching (t .search .leaf) (t .search .tries) (j + 1) (t .search .hi) in
+        searchOn-good _
+        (fields-first s _
+        (pick-good (λ z. FieldsGood s (withSearch t z)) (itemLe (t .item) (valueOf q))
+        (λ h. fields-search s t g x (g .leaf) (g .tries) (g .lo) (omega arith))
+        (λ h. fields-search s t g y (g .leaf) (g .tries) hj (g .hi)))
+        q hq)
+
+    readAncestor-good : PlanGood s (readAncestor m t)
+    unfolding readAncestor
+    readAncestor-good =
+        pick-good (PlanGood s) (eqb (middleLevel t) 0) (λ h. refused-good s t gt unreadable)
+        (λ h. ancestorRead-good (middleLevel t) (middle-few (eqb-false (middleLevel t) 0 h)) _ (read-good _))
+
+    -- I4
+    growDepth-good : PlanGood s (growDepth s m t)
+    unfolding growDepth isLevel
+    growDepth-good =
+        pick-good (PlanGood s) (isLevel s (t .depth) && isLevel s (t .depth + 1))
+        (λ h. let k = and-right (isLevel s (t .depth)) (isLevel s (t .depth + 1)) h in
+        pick-good (PlanGood s) (eqb (m .depth) (t .depth))
+        (λ e. plan-good s (Grow (t .depth + 1)) _ Moved
+        (between-least 1 (t .depth + 1) (s .depth) k, between-most 1 (t .depth + 1) (s .depth) k)
+        (at-good s t g ReadDepth tt))
+        (λ e. onTo-good s t g ReadDepth tt))
+        (λ h. refused-good s t gt unreadable)
+
+    -- I5 and I7
+    readTarget-good : PlanGood s (readTarget m t)
+    unfolding readTarget targetPlace
+    readTarget-good =
+        let q = readNode m (t .node) in
+        pick-good (PlanGood s) (eqb (t .node) 0) (λ h. refused-good s t gt unreadable)
+        (λ h. onTo-good s (withFirst t q) (fields-first s t g q (read-good (t .node))) (targetPlace t q)
+        (pick-good (PlaceGood s (withFirst t q)) (itemLt (valueOf q) (t .item)) (λ k. tt)
+        (λ k. pick-good (PlaceGood s (withFirst t q)) (eqb (t .node) 1) (λ e. tt) (λ e. tt))))
+
+    readParent-good : PlanGood s (readParent m t)
+    unfolding readParent
+    readParent-good =
+        let q = readNode m (t .node / 2) in
+        let p = pick (itemLt (t .item) (valueOf q)) ReadDepth InsertBelow in
+        pick-good (PlanGood s) (ltb (t .node) 2) (λ h. refused-good s t gt unreadable)
+        (λ h. onTo-good s (withSecond t q) (fields-second s t g q (read-good (t .node / 2))) p
+        (pick-good (PlaceGood s (withSecond t q)) (itemLt (t .item) (valueOf q)) (λ k. tt) (λ k. tt)))
+
+    -- I6 and I8
+    insertAt-good : (n : ℕ) → NodeIn s n → CellIn s (t .own) → (holds : Bool) → PlanGood s (insertAt t n holds)
+    unfolding insertAt
+    insertAt-good n hn hc holds =
+        let q = t .copies .first .node in
+        pick-good (PlanGood s) holds
+        (λ h. pick-good (PlanGood s) (isSpent q) (λ k. refused-good s t gt counterSpent)
+        (λ k. plan-good s (Push n (updated q (t .own) (q .dirty)) (t .own) (q .first)) (goneIdle t) _
+        (hn, hc, updated-good q (t .own) (q .dirty) (g .first .node) k (g .own) (g .first .node .dirty), g .first .node .first)
+        (gone-good s t g)))
+        (λ h. onTo-good s t g ReadDepth tt)
+
+    own-cell : (t .own ≡ 0 → ⊥) → CellIn s (t .own)
+    own-cell n = (omega arith, g .own)
+
+    insertAtRoot-good : PlanGood s (insertAtRoot m t)
+    unfolding insertAtRoot
+    insertAtRoot-good =
+        pick-good (PlanGood s) (eqb (t .own) 0) (λ h. refused-good s t gt unreadable)
+        (λ h. insertAt-good 1 (omega arith, some-nodes) (own-cell (eqb-false (t .own) 0 h)) _)
+
+    insertBelow-good : PlanGood s (insertBelow m t)
+    unfolding insertBelow
+    insertBelow-good =
+        pick-good (PlanGood s) (ltb (t .node) 2 || eqb (t .own) 0) (λ h. refused-good s t gt unreadable)
+        (λ h. insertAt-good (t .node)
+        (omega (arith, ltb-false (t .node) 2 (or-left (ltb (t .node) 2) (eqb (t .own) 0) h)), g .node)
+        (own-cell (eqb-false (t .own) 0 (or-right (ltb (t .node) 2) (eqb (t .own) 0) h)))
+        _)
+
+    -- E1 and E2
+    readRoot-good : PlanGood s (readRoot m t)
+    unfolding readRoot rootRead
+    readRoot-good =
+        let q = readNode m 1 in
+        let f = fields-first s t g q (read-good 1) in
+        pick-good (PlanGood s) (isDirty (q .node))
+        (λ h. moved-good s _ (mending-good s _ (fields-after s (withFirst t q) f 0 (omega arith)) 1 0 some-nodes (omega arith)))
+        (λ h. pick-good (PlanGood s) (eqb (q .node .first) 0)
+        (λ k. plan-good s Nothing (goneIdle t) _ tt (gone-good s t g))
+        (λ k. onTo-good s (withFirst t q) f RemoveHead tt))
+
+    removeHead-good : PlanGood s (removeHead m t)
+    unfolding removeHead headRemoved
+    removeHead-good =
+        let q = t .copies .first in
+        let f = fields-result s t g (q .head .item) (g .first .head .key) (g .first .head .tag) in
+        pick-good (PlanGood s) (eqb (q .node .first) 0) (λ h. refused-good s t gt unreadable)
+        (λ h. pick-good (PlanGood s) (sameNode (m .node 1) (q .node))
+        (λ k. pick-good (PlanGood s) (isSpent (q .node)) (λ e. refused-good s t gt counterSpent)
+        (λ e. let ne = eqb-false (q .node .first) 0 h in
+        plan-good s (Pop (updated (q .node) (q .head .next) 1) (q .node .first)) _ Moved
+        ((omega arith, g .first .node .first), updated-good (q .node) (q .head .next) 1 (g .first .node) e (g .first .head .next) (omega arith))
+        (mending-good s _ (fields-after s _ f 1 (omega arith)) 1 0 some-nodes (omega arith))))
+        (λ k. onTo-good s t g ReadRoot tt))
+
+    -- Mending, with the waiting levels w above the node's.
+    module _ (w : ℕ) (hw : WaitsAbove (t .node) w) where
+      few-nodes : nodeCount s < 2 ^ 32
+      few-nodes = omega (arith, sizes s (r .depth-most))
+
+      returned-good : (u : Thread) → FieldsGood s u → u .node ≡ t .node → ThreadGood s (returned u w)
+      unfolding returned
+      returned-good u gu en =
+          pick-good (ThreadGood s) (eqb w 0)
+          (λ h. pick-good (ThreadGood s) (eqb (u .after) 0) (λ k. at-good s u gu ReadRoot tt) (λ k. gone-good s u gu))
+          (λ h. mending-good s u gu _ _ (ancestor-few (u .node) (level w) (gu .node))
+          (waits-returned (u .node) w (omega (arith, gu .node, few-nodes)) (eqb-false w 0 h) (subst (λ n. WaitsAbove n w) (sym en) hw)))
+
+      returning-good : (e : Effect) → EffectGood s e → (u : Thread) → FieldsGood s u → u .node ≡ t .node → PlanGood s (returning e u w)
+      unfolding returning
+      returning-good e he u gu en = plan-good s e (returned u w) (returnAnswer u w) he (returned-good u gu en)
+
+      -- M1
+      mendReadNode-good : PlanGood s (mendReadNode m t w)
+      unfolding mendReadNode withFirst
+      mendReadNode-good =
+          let q = readNode m (t .node) in
+          pick-good (PlanGood s) (eqb (t .node) 0) (λ h. refused-good s t gt unreadable)
+          (λ h. onTo-good s (withFirst t q) (fields-first s t g q (read-good (t .node))) (MendReadDepth w) hw)
+
+      -- M2
+      mendReadDepth-good : PlanGood s (mendReadDepth m t w)
+      unfolding mendReadDepth depthRead withDepth
+      mendReadDepth-good =
+          let u = withDepth t (m .depth) in
+          let f = fields-depth s t g (m .depth) (sm .depth-most) in
+          pick-good (PlanGood s) (eqb (t .node) 0) (λ h. refused-good s t gt unreadable)
+          (λ h. pick-good (PlanGood s) (isDirty (t .copies .first .node))
+          (λ k. pick-good (PlanGood s) (eqb (level (t .node)) (m .depth)) (λ e. onTo-good s u f (MendClean w) hw)
+          (λ e. onTo-good s u f (MendReadLeft w) hw))
+          (λ k. returning-good Nothing tt u f refl))
+
+      -- M3
+      mendReadLeft-good : PlanGood s (mendReadLeft s m t w)
+      unfolding mendReadLeft withSecond
+      mendReadLeft-good =
+          let q = readNode m (2 * t .node) in
+          pick-good (PlanGood s) (isNode s (2 * t .node))
+          (λ h. onTo-good s (withSecond t q) (fields-second s t g q (read-good (2 * t .node))) (MendReadRight w) hw)
+          (λ h. refused-good s t gt unreadable)
+
+      -- M4
+      childrenRead-good : (u : Thread) → FieldsGood s u → u .node ≡ t .node → 1 ≤ t .node → 2 * t .node + 1 ≤ nodeCount s
+          → PlanGood s (childrenRead u w)
+      unfolding childrenRead
+      childrenRead-good u gu en p l =
+          let n = u .node in
+          let hu : WaitsAbove n w = subst (λ k. WaitsAbove k w) (sym en) hw in
+          let pn : 1 ≤ n = omega arith in
+          pick-good (PlanGood s) (isDirty (u .copies .second .node))
+          (λ h. moved-good s _ (mending-good s u gu (2 * n) (marked w (level n)) (omega arith)
+          (waits-marked n (2 * n) w pn (omega arith) (omega arith) (omega (arith, few-nodes)) hu)))
+          (λ h. pick-good (PlanGood s) (isDirty (u .copies .third .node))
+          (λ k. moved-good s _ (mending-good s u gu (2 * n + 1) (marked w (level n)) (omega arith)
+          (waits-marked n (2 * n + 1) w pn (omega arith) (omega arith) (omega (arith, few-nodes)) hu)))
+          (λ k. pick-good (PlanGood s) (childLess u) (λ e. onTo-good s u gu (MendSwap w) hu) (λ e. onTo-good s u gu (MendClean w) hu)))
+
+      mendReadRight-good : PlanGood s (mendReadRight s m t w)
+      unfolding mendReadRight isNode withThird
+      mendReadRight-good =
+          let c = 2 * t .node + 1 in
+          let q = readNode m c in
+          pick-good (PlanGood s) (not (eqb (t .node) 0) && isNode s c)
+          (λ h. let ne = eqb-false (t .node) 0 (not-true (eqb (t .node) 0) (and-left (not (eqb (t .node) 0)) (isNode s c) h)) in
+          childrenRead-good (withThird t q) (fields-third s t g q (read-good c)) refl (omega arith)
+          (between-most 1 c (nodeCount s) (and-right (not (eqb (t .node) 0)) (isNode s c) h)))
+          (λ h. refused-good s t gt unreadable)
+
+      -- M5
+      exchangeWith-good : (c : ℕ) (q : NodeCopy) → 2 * t .node ≤ c → c ≤ 2 * t .node + 1 → CopyGood (s .cells) q
+          → PlanGood s (exchangeWith s m t w c q)
+      unfolding exchangeWith exchangeAt isNode
+      exchangeWith-good c q lo hi hq =
+          let n = t .copies .first .node in
+          pick-good (PlanGood s) (not (eqb (t .node) 0) && isNode s c)
+          (λ h. let ne = eqb-false (t .node) 0 (not-true (eqb (t .node) 0) (and-left (not (eqb (t .node) 0)) (isNode s c) h)) in
+          let cl = between-least 1 c (nodeCount s) (and-right (not (eqb (t .node) 0)) (isNode s c) h) in
+          let cu = between-most 1 c (nodeCount s) (and-right (not (eqb (t .node) 0)) (isNode s c) h) in
+          pick-good (PlanGood s) (bothSame m t c q)
+          (λ k. pick-good (PlanGood s) (isSpent n || isSpent (q .node)) (λ e. refused-good s t gt counterSpent)
+          (λ e. plan-good s (Exchange (t .node) (updated n (q .node .first) 0) c (updated (q .node) (n .first) 1)) (mending t c w) Moved (
+            (omega arith, g .node),
+            (cl, cu),
+            updated-good n (q .node .first) 0 (g .first .node) (or-left (isSpent n) (isSpent (q .node)) e) (hq .node .first) (omega arith),
+            updated-good (q .node) (n .first) 1 (hq .node) (or-right (isSpent n) (isSpent (q .node)) e) (g .first .node .first) (omega arith),
+          )
+          (mending-good s t g c w cu (waits-at-child (t .node) c w (omega arith) lo hi (omega (arith, cu, few-nodes)) hw))))
+          (λ k. onTo-good s t g (MendReadNode w) hw))
+          (λ h. refused-good s t gt unreadable)
+
+      mendSwap-good : PlanGood s (mendSwap s m t w)
+      unfolding mendSwap
+      mendSwap-good =
+          pick-good (PlanGood s) (itemLe (valueOf (t .copies .second)) (valueOf (t .copies .third)))
+          (λ h. exchangeWith-good (2 * t .node) (t .copies .second) (omega arith) (omega arith) (g .second))
+          (λ h. exchangeWith-good (2 * t .node + 1) (t .copies .third) (omega arith) (omega arith) (g .third))
+
+      -- M6
+      mendClean-good : PlanGood s (mendClean m t w)
+      unfolding mendClean cleanAt
+      mendClean-good =
+          let n = t .copies .first .node in
+          pick-good (PlanGood s) (eqb (t .node) 0) (λ h. refused-good s t gt unreadable)
+          (λ h. let ne = eqb-false (t .node) 0 h in
+          pick-good (PlanGood s) (sameNode (m .node (t .node)) n)
+          (λ k. pick-good (PlanGood s) (isSpent n) (λ e. refused-good s t gt counterSpent)
+          (λ e. returning-good (Clean (t .node) (updated n (n .first) 0))
+          ((omega arith, g .node), updated-good n (n .first) 0 (g .first .node) e (g .first .node .first) (omega arith))
+          t g refl))
+          (λ k. onTo-good s t g (MendReadNode w) hw))

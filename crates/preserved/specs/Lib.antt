@@ -1,0 +1,2 @@
+-- The statements about turns and beginnings.
+pub mod Theorems

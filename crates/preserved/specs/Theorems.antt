@@ -1,0 +1,62 @@
+-- What holds of every turn and every beginning on a readable region. Each statement is proved under its name in proofs/Proved.antt.
+use Prim.Native.Nat.{ℕ, _+_, _-_, _*_, _≤_, _<_}
+use mathlib.Core.Path.{_≡_}
+use mathlib.Core.Logic.{_⊎_}
+use mathlib.Core.Bool.{true}
+use mathlib.Core.List.{List}
+use Rattle.words.specs.Word.{word}
+use Rattle.region.specs.Frame.{nodesOf, cellsOf, threadsOf}
+use Rattle.region.specs.Shared.{entry, threadIn}
+use Rattle.region.specs.Thread.{threadSize}
+use Rattle.region.specs.declared.frame.Frame.{Frame}
+use Rattle.region.specs.declared.record.Item.{Item}
+use Rattle.access.specs.declared.effect.Effect.{Effect}
+use Rattle.access.specs.declared.effect.Effect.the-variants.{Nothing, Grow, Push, Pop, Exchange, Clean}
+use Rattle.readable.specs.Readable.{readable, shapeIn}
+use Rattle.machine.specs.Begin.{frameIn, putBytes, takeBytes}
+use Rattle.machine.specs.Turn.{turnBytes, turnPlan}
+
+-- a readable region is readable after any turn and any beginning
+abbrev pub TurnKeepsReadable : Type 0
+TurnKeepsReadable = (b : List ℕ) → readable b ≡ true → (t c : ℕ) → readable (turnBytes (frameIn b) b t c) ≡ true
+
+abbrev pub PutKeepsReadable : Type 0
+PutKeepsReadable = (b : List ℕ) → readable b ≡ true → (t : ℕ) (i : Item) → readable (putBytes b t i) ≡ true
+
+abbrev pub TakeKeepsReadable : Type 0
+TakeKeepsReadable = (b : List ℕ) → readable b ≡ true → (t : ℕ) → readable (takeBytes b t) ≡ true
+
+-- D, C, T and H never change
+abbrev pub TurnKeepsShape : Type 0
+TurnKeepsShape = (b : List ℕ) → readable b ≡ true → (t c : ℕ) → shapeIn (turnBytes (frameIn b) b t c) ≡ shapeIn b
+
+abbrev pub PutKeepsShape : Type 0
+PutKeepsShape = (b : List ℕ) → readable b ≡ true → (t : ℕ) (i : Item) → shapeIn (putBytes b t i) ≡ shapeIn b
+
+abbrev pub TakeKeepsShape : Type 0
+TakeKeepsShape = (b : List ℕ) → readable b ≡ true → (t : ℕ) → shapeIn (takeBytes b t) ≡ shapeIn b
+
+-- a turn of one thread leaves every other thread's record alone
+abbrev pub TurnLeavesOthers : Type 0
+TurnLeavesOthers =
+    (b : List ℕ) → readable b ≡ true → (t c u : ℕ) → (u ≡ t → ⊥)
+    → threadIn (frameIn b) (turnBytes (frameIn b) b t c) u ≡ threadIn (frameIn b) b u
+
+-- word j lies outside n words from word k on
+abbrev pub Apart : ℕ → ℕ → ℕ → Type 0
+Apart k n j = (j < k) ⊎ (k + n ≤ j)
+
+-- word j is none that an effect stores to
+abbrev pub OutsideEffect : Frame → Effect → ℕ → Type 0
+OutsideEffect f Nothing j = Unit
+OutsideEffect f (Grow d) j = j ≡ f .depth → ⊥
+OutsideEffect f (Push n v c x) j = Apart (entry (nodesOf f) n) 3 j × Apart (entry (cellsOf f) c) 3 j
+OutsideEffect f (Pop v c) j = Apart (entry (nodesOf f) 1) 3 j × Apart (entry (cellsOf f) c) 3 j × (j ≡ f .free → ⊥)
+OutsideEffect f (Exchange n v k w) j = Apart (entry (nodesOf f) n) 3 j × Apart (entry (nodesOf f) k) 3 j
+OutsideEffect f (Clean n v) j = Apart (entry (nodesOf f) n) 3 j
+
+-- and every word outside its effect and its own record
+abbrev pub TurnLeavesWords : Type 0
+TurnLeavesWords =
+    (b : List ℕ) → readable b ≡ true → (t c j : ℕ) → OutsideEffect (frameIn b) (turnPlan (frameIn b) b t c .effect) j
+    → Apart (entry (threadsOf (frameIn b)) t) threadSize j → word (turnBytes (frameIn b) b t c) j ≡ word b j

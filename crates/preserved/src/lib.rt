@@ -1,0 +1,1 @@
+// Theorems about turns and beginnings; this crate has no code.
