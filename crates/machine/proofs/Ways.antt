@@ -16,6 +16,7 @@ use Rattle.region.specs.Place.{placeNumber}
 use Rattle.region.specs.Shape.{between}
 use Rattle.region.specs.Shared.{Shared, sharedIn, cellIn, setCellIn, threadIn, setThreadIn}
 use Rattle.region.specs.Thread.{begunPut, begunTake, idleThread}
+use Rattle.region.specs.declared.answer.Answer.{Answer}
 use Rattle.region.specs.declared.answer.Answer.the-variants.{Refused}
 use Rattle.region.specs.declared.frame.Frame.{Frame}
 use Rattle.region.specs.declared.place.Place.{Place}
@@ -30,7 +31,7 @@ use Rattle.access.specs.declared.plan.Plan.{Plan}
 use Rattle.readable.specs.Readable.{readable, shapeIn}
 use Rattle.readable.proofs.Laws.{readable-within}
 use Rattle.machine.specs.Begin.{PutBegun, TakeBegun, frameIn, isIdle, isItem, mayPut, mayTake, putBegun, putBusy, putBytes, putRefusal, takeBytes, takeRefusal}
-use Rattle.machine.specs.Turn.{Turned, carriedOut, decide, decideAt, staysPut, turnAnswer, turnBytes, turnPlan}
+use Rattle.machine.specs.Turn.{Turned, TurnedOn, carriedOut, decide, decideAt, staysPut, turnAnswer, turnBytes, turnOnAnswer, turnOnBytes, turnPlan}
 
 -- A turn.
 pub decided : (s : Shape) (m : Shared) (t : Thread) (c : ℕ) (r : Plan) (p : Place) → t .place ≡ p → r ≡ decideAt s m t c p
@@ -246,4 +247,27 @@ module _ (b : List ℕ) (t r : ℕ) (e : r ≡ takeRefusal b t) where
                 rw
                 (← e, eq-eqb r done d)
                 (eb ∙ (λ j. setThreadIn (ef j) b t ((ey ∙ ap begunTake (ex ∙ ap (λ g. threadIn g b t) ef)) j)));
+          }
+
+-- A turn by itself: the region is not readable, or the turn is made in its frame.
+module _ (b : List ℕ) (t c : ℕ) (q : Bool) (eq : q ≡ readable b) where
+  pub turn-unreadable : not q ≡ true → TurnedOn b b t c (Refused unreadable)
+  unfolding turnOnAnswer turnOnBytes pick
+  turn-unreadable n =
+      record { answer = rw (← eq, not-true q n) refl; bytes = rw (← eq, not-true q n) refl }
+
+  module _ (gq : not q ≡ false) where
+    pub turn-readable : readable b ≡ true
+    turn-readable = sym eq ∙ not-false q gq
+
+    module _ (f : Frame) (ef : f ≡ frameOf (shapeIn b)) where
+      pub turn-within : Within f (length b)
+      turn-within = subst (λ g. Within g (length b)) (sym ef) (readable-within b turn-readable)
+
+      pub turned-on : (b′ : List ℕ) (r : Answer) → Turned f b b′ t c r → TurnedOn b b′ t c r
+      unfolding turnOnAnswer turnOnBytes pick
+      turned-on b′ r h =
+          record {
+            answer = rw turn-readable (h .answer ∙ ap (λ g. turnAnswer g b t c) ef);
+            bytes = rw turn-readable (h .bytes ∙ ap (λ g. turnBytes g b t c) ef);
           }

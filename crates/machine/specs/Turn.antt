@@ -3,7 +3,8 @@ use Prim.Native.Nat.{ℕ}
 use mathlib.Core.Path.{_≡_}
 use mathlib.Core.Bool.{Bool, true, false}
 use mathlib.Core.List.{List}
-use Rattle.region.specs.Answer.{badThread}
+use Rattle.region.specs.Answer.{badThread, unreadable}
+use Rattle.region.specs.Frame.{frameOf}
 use Rattle.region.specs.Pick.{pick}
 use Rattle.region.specs.Shape.{between}
 use Rattle.region.specs.Shared.{Shared, sharedIn, threadIn, setThreadIn}
@@ -19,6 +20,7 @@ use Rattle.access.specs.Effect.{effectBytes}
 use Rattle.access.specs.Plan.{plan, refused}
 use Rattle.access.specs.declared.effect.Effect.the-variants.{Nothing}
 use Rattle.access.specs.declared.plan.Plan.{Plan}
+use Rattle.readable.specs.Readable.{readable, shapeIn}
 use Rattle.insert.specs.Insert.{readDepth, readLeaf, readAncestor, growDepth, readTarget, insertAtRoot, readParent, insertBelow}
 use Rattle.extract.specs.Extract.{readRoot, removeHead}
 use Rattle.moundify.specs.Moundify.{mendReadNode, mendReadDepth, mendReadLeft, mendReadRight, mendSwap, mendClean}
@@ -81,3 +83,16 @@ turnBytes f b t c = carriedOut f b t (turnPlan f b t c)
 pub record Turned (f : Frame) (b b′ : List ℕ) (t c : ℕ) (r : Answer) : Type 0 where
   pub answer : r ≡ turnAnswer f b t c
   pub bytes : b′ ≡ turnBytes f b t c
+
+-- a turn by itself on a whole region that holds one queue: "7: region not readable", then as above
+unfoldable pub turnOnAnswer : List ℕ → ℕ → ℕ → Answer
+unfolding turnAnswer
+turnOnAnswer b t c = pick (readable b) (turnAnswer (frameOf (shapeIn b)) b t c) (Refused unreadable)
+
+unfoldable pub turnOnBytes : List ℕ → ℕ → ℕ → List ℕ
+unfolding turnBytes
+turnOnBytes b t c = pick (readable b) (turnBytes (frameOf (shapeIn b)) b t c) b
+
+pub record TurnedOn (b b′ : List ℕ) (t c : ℕ) (r : Answer) : Type 0 where
+  pub answer : r ≡ turnOnAnswer b t c
+  pub bytes : b′ ≡ turnOnBytes b t c

@@ -5,3 +5,4 @@ mod turns;
 pub use beginnings::begin_put;
 pub use beginnings::begin_take;
 pub use turns::turn;
+pub use turns::turn_on;

@@ -3,7 +3,7 @@ ghost use mathlib.Core.Path.{_≡_};
 ghost use lib.ListN.{length};
 ghost use Rattle.region.specs.Frame.{Within};
 ghost use Rattle.region.specs.Shared.{sharedIn};
-ghost use Rattle.machine.specs.Turn.{Turned, carriedOut, decide, staysPut};
+ghost use Rattle.machine.specs.Turn.{Turned, TurnedOn, carriedOut, decide, staysPut};
 use access::Effect;
 use access::Plan;
 use region::Answer;
@@ -11,6 +11,7 @@ use region::BAD_THREAD;
 use region::Frame;
 use region::Place;
 use region::Thread;
+use region::UNREADABLE;
 
 // What the thread's place decides.
 fn decide(f: Frame, b: &[u8], t: Thread, choice: u32) -> Plan
@@ -81,4 +82,15 @@ pub fn turn(f: Frame, b: &mut [u8], thread: u32, choice: u32) -> Answer
     let plan = decide(f, b, t, choice);
     carry_out(f, b, thread, plan);
     plan.answer
+}
+
+// A turn by itself on a whole region: refused 7 where the region is not readable, then as `turn`.
+pub fn turn_on(b: &mut [u8], thread: u32, choice: u32) -> Answer
+    ensures { λ r. ⌜ TurnedOn (now (b .entry)) (now (b .exit)) thread choice r ⌝ }
+{
+    if !readable::is_readable(b) {
+        return Answer::Refused(UNREADABLE);
+    }
+    let f = readable::frame_of(b);
+    turn(f, b, thread, choice)
 }

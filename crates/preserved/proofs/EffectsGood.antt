@@ -36,7 +36,7 @@ module _ (s : Shape) (m : Shared) (g : SharedGood s m) where
   put-node : (n : ℕ) (v : Node) → NodeGood (s .cells) v → (k : ℕ) → NodeGood (s .cells) (upd (m .node) n v k)
   put-node n v h = upd-good (NodeGood (s .cells)) (m .node) n v (g .node) h
 
-  put-cell : (c : ℕ) (v : Cell) → CellGood (s .cells) v → (k : ℕ) → CellGood (s .cells) (upd (m .cell) c v k)
+  pub put-cell : (c : ℕ) (v : Cell) → CellGood (s .cells) v → (k : ℕ) → CellGood (s .cells) (upd (m .cell) c v k)
   put-cell c v h = upd-good (CellGood (s .cells)) (m .cell) c v (g .cell) h
 
   pub effect-good : (e : Effect) → EffectGood s e → SharedGood s (effectShared m e)
@@ -78,7 +78,7 @@ module _ (s : Shape) (r : InRange s) where
   node-fit : (v : Node) → NodeGood (s .cells) v → Fit (nodeWords v)
   node-fit v h = (omega (arith, h .first, few-cells), (omega (arith, h .dirty), (h .counter, tt)))
 
-  cell-fit : (v : Cell) → CellGood (s .cells) v → Fit (cellWords v)
+  pub cell-fit : (v : Cell) → CellGood (s .cells) v → Fit (cellWords v)
   cell-fit v h = (h .key, (omega (arith, h .tag), (omega (arith, h .next, few-cells), tt)))
 
   fits-of : (b : List ℕ) → SharedGood s (sharedIn (frameOf s) b) → (e : Effect) → EffectGood s e → EffectFits (frameOf s) b e
@@ -103,7 +103,7 @@ unfolding frameOf
 shape-elsewhere s k h =
     record { nodes = inl (omega arith); cells = inl (omega arith); depth = λ e. omega arith; free = λ e. omega arith }
 
-thread-elsewhere : (s : Shape) (j : ℕ) → frameOf s .threads ≤ j → Elsewhere (frameOf s) (frame-parted s) j
+pub thread-elsewhere : (s : Shape) (j : ℕ) → frameOf s .threads ≤ j → Elsewhere (frameOf s) (frame-parted s) j
 unfolding frameOf
 thread-elsewhere s j h =
     record { nodes = inr (omega arith); cells = inr (omega arith); depth = λ e. omega arith; free = λ e. omega arith }

@@ -1,4 +1,5 @@
 -- What turns and beginnings preserve.
 mod EffectsGood
 mod PlansGood
+pub mod Proved
 mod TreeLevels

@@ -41,11 +41,11 @@ unfolding pick
 pick-good P true h g = h refl
 pick-good P false h g = g refl
 
-or-left : (a b : Bool) → a || b ≡ false → a ≡ false
+pub or-left : (a b : Bool) → a || b ≡ false → a ≡ false
 or-left true b e = e
 or-left false b e = refl
 
-or-right : (a b : Bool) → a || b ≡ false → b ≡ false
+pub or-right : (a b : Bool) → a || b ≡ false → b ≡ false
 or-right true b e = absurd (true≢false e)
 or-right false b e = e
 
@@ -91,7 +91,7 @@ place-same s t u (MendClean w) et en h = subst (λ n. WaitsAbove n w) en h
 
 -- Setters keep the fields in range.
 module _ (s : Shape) (t : Thread) (g : FieldsGood s t) where
-  fields-at : (p : Place) → FieldsGood s (atPlace t p)
+  pub fields-at : (p : Place) → FieldsGood s (atPlace t p)
   unfolding atPlace
   fields-at p =
       record {
@@ -113,7 +113,7 @@ module _ (s : Shape) (t : Thread) (g : FieldsGood s t) where
         third = g .third;
       }
 
-  fields-depth : (d : ℕ) → d ≤ s .depth → FieldsGood s (withDepth t d)
+  pub fields-depth : (d : ℕ) → d ≤ s .depth → FieldsGood s (withDepth t d)
   unfolding withDepth
   fields-depth d h =
       record {
@@ -135,7 +135,7 @@ module _ (s : Shape) (t : Thread) (g : FieldsGood s t) where
         third = g .third;
       }
 
-  fields-search : (x : Search) → x .leaf ≤ nodeCount s → x .tries ≤ s .threshold → x .lo ≤ s .depth → x .hi ≤ s .depth
+  pub fields-search : (x : Search) → x .leaf ≤ nodeCount s → x .tries ≤ s .threshold → x .lo ≤ s .depth → x .hi ≤ s .depth
       → FieldsGood s (withSearch t x)
   unfolding withSearch
   fields-search x hl ht hlo hhi =
@@ -158,7 +158,7 @@ module _ (s : Shape) (t : Thread) (g : FieldsGood s t) where
         third = g .third;
       }
 
-  fields-node : (n : ℕ) → n ≤ nodeCount s → FieldsGood s (withNode t n)
+  pub fields-node : (n : ℕ) → n ≤ nodeCount s → FieldsGood s (withNode t n)
   unfolding withNode
   fields-node n h =
       record {
@@ -180,7 +180,7 @@ module _ (s : Shape) (t : Thread) (g : FieldsGood s t) where
         third = g .third;
       }
 
-  fields-after : (a : ℕ) → a ≤ 1 → FieldsGood s (withAfter t a)
+  pub fields-after : (a : ℕ) → a ≤ 1 → FieldsGood s (withAfter t a)
   unfolding withAfter
   fields-after a h =
       record {
@@ -202,7 +202,7 @@ module _ (s : Shape) (t : Thread) (g : FieldsGood s t) where
         third = g .third;
       }
 
-  fields-result : (i : Item) → i .key < 2 ^ 32 → i .tag ≤ 65535 → FieldsGood s (withResult t i)
+  pub fields-result : (i : Item) → i .key < 2 ^ 32 → i .tag ≤ 65535 → FieldsGood s (withResult t i)
   unfolding withResult
   fields-result i hk ht =
       record {
@@ -224,7 +224,7 @@ module _ (s : Shape) (t : Thread) (g : FieldsGood s t) where
         third = g .third;
       }
 
-  fields-item : (i : Item) → i .key < 2 ^ 32 → i .tag ≤ 65535 → FieldsGood s (withItem t i)
+  pub fields-item : (i : Item) → i .key < 2 ^ 32 → i .tag ≤ 65535 → FieldsGood s (withItem t i)
   unfolding withItem
   fields-item i hk ht =
       record {
@@ -246,7 +246,7 @@ module _ (s : Shape) (t : Thread) (g : FieldsGood s t) where
         third = g .third;
       }
 
-  fields-own : (c : ℕ) → c ≤ s .cells → FieldsGood s (withOwn t c)
+  pub fields-own : (c : ℕ) → c ≤ s .cells → FieldsGood s (withOwn t c)
   unfolding withOwn
   fields-own c h =
       record {
@@ -268,7 +268,7 @@ module _ (s : Shape) (t : Thread) (g : FieldsGood s t) where
         third = g .third;
       }
 
-  fields-first : (q : NodeCopy) → CopyGood (s .cells) q → FieldsGood s (withFirst t q)
+  pub fields-first : (q : NodeCopy) → CopyGood (s .cells) q → FieldsGood s (withFirst t q)
   unfolding withFirst
   fields-first q h =
       record {
@@ -290,7 +290,7 @@ module _ (s : Shape) (t : Thread) (g : FieldsGood s t) where
         third = g .third;
       }
 
-  fields-second : (q : NodeCopy) → CopyGood (s .cells) q → FieldsGood s (withSecond t q)
+  pub fields-second : (q : NodeCopy) → CopyGood (s .cells) q → FieldsGood s (withSecond t q)
   unfolding withSecond
   fields-second q h =
       record {
@@ -312,7 +312,7 @@ module _ (s : Shape) (t : Thread) (g : FieldsGood s t) where
         third = g .third;
       }
 
-  fields-third : (q : NodeCopy) → CopyGood (s .cells) q → FieldsGood s (withThird t q)
+  pub fields-third : (q : NodeCopy) → CopyGood (s .cells) q → FieldsGood s (withThird t q)
   unfolding withThird
   fields-third q h =
       record {
@@ -335,44 +335,44 @@ module _ (s : Shape) (t : Thread) (g : FieldsGood s t) where
       }
 
   -- on to a place, to mending, idle
-  at-good : (p : Place) → PlaceGood s t p → ThreadGood s (atPlace t p)
+  pub at-good : (p : Place) → PlaceGood s t p → ThreadGood s (atPlace t p)
   unfolding atPlace
   at-good p h = record { fields = fields-at p; place = place-same s t (atPlace t p) p refl refl h }
 
-  onTo-good : (p : Place) → PlaceGood s t p → PlanGood s (onTo t p)
+  pub onTo-good : (p : Place) → PlaceGood s t p → PlanGood s (onTo t p)
   unfolding onTo
   onTo-good p h = record { effect = tt; thread = at-good p h }
 
-  gone-good : ThreadGood s (goneIdle t)
+  pub gone-good : ThreadGood s (goneIdle t)
   unfolding goneIdle
   gone-good = idle-good s (t .permission) (g .permission)
 
-mending-good : (s : Shape) (t : Thread) → FieldsGood s t → (n w : ℕ) → n ≤ nodeCount s → WaitsAbove n w → ThreadGood s (mending t n w)
+pub mending-good : (s : Shape) (t : Thread) → FieldsGood s t → (n w : ℕ) → n ≤ nodeCount s → WaitsAbove n w → ThreadGood s (mending t n w)
 unfolding mending withNode
 mending-good s t g n w hn hw = at-good s (withNode t n) (fields-node s t g n hn) (MendReadNode w) hw
 
-refused-good : (s : Shape) (t : Thread) → ThreadGood s t → (n : ℕ) → PlanGood s (refused t n)
+pub refused-good : (s : Shape) (t : Thread) → ThreadGood s t → (n : ℕ) → PlanGood s (refused t n)
 unfolding refused
 refused-good s t g n = record { effect = tt; thread = g }
 
-plan-good : (s : Shape) (e : Effect) (t : Thread) (a : Answer) → EffectGood s e → ThreadGood s t → PlanGood s (plan e t a)
+pub plan-good : (s : Shape) (e : Effect) (t : Thread) (a : Answer) → EffectGood s e → ThreadGood s t → PlanGood s (plan e t a)
 unfolding plan
 plan-good s e t a he ht = record { effect = he; thread = ht }
 
-moved-good : (s : Shape) (t : Thread) → ThreadGood s t → PlanGood s (moved t)
+pub moved-good : (s : Shape) (t : Thread) → ThreadGood s t → PlanGood s (moved t)
 unfolding moved
 moved-good s t h = record { effect = tt; thread = h }
 
 -- The places.
 module _ (s : Shape) (r : InRange s) (m : Shared) (sm : SharedGood s m) where
-  read-good : (n : ℕ) → CopyGood (s .cells) (readNode m n)
+  pub read-good : (n : ℕ) → CopyGood (s .cells) (readNode m n)
   unfolding readNode
   read-good n = record { node = sm .node n; head = sm .cell (m .node n .first) }
 
   pub some-nodes : 1 ≤ nodeCount s
   some-nodes = omega (arith, pow-mono {i = 1} {j = s .depth} (r .depth-least))
 
-  updated-good : (n : Node) (first dirty : ℕ) → NodeGood (s .cells) n → isSpent n ≡ false → first ≤ s .cells → dirty ≤ 1
+  pub updated-good : (n : Node) (first dirty : ℕ) → NodeGood (s .cells) n → isSpent n ≡ false → first ≤ s .cells → dirty ≤ 1
       → NodeGood (s .cells) (updated n first dirty)
   unfolding updated isSpent
   updated-good n first dirty g e hf hd =
@@ -384,7 +384,7 @@ module _ (s : Shape) (r : InRange s) (m : Shared) (sm : SharedGood s m) where
     g = gt .fields
 
     -- I1
-    readDepth-good : PlanGood s (readDepth m t)
+    pub readDepth-good : PlanGood s (readDepth m t)
     unfolding readDepth withSearch
     readDepth-good =
         let d = fields-depth s t g (m .depth) (sm .depth-most) in
@@ -398,7 +398,7 @@ module _ (s : Shape) (r : InRange s) (m : Shared) (sm : SharedGood s m) where
     unfolding ancestor
     ancestor-few n j h = omega (arith, h, div-le-self n (2 ^ (level n - j)))
 
-    searchOn-good : (u : Thread) → FieldsGood s u → PlanGood s (searchOn t u)
+    pub searchOn-good : (u : Thread) → FieldsGood s u → PlanGood s (searchOn t u)
     unfolding searchOn
     searchOn-good u gu =
         pick-good (PlanGood s) (ltb (u .search .lo) (u .search .hi)) (λ h. onTo-good s u gu ReadAncestor tt)
@@ -414,7 +414,7 @@ module _ (s : Shape) (r : InRange s) (m : Shared) (sm : SharedGood s m) where
         let u = between-most 1 d (s .depth) e in
         omega (arith, mod-lt c (pow-pos (d - 1)), twice d l, pow-mono {i = d} {j = s .depth} u)
 
-    leafFailed-good : (leaf : ℕ) → leaf ≤ nodeCount s → (q : NodeCopy) → CopyGood (s .cells) q → PlanGood s (leafFailed s t leaf q)
+    pub leafFailed-good : (leaf : ℕ) → leaf ≤ nodeCount s → (q : NodeCopy) → CopyGood (s .cells) q → PlanGood s (leafFailed s t leaf q)
     unfolding leafFailed failedPlace nextTries withFirst withSearch
     leafFailed-good leaf hl q hq =
         let x = searching leaf (nextTries s t) (t .search .lo) (t .search .hi) in
@@ -425,7 +425,7 @@ module _ (s : Shape) (r : InRange s) (m : Shared) (sm : SharedGood s m) where
         (pick-good (PlaceGood s u) (ltb (nextTries s t) (s .threshold)) (λ h. ltb-true (nextTries s t) (s .threshold) h)
         (λ h. pick-good (PlaceGood s u) (ltb (t .depth) (s .depth)) (λ k. tt) (λ k. tt)))
 
-    leafRead-good : (leaf : ℕ) → leaf ≤ nodeCount s → (q : NodeCopy) → CopyGood (s .cells) q → PlanGood s (leafRead s t leaf q)
+    pub leafRead-good : (leaf : ℕ) → leaf ≤ nodeCount s → (q : NodeCopy) → CopyGood (s .cells) q → PlanGood s (leafRead s t leaf q)
     unfolding leafRead
     leafRead-good leaf hl q hq =
         pick-good (PlanGood s) (itemLe (t .item) (valueOf q))
@@ -435,7 +435,7 @@ module _ (s : Shape) (r : InRange s) (m : Shared) (sm : SharedGood s m) where
         q hq))
         (λ h. leafFailed-good leaf hl q hq)
 
-    readLeaf-good : (c : ℕ) → PlanGood s (readLeaf s m t c)
+    pub readLeaf-good : (c : ℕ) → PlanGood s (readLeaf s m t c)
     unfolding readLeaf
     readLeaf-good c =
         pick-good (PlanGood s) (isLevel s (t .depth))
@@ -454,7 +454,7 @@ module _ (s : Shape) (r : InRange s) (m : Shared) (sm : SharedGood s m) where
         go true false e k = absurd (k refl)
         go false p e k = absurd (k refl)
 
-    ancestorRead-good : (j : ℕ) → j + 1 ≤ s .depth → (q : NodeCopy) → CopyGood (s .cells) q → PlanGood s (ancestorRead t j q)
+    pub ancestorRead-good : (j : ℕ) → j + 1 ≤ s .depth → (q : NodeCopy) → CopyGood (s .cells) q → PlanGood s (ancestorRead t j q)
     unfolding ancestorRead
     ancestorRead-good j hj q hq =
         let x = searching (t .search .leaf) (t .search .tries) (t .search .lo) j in
@@ -466,14 +466,14 @@ module _ (s : Shape) (r : InRange s) (m : Shared) (sm : SharedGood s m) where
         (λ h. fields-search s t g y (g .leaf) (g .tries) hj (g .hi)))
         q hq)
 
-    readAncestor-good : PlanGood s (readAncestor m t)
+    pub readAncestor-good : PlanGood s (readAncestor m t)
     unfolding readAncestor
     readAncestor-good =
         pick-good (PlanGood s) (eqb (middleLevel t) 0) (λ h. refused-good s t gt unreadable)
         (λ h. ancestorRead-good (middleLevel t) (middle-few (eqb-false (middleLevel t) 0 h)) _ (read-good _))
 
     -- I4
-    growDepth-good : PlanGood s (growDepth s m t)
+    pub growDepth-good : PlanGood s (growDepth s m t)
     unfolding growDepth isLevel
     growDepth-good =
         pick-good (PlanGood s) (isLevel s (t .depth) && isLevel s (t .depth + 1))
@@ -486,7 +486,7 @@ module _ (s : Shape) (r : InRange s) (m : Shared) (sm : SharedGood s m) where
         (λ h. refused-good s t gt unreadable)
 
     -- I5 and I7
-    readTarget-good : PlanGood s (readTarget m t)
+    pub readTarget-good : PlanGood s (readTarget m t)
     unfolding readTarget targetPlace
     readTarget-good =
         let q = readNode m (t .node) in
@@ -495,7 +495,7 @@ module _ (s : Shape) (r : InRange s) (m : Shared) (sm : SharedGood s m) where
         (pick-good (PlaceGood s (withFirst t q)) (itemLt (valueOf q) (t .item)) (λ k. tt)
         (λ k. pick-good (PlaceGood s (withFirst t q)) (eqb (t .node) 1) (λ e. tt) (λ e. tt))))
 
-    readParent-good : PlanGood s (readParent m t)
+    pub readParent-good : PlanGood s (readParent m t)
     unfolding readParent
     readParent-good =
         let q = readNode m (t .node / 2) in
@@ -505,7 +505,7 @@ module _ (s : Shape) (r : InRange s) (m : Shared) (sm : SharedGood s m) where
         (pick-good (PlaceGood s (withSecond t q)) (itemLt (t .item) (valueOf q)) (λ k. tt) (λ k. tt)))
 
     -- I6 and I8
-    insertAt-good : (n : ℕ) → NodeIn s n → CellIn s (t .own) → (holds : Bool) → PlanGood s (insertAt t n holds)
+    pub insertAt-good : (n : ℕ) → NodeIn s n → CellIn s (t .own) → (holds : Bool) → PlanGood s (insertAt t n holds)
     unfolding insertAt
     insertAt-good n hn hc holds =
         let q = t .copies .first .node in
@@ -519,13 +519,13 @@ module _ (s : Shape) (r : InRange s) (m : Shared) (sm : SharedGood s m) where
     own-cell : (t .own ≡ 0 → ⊥) → CellIn s (t .own)
     own-cell n = (omega arith, g .own)
 
-    insertAtRoot-good : PlanGood s (insertAtRoot m t)
+    pub insertAtRoot-good : PlanGood s (insertAtRoot m t)
     unfolding insertAtRoot
     insertAtRoot-good =
         pick-good (PlanGood s) (eqb (t .own) 0) (λ h. refused-good s t gt unreadable)
         (λ h. insertAt-good 1 (omega arith, some-nodes) (own-cell (eqb-false (t .own) 0 h)) _)
 
-    insertBelow-good : PlanGood s (insertBelow m t)
+    pub insertBelow-good : PlanGood s (insertBelow m t)
     unfolding insertBelow
     insertBelow-good =
         pick-good (PlanGood s) (ltb (t .node) 2 || eqb (t .own) 0) (λ h. refused-good s t gt unreadable)
@@ -535,7 +535,7 @@ module _ (s : Shape) (r : InRange s) (m : Shared) (sm : SharedGood s m) where
         _)
 
     -- E1 and E2
-    readRoot-good : PlanGood s (readRoot m t)
+    pub readRoot-good : PlanGood s (readRoot m t)
     unfolding readRoot rootRead
     readRoot-good =
         let q = readNode m 1 in
@@ -546,7 +546,7 @@ module _ (s : Shape) (r : InRange s) (m : Shared) (sm : SharedGood s m) where
         (λ k. plan-good s Nothing (goneIdle t) _ tt (gone-good s t g))
         (λ k. onTo-good s (withFirst t q) f RemoveHead tt))
 
-    removeHead-good : PlanGood s (removeHead m t)
+    pub removeHead-good : PlanGood s (removeHead m t)
     unfolding removeHead headRemoved
     removeHead-good =
         let q = t .copies .first in
@@ -565,7 +565,7 @@ module _ (s : Shape) (r : InRange s) (m : Shared) (sm : SharedGood s m) where
       few-nodes : nodeCount s < 2 ^ 32
       few-nodes = omega (arith, sizes s (r .depth-most))
 
-      returned-good : (u : Thread) → FieldsGood s u → u .node ≡ t .node → ThreadGood s (returned u w)
+      pub returned-good : (u : Thread) → FieldsGood s u → u .node ≡ t .node → ThreadGood s (returned u w)
       unfolding returned
       returned-good u gu en =
           pick-good (ThreadGood s) (eqb w 0)
@@ -573,12 +573,12 @@ module _ (s : Shape) (r : InRange s) (m : Shared) (sm : SharedGood s m) where
           (λ h. mending-good s u gu _ _ (ancestor-few (u .node) (level w) (gu .node))
           (waits-returned (u .node) w (omega (arith, gu .node, few-nodes)) (eqb-false w 0 h) (subst (λ n. WaitsAbove n w) (sym en) hw)))
 
-      returning-good : (e : Effect) → EffectGood s e → (u : Thread) → FieldsGood s u → u .node ≡ t .node → PlanGood s (returning e u w)
+      pub returning-good : (e : Effect) → EffectGood s e → (u : Thread) → FieldsGood s u → u .node ≡ t .node → PlanGood s (returning e u w)
       unfolding returning
       returning-good e he u gu en = plan-good s e (returned u w) (returnAnswer u w) he (returned-good u gu en)
 
       -- M1
-      mendReadNode-good : PlanGood s (mendReadNode m t w)
+      pub mendReadNode-good : PlanGood s (mendReadNode m t w)
       unfolding mendReadNode withFirst
       mendReadNode-good =
           let q = readNode m (t .node) in
@@ -586,7 +586,7 @@ module _ (s : Shape) (r : InRange s) (m : Shared) (sm : SharedGood s m) where
           (λ h. onTo-good s (withFirst t q) (fields-first s t g q (read-good (t .node))) (MendReadDepth w) hw)
 
       -- M2
-      mendReadDepth-good : PlanGood s (mendReadDepth m t w)
+      pub mendReadDepth-good : PlanGood s (mendReadDepth m t w)
       unfolding mendReadDepth depthRead withDepth
       mendReadDepth-good =
           let u = withDepth t (m .depth) in
@@ -598,7 +598,7 @@ module _ (s : Shape) (r : InRange s) (m : Shared) (sm : SharedGood s m) where
           (λ k. returning-good Nothing tt u f refl))
 
       -- M3
-      mendReadLeft-good : PlanGood s (mendReadLeft s m t w)
+      pub mendReadLeft-good : PlanGood s (mendReadLeft s m t w)
       unfolding mendReadLeft withSecond
       mendReadLeft-good =
           let q = readNode m (2 * t .node) in
@@ -607,7 +607,7 @@ module _ (s : Shape) (r : InRange s) (m : Shared) (sm : SharedGood s m) where
           (λ h. refused-good s t gt unreadable)
 
       -- M4
-      childrenRead-good : (u : Thread) → FieldsGood s u → u .node ≡ t .node → 1 ≤ t .node → 2 * t .node + 1 ≤ nodeCount s
+      pub childrenRead-good : (u : Thread) → FieldsGood s u → u .node ≡ t .node → 1 ≤ t .node → 2 * t .node + 1 ≤ nodeCount s
           → PlanGood s (childrenRead u w)
       unfolding childrenRead
       childrenRead-good u gu en p l =
@@ -622,7 +622,7 @@ module _ (s : Shape) (r : InRange s) (m : Shared) (sm : SharedGood s m) where
           (waits-marked n (2 * n + 1) w pn (omega arith) (omega arith) (omega (arith, few-nodes)) hu)))
           (λ k. pick-good (PlanGood s) (childLess u) (λ e. onTo-good s u gu (MendSwap w) hu) (λ e. onTo-good s u gu (MendClean w) hu)))
 
-      mendReadRight-good : PlanGood s (mendReadRight s m t w)
+      pub mendReadRight-good : PlanGood s (mendReadRight s m t w)
       unfolding mendReadRight isNode withThird
       mendReadRight-good =
           let c = 2 * t .node + 1 in
@@ -634,7 +634,7 @@ module _ (s : Shape) (r : InRange s) (m : Shared) (sm : SharedGood s m) where
           (λ h. refused-good s t gt unreadable)
 
       -- M5
-      exchangeWith-good : (c : ℕ) (q : NodeCopy) → 2 * t .node ≤ c → c ≤ 2 * t .node + 1 → CopyGood (s .cells) q
+      pub exchangeWith-good : (c : ℕ) (q : NodeCopy) → 2 * t .node ≤ c → c ≤ 2 * t .node + 1 → CopyGood (s .cells) q
           → PlanGood s (exchangeWith s m t w c q)
       unfolding exchangeWith exchangeAt isNode
       exchangeWith-good c q lo hi hq =
@@ -655,7 +655,7 @@ module _ (s : Shape) (r : InRange s) (m : Shared) (sm : SharedGood s m) where
           (λ k. onTo-good s t g (MendReadNode w) hw))
           (λ h. refused-good s t gt unreadable)
 
-      mendSwap-good : PlanGood s (mendSwap s m t w)
+      pub mendSwap-good : PlanGood s (mendSwap s m t w)
       unfolding mendSwap
       mendSwap-good =
           pick-good (PlanGood s) (itemLe (valueOf (t .copies .second)) (valueOf (t .copies .third)))
@@ -663,7 +663,7 @@ module _ (s : Shape) (r : InRange s) (m : Shared) (sm : SharedGood s m) where
           (λ h. exchangeWith-good (2 * t .node + 1) (t .copies .third) (omega arith) (omega arith) (g .third))
 
       -- M6
-      mendClean-good : PlanGood s (mendClean m t w)
+      pub mendClean-good : PlanGood s (mendClean m t w)
       unfolding mendClean cleanAt
       mendClean-good =
           let n = t .copies .first .node in

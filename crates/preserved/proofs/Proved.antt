@@ -5,45 +5,51 @@ use Prim.Native.Nat.{ℕ, zero, suc, _+_, _-_, _*_, _^_, _≤_, _<_}
 use native.Mathlib.Omega.{arith}
 use mathlib.Core.Path.{_≡_, refl, sym, ap, subst, _∙_}
 use mathlib.Core.Logic.{inl, inr}
-use mathlib.Core.Bool.{Bool, true, false, _&&_}
+use mathlib.Core.Bool.{Bool, true, false, _&&_, true≢false}
 use mathlib.Core.List.{List}
-use borrow.Author.Tests.{eqb-true, eqb-false, leb-true, ne-eqb}
+use borrow.Author.Tests.{eqb-true, eqb-false, eq-eqb, leb-true, ne-eqb}
 use lib.Dec.{leb, eqb}
 use lib.ListN.{length}
 use Rattle.words.specs.Word.{word, setWord, Fit}
 use Rattle.words.proofs.Laws.{word-other, length-setWord}
-use Rattle.region.specs.Answer.{done}
+use Rattle.region.specs.Answer.{done, badThread, noFreeCell}
 use Rattle.region.specs.Frame.{Within, frameOf, nodesOf, cellsOf, threadsOf}
 use Rattle.region.specs.Pick.{pick, upd}
 use Rattle.region.specs.Shape.{InRange, between}
 use Rattle.region.specs.Shared.{Shared, entry, cellIn, setCellIn, setNodeIn, threadIn, setThreadIn, sharedIn}
-use Rattle.region.specs.Thread.{begunPut, begunTake, threadSize}
+use Rattle.region.specs.Thread.{begunPut, begunTake, idleThread, threadSize}
+use Rattle.region.specs.declared.answer.Answer.{Answer}
+use Rattle.region.specs.declared.answer.Answer.the-variants.{Idle as AnswerIdle}
 use Rattle.region.specs.declared.frame.Frame.{Frame}
 use Rattle.region.specs.declared.place.Place.{Place}
 use Rattle.region.specs.declared.place.Place.the-variants.{Idle, ReadDepth, ReadLeaf, ReadAncestor, GrowDepth, ReadTarget, InsertAtRoot, ReadParent, InsertBelow, ReadRoot, RemoveHead, MendReadNode, MendReadDepth, MendReadLeft, MendReadRight, MendSwap, MendClean}
+use Rattle.region.specs.declared.record.Cell.{Cell}
 use Rattle.region.specs.declared.record.Item.{Item}
+use Rattle.region.specs.declared.record.Node.{Node}
 use Rattle.region.specs.declared.shape.Shape.{Shape}
 use Rattle.region.specs.declared.thread.Thread.{Thread}
 use Rattle.region.proofs.Frames.{frame-parted}
-use Rattle.region.proofs.Shapes.{and-left, and-right, between-least, between-most}
-use Rattle.region.proofs.Views.{threads-setThread, threads-kept, word-setThread}
-use Rattle.access.specs.Effect.{effectBytes}
+use Rattle.region.proofs.Shapes.{and-left, and-right, between-least, between-most, sizes}
+use Rattle.region.proofs.Views.{length-setCellIn, length-setNodeIn, shared-setCell, shared-setFree, threads-setThread, threads-kept, word-setCell, word-setCellIn, word-setNode, word-setThread}
+use Rattle.access.specs.Effect.{effectBytes, freedBytes, pushBytes}
+use Rattle.access.specs.Plan.{refused}
 use Rattle.access.specs.declared.effect.Effect.{Effect}
+use Rattle.access.specs.declared.effect.Effect.the-variants.{Nothing, Grow, Push, Pop, Exchange, Clean}
 use Rattle.access.specs.declared.plan.Plan.{Plan}
 use Rattle.access.proofs.EffectLaws.{effect-word, length-effect}
-use Rattle.readable.specs.Readable.{readable, shapeIn}
+use Rattle.readable.specs.Readable.{readable, shapeIn, threadReadable}
 use Rattle.readable.proofs.Laws.{Good, good, readable-good}
-use Rattle.readable.proofs.Stores.{PlaceGood, ThreadGood, SharedGood, good-shared, good-thread, good-within, good-setThread, thread-fit}
-use Rattle.machine.specs.Begin.{frameIn, isItem, putBegun, putRefusal, putBytes, takeRefusal, takeBytes}
+use Rattle.readable.proofs.Stores.{CellGood, PlaceGood, ThreadGood, SharedGood, make-good, shape-kept, thread-reads, good-shared, good-thread, good-within, good-setThread, thread-fit}
+use Rattle.machine.specs.Begin.{frameIn, isIdle, isItem, mayPut, putBegun, putBusy, putRefusal, putBytes, takeRefusal, takeBytes}
 use Rattle.machine.specs.Turn.{carriedOut, decide, decideAt, staysPut, turnBytes, turnPlan}
-use Rattle.preserved.specs.Theorems.{TurnKeepsReadable, PutKeepsReadable, TakeKeepsReadable, TurnKeepsShape, PutKeepsShape, TakeKeepsShape, TurnLeavesOthers, TurnLeavesWords}
-use Rattle.preserved.proofs.EffectsGood.{good-effect}
-use Rattle.preserved.proofs.PlansGood.{PlanGood, pick-good, plan-good, refused-good, readDepth-good, readLeaf-good, readAncestor-good, growDepth-good, readTarget-good, insertAtRoot-good, readParent-good, insertBelow-good, readRoot-good, removeHead-good, mendReadNode-good, mendReadDepth-good, mendReadLeft-good, mendReadRight-good, mendSwap-good, mendClean-good}
+use Rattle.preserved.specs.Theorems.{Apart, OutsideEffect, TurnKeepsReadable, PutKeepsReadable, TakeKeepsReadable, TurnKeepsShape, PutKeepsShape, TakeKeepsShape, TurnLeavesOthers, TurnLeavesWords}
+use Rattle.preserved.proofs.EffectsGood.{cell-fit, good-effect, put-cell, thread-elsewhere}
+use Rattle.preserved.proofs.PlansGood.{PlanGood, at-good, fields-item, fields-own, pick-good, plan-good, refused-good, readDepth-good, readLeaf-good, readAncestor-good, growDepth-good, readTarget-good, insertAtRoot-good, readParent-good, insertBelow-good, readRoot-good, removeHead-good, mendReadNode-good, mendReadDepth-good, mendReadLeft-good, mendReadRight-good, mendSwap-good, mendClean-good}
 
 -- every place's plan is in range
 module _ (s : Shape) (r : InRange s) (m : Shared) (sm : SharedGood s m) (t : Thread) (gt : ThreadGood s t) (c : ℕ) where
   at-place : (p : Place) → PlaceGood s t p → PlanGood s (decideAt s m t c p)
-  at-place Idle h = ?
+  at-place Idle h = plan-good s Nothing t AnswerIdle tt gt
   at-place ReadDepth h = readDepth-good s r m sm t gt
   at-place ReadLeaf h = readLeaf-good s r m sm t gt c
   at-place ReadAncestor h = readAncestor-good s r m sm t gt
@@ -64,3 +70,241 @@ module _ (s : Shape) (r : InRange s) (m : Shared) (sm : SharedGood s m) (t : Thr
   decided : PlanGood s (decide s m t c)
   unfolding decide
   decided = at-place (t .place) (gt .place)
+
+-- Carrying out a plan in range.
+module _ (s : Shape) (b : List ℕ) (g : Good s b) (t : ℕ) (l : 1 ≤ t) (u : t ≤ s .threads) (p : Plan) (gp : PlanGood s p) where
+  carried-good : Good s (carriedOut (frameOf s) b t p)
+  unfolding carriedOut
+  carried-good =
+      pick-good (Good s) (staysPut (p .answer)) (λ e. g)
+      (λ e. good-setThread s (effectBytes (frameOf s) b (p .effect)) (good-effect s b g (p .effect) (gp .effect)) t l u (p .thread) (gp .thread))
+
+refused-stays : (f : Frame) (b : List ℕ) (t : ℕ) (v : Thread) (n : ℕ) → carriedOut f b t (refused v n) ≡ b
+unfolding carriedOut refused pick
+refused-stays f b t v n = refl
+
+-- A turn, of a thread that exists or not.
+module _ (s : Shape) (b : List ℕ) (g : Good s b) (t c : ℕ) where
+  turn-good : Good s (turnBytes (frameOf s) b t c)
+  unfolding turnBytes turnPlan frameOf
+  turn-good =
+      pick-good (λ p. Good s (carriedOut (frameOf s) b t p)) (between 1 t (s .threads))
+      (λ e. carried-good s b g t (between-least 1 t (s .threads) e) (between-most 1 t (s .threads) e) _
+      (decided s (g .range) (sharedIn (frameOf s) b) (good-shared s b g) (threadIn (frameOf s) b t) (good-thread s b g t) c))
+      (λ e. subst (Good s) (sym (refused-stays (frameOf s) b t (idleThread 0) badThread)) g)
+
+pub turn-keeps-readable : TurnKeepsReadable
+turn-keeps-readable b e t c =
+    readable-good (shapeIn b) (turnBytes (frameIn b) b t c) (turn-good (shapeIn b) b (good b e) t c)
+
+pub turn-keeps-shape : TurnKeepsShape
+turn-keeps-shape b e t c = turn-good (shapeIn b) b (good b e) t c .shape
+
+-- Beginning a take.
+begun-take-good : (s : Shape) (t : Thread) → ThreadGood s t → ThreadGood s (begunTake t)
+unfolding begunTake
+begun-take-good s t g = at-good s t (g .fields) ReadRoot tt
+
+-- what is not refused was a thread's, and a put's an item
+in-order : (q : Bool) (a n : ℕ) → (n ≡ 0 → ⊥) → pick q a n ≡ 0 → (q ≡ true) × (a ≡ 0)
+unfolding pick
+in-order true a n h e = (refl, e)
+in-order false a n h e = absurd (h e)
+
+module _ (b : List ℕ) (t : ℕ) where
+  take-thread : takeRefusal b t ≡ done → between 1 t (shapeIn b .threads) ≡ true
+  unfolding takeRefusal
+  take-thread e =
+      in-order (between 1 t (shapeIn b .threads)) _ 3 (λ z. omega arith) (in-order (readable b) _ 7 (λ z. omega arith) e .1) .0
+
+  take-good : Good (shapeIn b) b → Good (shapeIn b) (takeBytes b t)
+  unfolding takeBytes
+  take-good g =
+      pick-good (Good (shapeIn b)) (eqb (takeRefusal b t) done)
+      (λ h. let e = take-thread (eqb-true (takeRefusal b t) done h) in
+      good-setThread (shapeIn b) b g t (between-least 1 t (shapeIn b .threads) e) (between-most 1 t (shapeIn b .threads) e) _
+      (begun-take-good (shapeIn b) _ (good-thread (shapeIn b) b g t)))
+      (λ h. g)
+
+pub take-keeps-readable : TakeKeepsReadable
+take-keeps-readable b e t = readable-good (shapeIn b) (takeBytes b t) (take-good b t (good b e))
+
+pub take-keeps-shape : TakeKeepsShape
+take-keeps-shape b e t = take-good b t (good b e) .shape
+
+-- Beginning a put: the first free cell moves on, the own cell holds the item, the thread begins.
+module _ (s : Shape) (b : List ℕ) (g : Good s b) where
+  threads-kept-passing : (b′ : List ℕ) → ((j : ℕ) → frameOf s .threads ≤ j → word b′ j ≡ word b j)
+      → (i : ℕ) → i < s .threads → threadReadable s b′ (frameOf s .threads + 33 * i) ≡ true
+  threads-kept-passing b′ h i l =
+      thread-reads s b b′ (frameOf s .threads + 33 * i) (λ j lo hi. h j (omega arith)) ∙ g .threads i l
+
+  good-setFree : (v : ℕ) → v ≤ s .cells → Good s (setWord b (frameOf s .free) v)
+  unfolding frameOf
+  good-setFree v h =
+      let m = good-shared s b g in
+      make-good s (setWord b 5 v)
+      (shape-kept s b (setWord b 5 v) (g .shape) (λ k l. word-other b 5 k v (λ e. omega arith)))
+      (g .range)
+      (length-setWord b 5 v ∙ g .exact)
+      (subst (SharedGood s) (sym (shared-setFree (frameOf s) b (good-within s b g) (frame-parted s) v (omega (arith, h, g .range .cells-most, sizes s (g .range .depth-most)))))
+      (record { node = m .node; cell = m .cell; depth-least = m .depth-least; depth-most = m .depth-most; free = h }))
+      (threads-kept-passing (setWord b 5 v) (λ j l. word-other b 5 j v (λ e. omega arith)))
+
+  good-setCell : (c : ℕ) (v : Cell) → 1 ≤ c → c ≤ s .cells → CellGood (s .cells) v → Good s (setCellIn (frameOf s) b c v)
+  unfolding frameOf
+  good-setCell c v l u h =
+      let m = good-shared s b g in
+      let w = good-within s b g in
+      make-good s (setCellIn (frameOf s) b c v)
+      (shape-kept s b (setCellIn (frameOf s) b c v) (g .shape) (λ k x. word-setCellIn (frameOf s) b w c k v (inl (omega arith))))
+      (g .range)
+      (length-setCellIn (frameOf s) b c v ∙ g .exact)
+      (subst (SharedGood s) (sym (shared-setCell (frameOf s) b w (frame-parted s) c v l u (cell-fit s (g .range) v h)))
+      (record {
+        node = m .node;
+        cell = put-cell s (sharedIn (frameOf s) b) m c v h;
+        depth-least = m .depth-least;
+        depth-most = m .depth-most;
+        free = m .free;
+      }))
+      (threads-kept-passing (setCellIn (frameOf s) b c v) (λ j x. word-setCellIn (frameOf s) b w c j v (inr (omega arith))))
+
+begun-put-good : (s : Shape) (t : Thread) → ThreadGood s t → (i : Item) → i .key < 2 ^ 32 → i .tag ≤ 65535 → (own : ℕ) → own ≤ s .cells
+    → ThreadGood s (begunPut t i own)
+unfolding begunPut
+begun-put-good s t g i hk ht own h =
+    at-good s _ (fields-own s _ (fields-item s t (g .fields) i hk ht) own h) ReadDepth tt
+
+free-few : (s : Shape) (b : List ℕ) → Good s b → word b (frameOf s .free) ≤ s .cells
+unfolding frameOf
+free-few s b g = g .free-most
+
+next-few : (s : Shape) (b : List ℕ) → Good s b → (c : ℕ) → cellIn (frameOf s) b c .next ≤ s .cells
+unfolding sharedIn
+next-few s b g c = good-shared s b g .cell c .next
+
+put-begun-good : (s : Shape) (b : List ℕ) → Good s b → (t : ℕ) → 1 ≤ t → t ≤ s .threads → (i : Item) → i .key < 2 ^ 32 → i .tag ≤ 65535
+    → (word b (frameOf s .free) ≡ 0 → ⊥) → Good s (putBegun (frameOf s) b t i)
+unfolding putBegun
+put-begun-good s b g t l u i hk ht nf =
+    let own = word b (frameOf s .free) in
+    let m = good-shared s b g in
+    let few : own ≤ s .cells = free-few s b g in
+    let g₁ = good-setFree s b g (cellIn (frameOf s) b own .next) (next-few s b g own) in
+    let g₂ = good-setCell s _ g₁ own (record { item = i; next = 0 }) (omega arith) few (record { key = hk; tag = ht; next = omega arith }) in
+    good-setThread s _ g₂ t l u _ (begun-put-good s _ (good-thread s b g t) i hk ht own few)
+
+none-free : (q : Bool) → q ≡ true → pick q noFreeCell done ≡ 0 → ⊥
+unfolding pick
+none-free true e z = omega arith
+none-free false e z = true≢false (sym e)
+
+module _ (b : List ℕ) (t : ℕ) (i : Item) (e : putRefusal b t i ≡ done) where
+  put-looked : pick (between 1 t (shapeIn b .threads))
+      (pick (isItem i) (pick (mayPut (threadIn (frameIn b) b t)) (putBusy (frameIn b) b (threadIn (frameIn b) b t)) 8) 4) 3 ≡ 0
+  unfolding putRefusal
+  put-looked = in-order (readable b) _ 7 (λ z. omega arith) e .1
+
+  put-thread : between 1 t (shapeIn b .threads) ≡ true
+  put-thread = in-order (between 1 t (shapeIn b .threads)) _ 3 (λ z. omega arith) put-looked .0
+
+  put-rest : pick (isItem i) (pick (mayPut (threadIn (frameIn b) b t)) (putBusy (frameIn b) b (threadIn (frameIn b) b t)) 8) 4 ≡ 0
+  put-rest = in-order (between 1 t (shapeIn b .threads)) _ 3 (λ z. omega arith) put-looked .1
+
+  put-item : isItem i ≡ true
+  put-item = in-order (isItem i) _ 4 (λ z. omega arith) put-rest .0
+
+  put-free : word b (frameIn b .free) ≡ 0 → ⊥
+  unfolding putBusy
+  put-free z =
+      let m = in-order (isItem i) _ 4 (λ z. omega arith) put-rest .1 in
+      let k = in-order (mayPut (threadIn (frameIn b) b t)) _ 8 (λ z. omega arith) m .1 in
+      let n = in-order (isIdle (threadIn (frameIn b) b t)) _ 9 (λ z. omega arith) k .1 in
+      none-free (eqb (word b (frameIn b .free)) 0) (eq-eqb (word b (frameIn b .free)) 0 z) n
+
+put-good : (b : List ℕ) → Good (shapeIn b) b → (t : ℕ) (i : Item) → Good (shapeIn b) (putBytes b t i)
+unfolding putBytes isItem
+put-good b g t i =
+    pick-good (Good (shapeIn b)) (eqb (putRefusal b t i) done)
+    (λ h. let e = eqb-true (putRefusal b t i) done h in
+    let th = put-thread b t i e in
+    let it = put-item b t i e in
+    let k = leb-true (i .key) 4294967294 (and-left (leb (i .key) 4294967294) (leb (i .tag) 65535) it) in
+    put-begun-good (shapeIn b) b g t (between-least 1 t (shapeIn b .threads) th) (between-most 1 t (shapeIn b .threads) th) i (omega arith)
+    (leb-true (i .tag) 65535 (and-right (leb (i .key) 4294967294) (leb (i .tag) 65535) it))
+    (put-free b t i e))
+    (λ h. g)
+
+pub put-keeps-readable : PutKeepsReadable
+put-keeps-readable b e t i = readable-good (shapeIn b) (putBytes b t i) (put-good b (good b e) t i)
+
+pub put-keeps-shape : PutKeepsShape
+put-keeps-shape b e t i = put-good b (good b e) t i .shape
+
+-- What a turn leaves alone.
+other : (h : ℕ → Thread) (t u : ℕ) (v : Thread) → (u ≡ t → ⊥) → upd h t v u ≡ h u
+unfolding upd pick
+other h t u v n = rw (ne-eqb u t n) refl
+
+module _ (s : Shape) (b : List ℕ) (g : Good s b) where
+  within-effect : (e : Effect) → Within (frameOf s) (length (effectBytes (frameOf s) b e))
+  within-effect e = subst (Within (frameOf s)) (sym (length-effect (frameOf s) b e)) (good-within s b g)
+
+  effect-threads : (e : Effect) → threadIn (frameOf s) (effectBytes (frameOf s) b e) ≡ threadIn (frameOf s) b
+  unfolding frameOf
+  effect-threads e =
+      threads-kept (frameOf s) b (good-within s b g) (effectBytes (frameOf s) b e) λ j l u.
+      effect-word (frameOf s) (frame-parted s) j (thread-elsewhere s j l) b (good-within s b g) e
+
+  module _ (t : ℕ) (l : 1 ≤ t) (r : t ≤ s .threads) (p : Plan) (gp : PlanGood s p) (u : ℕ) (n : u ≡ t → ⊥) where
+    carried-others : threadIn (frameOf s) (carriedOut (frameOf s) b t p) u ≡ threadIn (frameOf s) b u
+    unfolding carriedOut frameOf
+    carried-others =
+        pick-good (λ x. threadIn (frameOf s) x u ≡ threadIn (frameOf s) b u) (staysPut (p .answer)) (λ e. refl)
+        (λ e. ap (λ h. h u)
+        (threads-setThread (frameOf s) (effectBytes (frameOf s) b (p .effect)) (within-effect (p .effect)) (frame-parted s) t (p .thread) l r
+        (thread-fit s (g .range) (p .thread) (gp .thread)))
+        ∙ other (threadIn (frameOf s) (effectBytes (frameOf s) b (p .effect))) t u (p .thread) n
+        ∙ ap (λ h. h u) (effect-threads (p .effect)))
+
+  turn-others : (t c u : ℕ) → (u ≡ t → ⊥) → threadIn (frameOf s) (turnBytes (frameOf s) b t c) u ≡ threadIn (frameOf s) b u
+  unfolding turnBytes turnPlan frameOf
+  turn-others t c u n =
+      pick-good (λ p. threadIn (frameOf s) (carriedOut (frameOf s) b t p) u ≡ threadIn (frameOf s) b u) (between 1 t (s .threads))
+      (λ e. carried-others t (between-least 1 t (s .threads) e) (between-most 1 t (s .threads) e) _
+      (decided s (g .range) (sharedIn (frameOf s) b) (good-shared s b g) (threadIn (frameOf s) b t) (good-thread s b g t) c) u n)
+      (λ e. ap (λ x. threadIn (frameOf s) x u) (refused-stays (frameOf s) b t (idleThread 0) badThread))
+
+pub turn-leaves-others : TurnLeavesOthers
+turn-leaves-others b e t c u n = turn-others (shapeIn b) b (good b e) t c u n
+
+-- an effect changes none but its own words
+module _ (f : Frame) (j : ℕ) where
+  node-leaves : (b : List ℕ) → Within f (length b) → (n : ℕ) (v : Node) → Apart (entry (nodesOf f) n) 3 j → word (setNodeIn f b n v) j ≡ word b j
+  node-leaves b w n v o = word-setNode f b w n j v o
+
+  within-node : (b : List ℕ) → Within f (length b) → (n : ℕ) (v : Node) → Within f (length (setNodeIn f b n v))
+  within-node b w n v = subst (Within f) (sym (length-setNodeIn f b n v)) w
+
+  effect-leaves : (b : List ℕ) → Within f (length b) → (e : Effect) → OutsideEffect f e j → word (effectBytes f b e) j ≡ word b j
+  unfolding effectBytes pushBytes freedBytes
+  effect-leaves b w Nothing o = refl
+  effect-leaves b w (Grow d) o = word-other b (f .depth) j d o
+  effect-leaves b w (Push n v c x) o = word-setCell f (setNodeIn f b n v) (within-node b w n v) c j _ (o .1) ∙ node-leaves b w n v (o .0)
+  effect-leaves b w (Pop v c) o =
+      word-other _ (f .free) j c (o .2)
+      ∙ word-setCell f (setNodeIn f b 1 v) (within-node b w 1 v) c j _ (o .1)
+      ∙ node-leaves b w 1 v (o .0)
+  effect-leaves b w (Exchange n v k x) o =
+      node-leaves (setNodeIn f b n v) (within-node b w n v) k x (o .1) ∙ node-leaves b w n v (o .0)
+  effect-leaves b w (Clean n v) o = node-leaves b w n v o
+
+pub turn-leaves-words : TurnLeavesWords
+unfolding turnBytes carriedOut
+turn-leaves-words b e t c j o a =
+    let s = shapeIn b in
+    let p = turnPlan (frameIn b) b t c in
+    pick-good (λ x. word x j ≡ word b j) (staysPut (p .answer)) (λ k. refl)
+    (λ k. word-setThread (frameIn b) (effectBytes (frameIn b) b (p .effect)) (within-effect s b (good b e) (p .effect)) t j (p .thread) a
+    ∙ effect-leaves (frameIn b) j b (good-within s b (good b e)) (p .effect) o)

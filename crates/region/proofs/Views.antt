@@ -240,7 +240,15 @@ module _ (f : Frame) (b : List ℕ) (w : Within f (length b)) where
   unfolding setThreadIn
   word-setThreadIn t j v o = store-only thread-codec (idleThread 0) (threadsOf f) (w .stride) b t j v o
 
-  -- a thread's record is all that its store changes
+  -- a record is all that its store changes
+  pub word-setNode : (n j : ℕ) (v : Node) → Outside (entry (nodesOf f) n) 3 j → word (setNodeIn f b n v) j ≡ word b j
+  unfolding setNodeIn
+  word-setNode n j v o = record-only node-codec emptyNode (nodesOf f) (omega arith) b n j v o
+
+  pub word-setCell : (c j : ℕ) (v : Cell) → Outside (entry (cellsOf f) c) 3 j → word (setCellIn f b c v) j ≡ word b j
+  unfolding setCellIn
+  word-setCell c j v o = record-only cell-codec zeroCell (cellsOf f) (omega arith) b c j v o
+
   pub word-setThread : (t j : ℕ) (v : Thread) → Outside (entry (threadsOf f) t) threadSize j → word (setThreadIn f b t v) j ≡ word b j
   unfolding setThreadIn
   word-setThread t j v o = record-only thread-codec (idleThread 0) (threadsOf f) (w .stride) b t j v o
