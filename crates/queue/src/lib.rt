@@ -3,7 +3,9 @@
 ghost use mathlib.Core.Path.{_≡_};
 ghost use Rattle.layout.specs.Layout.{LaidOut};
 ghost use Rattle.readable.specs.Readable.{checkAnswer};
-ghost use Rattle.queue.specs.Calls.{shapeOf};
+ghost use Rattle.machine.specs.Begin.{PutBegun, TakeBegun};
+ghost use Rattle.queue.specs.Calls.{itemOf, shapeOf};
+use region::Item;
 use region::Shape;
 
 // Lays out a region: D, C, T, H, and a permission for each thread. Refusals 1, 2.
