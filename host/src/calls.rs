@@ -20,6 +20,16 @@ mod exported {
             permissions_len: usize,
         ) -> u32;
 
+        pub fn mound_put(
+            region: *mut u8,
+            region_len: usize,
+            thread: u32,
+            key: u32,
+            tag: u32,
+        ) -> u32;
+
+        pub fn mound_take(region: *mut u8, region_len: usize, thread: u32) -> u32;
+
         pub fn mound_check(region: *const u8, region_len: usize) -> u32;
     }
 }
@@ -51,6 +61,25 @@ pub fn layout(
             permissions.len(),
         )
     }
+}
+
+/// Begins a put of an item by a thread: the item gets the first free cell, and turns do the rest.
+///
+/// Refusals, in order: 7 (not readable), 3 (thread), 4 (key or tag), 8 (permission), 9 (busy),
+/// 10 (no free cell). Cost: that of [`check`], then eight words.
+pub fn put(region: &mut [u8], thread: u32, key: u32, tag: u32) -> u32 {
+    // SAFETY: the pointer goes with the slice's own length. The slice is lent for the call,
+    // exclusively; the library does not keep the pointer.
+    unsafe { exported::mound_put(region.as_mut_ptr(), region.len(), thread, key, tag) }
+}
+
+/// Begins a take by a thread; turns do the rest.
+///
+/// Refusals, in order: 7 (not readable), 3 (thread), 8 (permission), 9 (busy). Cost: that of
+/// [`check`], then one word.
+pub fn take(region: &mut [u8], thread: u32) -> u32 {
+    // SAFETY: as in `put`.
+    unsafe { exported::mound_take(region.as_mut_ptr(), region.len(), thread) }
 }
 
 /// Tells whether a region is readable: its length is that of its first words and every field is

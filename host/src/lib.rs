@@ -31,6 +31,7 @@
 #![deny(missing_docs)]
 #![deny(unsafe_code)]
 
+mod answer;
 pub mod calls;
 mod permission;
 pub mod plain;
@@ -39,6 +40,7 @@ mod region;
 mod shape;
 mod words;
 
+pub use answer::{Answer, Served};
 pub use permission::Permission;
 pub use refusal::Refusal;
 pub use region::Region;

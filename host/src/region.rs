@@ -61,6 +61,62 @@ impl<'a> Region<'a> {
         region.check().map(|()| region)
     }
 
+    /// Begins a put of an item by a thread, counted from 1. The item is in the queue when a turn of
+    /// the thread answers so; until then it only has its cell.
+    ///
+    /// Cost: that of [`Region::check`], then eight words are written.
+    ///
+    /// ```
+    /// use mound::{Permission, Refusal, Region, Shape};
+    ///
+    /// let shape = Shape { depth: 1, cells: 1, threads: 2, threshold: 1 };
+    /// let mut bytes = vec![0; shape.byte_len()?];
+    /// let mut region = Region::layout(&mut bytes, shape, &[Permission::PUT; 2])?;
+    /// region.put(1, 5, 9)?;
+    /// assert_eq!(region.put(1, 6, 9), Err(Refusal::Busy));
+    /// assert_eq!(region.put(2, 6, 9), Err(Refusal::NoFreeCell));
+    /// # Ok::<(), Refusal>(())
+    /// ```
+    ///
+    /// # Errors
+    ///
+    /// In this order, and with no byte changed:
+    /// - [`Refusal::Thread`] where there is no such thread;
+    /// - [`Refusal::Item`] for a key of 4,294,967,295 or a tag above 65,535;
+    /// - [`Refusal::Permission`] where the thread's list lacks put;
+    /// - [`Refusal::Busy`] where the thread has begun an operation that is not answered;
+    /// - [`Refusal::NoFreeCell`] where items and begun puts use all cells.
+    pub fn put(&mut self, thread: u32, key: u32, tag: u32) -> Result<(), Refusal> {
+        Refusal::result_of(calls::put(self.bytes, thread, key, tag))
+    }
+
+    /// Begins a take by a thread, counted from 1. A later turn of the thread answers the item, or
+    /// that the queue was empty.
+    ///
+    /// Cost: that of [`Region::check`], then one word is written.
+    ///
+    /// ```
+    /// use mound::{Permission, Refusal, Region, Shape};
+    ///
+    /// let shape = Shape { depth: 1, cells: 1, threads: 2, threshold: 1 };
+    /// let mut bytes = vec![0; shape.byte_len()?];
+    /// let mut region =
+    ///     Region::layout(&mut bytes, shape, &[Permission::TAKE, Permission::NONE])?;
+    /// region.take(1)?;
+    /// assert_eq!(region.take(2), Err(Refusal::Permission));
+    /// # Ok::<(), Refusal>(())
+    /// ```
+    ///
+    /// # Errors
+    ///
+    /// In this order, and with no byte changed:
+    /// - [`Refusal::Thread`] where there is no such thread;
+    /// - [`Refusal::Permission`] where the thread's list lacks take;
+    /// - [`Refusal::Busy`] where the thread has begun an operation that is not answered.
+    pub fn take(&mut self, thread: u32) -> Result<(), Refusal> {
+        Refusal::result_of(calls::take(self.bytes, thread))
+    }
+
     /// Checks that the region is readable: its length is that of its first words, and every field
     /// is in its range.
     ///

@@ -4,19 +4,13 @@ use crate::words::{word, WORD};
 use crate::Refusal;
 
 /// Words before the first node: the shape, the present depth, the first free cell.
-const HEADING_WORDS: usize = 6;
-const NODE_WORDS: usize = 3;
-const CELL_WORDS: usize = 3;
-const THREAD_WORDS: usize = 33;
-
-/// Bytes before the first node.
-pub(crate) const HEADING_BYTES: usize = WORD * HEADING_WORDS;
-/// Bytes of one node.
-pub(crate) const NODE_BYTES: usize = WORD * NODE_WORDS;
-/// Bytes of one cell.
-pub(crate) const CELL_BYTES: usize = WORD * CELL_WORDS;
-/// Bytes of one thread's record.
-pub(crate) const THREAD_BYTES: usize = WORD * THREAD_WORDS;
+pub(crate) const HEADING_WORDS: usize = 6;
+/// Words of one node.
+pub(crate) const NODE_WORDS: usize = 3;
+/// Words of one cell.
+pub(crate) const CELL_WORDS: usize = 3;
+/// Words of one thread's record.
+pub(crate) const THREAD_WORDS: usize = 33;
 
 /// The four numbers that a region is laid out by. Any numbers can be written down here; a shape
 /// outside the ranges is refused when it is used.
@@ -62,10 +56,11 @@ impl Shape {
         if !self.is_in_range() {
             return Err(Refusal::Shape);
         }
-        Ok(HEADING_BYTES
-            + NODE_BYTES * self.nodes() as usize
-            + CELL_BYTES * self.cells as usize
-            + THREAD_BYTES * self.threads as usize)
+        let words = HEADING_WORDS
+            + NODE_WORDS * self.nodes() as usize
+            + CELL_WORDS * self.cells as usize
+            + THREAD_WORDS * self.threads as usize;
+        Ok(WORD * words)
     }
 
     /// The nodes of a tree of the greatest depth, for a shape in range.

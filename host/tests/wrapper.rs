@@ -88,3 +88,18 @@ fn permissions_have_the_values_0_to_3() {
     assert!(Permission::TAKE.may_take() && !Permission::TAKE.may_put());
     assert!(Permission::PUT_AND_TAKE.may_put() && Permission::PUT_AND_TAKE.may_take());
 }
+
+#[test]
+fn puts_and_takes_begin_or_say_why_not() -> Result<(), Refusal> {
+    let mut bytes = vec![0; SHAPE.byte_len()?];
+    let mut region = Region::layout(&mut bytes, SHAPE, &[Permission::PUT, Permission::TAKE])?;
+    assert_eq!(region.put(3, 5, 9), Err(Refusal::Thread));
+    assert_eq!(region.put(1, u32::MAX, 9), Err(Refusal::Item));
+    assert_eq!(region.put(2, 5, 9), Err(Refusal::Permission));
+    assert_eq!(region.take(1), Err(Refusal::Permission));
+    region.put(1, 5, 9)?;
+    region.take(2)?;
+    assert_eq!(region.put(1, 5, 9), Err(Refusal::Busy));
+    assert_eq!(region.take(2), Err(Refusal::Busy));
+    region.check()
+}

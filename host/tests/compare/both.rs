@@ -7,26 +7,68 @@ use crate::random::Random;
 /// Random bytes before and after a lent slice that no call may touch.
 const GUARD: usize = 40;
 
-/// Lays out `length` random bytes between guards, anywhere in memory; answers the call's number.
-/// The two must leave the same bytes, the guards among them, and a refused call the old ones.
-pub fn layout(random: &mut Random, length: usize, shape: Shape, permissions: &[u8]) -> u32 {
+/// Makes a call on a copy of `region` between guards, anywhere in memory; answers the call's number.
+/// The two must leave the same bytes, the guards among them, and a refused call the old ones. The
+/// region is then as they left it.
+fn change(
+    random: &mut Random,
+    region: &mut [u8],
+    what: impl Fn() -> String,
+    by_library: impl Fn(&mut [u8]) -> u32,
+    by_plain: impl Fn(&mut [u8]) -> Result<(), Refusal>,
+) -> u32 {
     let start = GUARD + random.among(0..=7) as usize;
-    let lent = start..start + length;
-    let before = random.bytes(lent.end + GUARD);
+    let lent = start..start + region.len();
+    let mut before = random.bytes(lent.end + GUARD);
+    before[lent.clone()].copy_from_slice(region);
 
-    let mut by_library = before.clone();
-    let Shape { depth, cells, threads, threshold } = shape;
-    let region = &mut by_library[lent.clone()];
-    let number = calls::layout(region, depth, cells, threads, threshold, permissions);
+    let mut left_by_library = before.clone();
+    let number = by_library(&mut left_by_library[lent.clone()]);
+    let mut left_by_plain = before.clone();
+    let result = by_plain(&mut left_by_plain[lent.clone()]);
 
-    let mut by_plain = before.clone();
-    let result = plain::layout(&mut by_plain[lent], shape, permissions);
-
-    let call = || format!("layout of {length} bytes, {shape:?}, permissions {permissions:?}");
-    assert_eq!(number, number_of(result), "{}", call());
-    assert!(by_library == by_plain, "other bytes after {}", call());
-    assert!(number == 0 || by_library == before, "a refused call changed bytes: {}", call());
+    assert_eq!(number, number_of(result), "{}", what());
+    assert!(left_by_library == left_by_plain, "other bytes after {}", what());
+    assert!(number == 0 || left_by_library == before, "changed by a refused {}", what());
+    region.copy_from_slice(&left_by_plain[lent]);
     number
+}
+
+/// Lays out random bytes of that length.
+pub fn layout(random: &mut Random, length: usize, shape: Shape, permissions: &[u8]) -> u32 {
+    let mut region = random.bytes(length);
+    let Shape { depth, cells, threads, threshold } = shape;
+    change(
+        random,
+        &mut region,
+        || format!("layout of {length} bytes, {shape:?}, permissions {permissions:?}"),
+        |region| calls::layout(region, depth, cells, threads, threshold, permissions),
+        |region| plain::layout(region, shape, permissions),
+    )
+}
+
+/// Begins a put.
+pub fn put(random: &mut Random, region: &mut [u8], thread: u32, key: u32, tag: u32) -> u32 {
+    let before = region.to_vec();
+    change(
+        random,
+        region,
+        || format!("put of {key} {tag} by thread {thread} in {:?}", Start(&before)),
+        |region| calls::put(region, thread, key, tag),
+        |region| plain::put(region, thread, key, tag),
+    )
+}
+
+/// Begins a take.
+pub fn take(random: &mut Random, region: &mut [u8], thread: u32) -> u32 {
+    let before = region.to_vec();
+    change(
+        random,
+        region,
+        || format!("take by thread {thread} in {:?}", Start(&before)),
+        |region| calls::take(region, thread),
+        |region| plain::take(region, thread),
+    )
 }
 
 /// Checks a region; the two must answer the same number and the library leave the bytes alone.
@@ -39,7 +81,7 @@ pub fn is_readable(region: &[u8]) -> bool {
 }
 
 /// A result as the library would number it.
-fn number_of(result: Result<(), Refusal>) -> u32 {
+pub fn number_of(result: Result<(), Refusal>) -> u32 {
     result.map_or_else(Refusal::number, |()| 0)
 }
 

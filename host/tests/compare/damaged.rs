@@ -7,7 +7,7 @@ use crate::fields::{Field, Words};
 use crate::random::Random;
 
 /// Small shapes with each kind of record in them, their ranges of different sizes.
-const SHAPES: [Shape; 5] = [
+pub const SHAPES: [Shape; 5] = [
     Shape { depth: 1, cells: 1, threads: 1, threshold: 1 },
     Shape { depth: 2, cells: 2, threads: 2, threshold: 1 },
     Shape { depth: 3, cells: 4, threads: 2, threshold: 16 },
@@ -21,7 +21,7 @@ fn check_by_table(region: &Words, what: &str) {
 }
 
 /// Values at the ends of a word's range and past them.
-fn telling_values(region: &Words, at: usize) -> [u32; 12] {
+pub fn telling_values(region: &Words, at: usize) -> [u32; 12] {
     let greatest = region.greatest(at);
     let (below, above) = (greatest.saturating_sub(1), greatest.saturating_add(1));
     [0, 1, 2, below, greatest, above, 1 << 8, 1 << 16, 1 << 24, 1 << 31, u32::MAX - 1, u32::MAX]

@@ -1,10 +1,13 @@
 //! The library against the plain Rust implementation: the same answer to the same call, and the
 //! same bytes afterwards. No test measures time, and every random choice is the same in each run.
 
-mod both;
-mod fields;
-mod random;
+#[path = "../common/mod.rs"]
+mod common;
+use common::{fields, random};
 
+mod both;
+
+mod beginnings;
 mod cases;
 mod damaged;
 mod dependent;

@@ -4,18 +4,56 @@ use mound::Shape;
 
 use crate::random::Random;
 
-/// Words before the first node.
+/// Words before the first node, and the last two of them.
 pub const HEADING: usize = 6;
+pub const PRESENT_DEPTH: usize = 4;
+pub const FIRST_FREE_CELL: usize = 5;
 /// Words of a node or a cell.
 pub const RECORD: usize = 3;
 /// Words of a thread's record.
 pub const THREAD: usize = 33;
 
-/// Some words of a thread's record.
+/// The words of a thread's record up to its three node copies.
+pub const PERMISSION: usize = 0;
 pub const PLACE: usize = 1;
+pub const KEY: usize = 2;
+pub const TAG: usize = 3;
+pub const OWN_CELL: usize = 4;
+pub const D: usize = 5;
+pub const LEAF: usize = 6;
 pub const TRIES: usize = 7;
+pub const LO: usize = 8;
+pub const HI: usize = 9;
 pub const NODE: usize = 10;
 pub const WAITING: usize = 11;
+pub const AFTER: usize = 12;
+pub const RESULT_KEY: usize = 13;
+pub const RESULT_TAG: usize = 14;
+
+/// Where the three node copies start in a thread's record; each has the words of a node, then those
+/// of its head cell.
+pub const COPIES: [usize; 3] = [15, 21, 27];
+
+/// The places' numbers.
+pub mod place {
+    pub const IDLE: u32 = 0;
+    pub const I1: u32 = 1;
+    pub const I2: u32 = 2;
+    pub const I3: u32 = 3;
+    pub const I4: u32 = 4;
+    pub const I5: u32 = 5;
+    pub const I6: u32 = 6;
+    pub const I7: u32 = 7;
+    pub const I8: u32 = 8;
+    pub const E1: u32 = 9;
+    pub const E2: u32 = 10;
+    pub const M1: u32 = 11;
+    pub const M2: u32 = 12;
+    pub const M3: u32 = 13;
+    pub const M4: u32 = 14;
+    pub const M5: u32 = 15;
+    pub const M6: u32 = 16;
+}
 
 /// What a word holds, and by that its range.
 #[derive(Clone, Copy, Debug, PartialEq)]

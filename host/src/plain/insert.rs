@@ -1,0 +1,133 @@
+//! The places of a put, lines 2 to 20 of Listing 1.
+
+use super::fields::{Field, Place, ROOT};
+use super::memory::{Node, Update};
+use super::record::Copied;
+use super::turn::{ancestor, existing, Outcome, Turn};
+use crate::{Answer, Refusal};
+
+impl Turn<'_, '_> {
+    /// I1, line 15: READ depth.
+    pub(super) fn read_depth(&mut self) -> Outcome {
+        self.thread.set(Field::D, self.memory.read_depth());
+        self.thread.set(Field::Tries, 0);
+        self.moved_to(Place::I2)
+    }
+
+    /// I2, lines 16 to 18: READ a leaf of level d, picked by the choice.
+    pub(super) fn try_leaf(&mut self, choice: u32) -> Outcome {
+        let d = existing(self.thread.get(Field::D))?;
+        let first_leaf = 1 << (d - 1);
+        let leaf = first_leaf + choice % first_leaf;
+        let copy = self.memory.read(leaf)?;
+        self.thread.set(Field::Leaf, leaf);
+        self.thread.set_copy(Copied::First, copy);
+        if copy.val() >= self.thread.get(Field::Key) {
+            // Never refused: the search starts at the leaf's own level.
+            return self.search_on(leaf, 1, d);
+        }
+        let tries = self.thread.get(Field::Tries) + 1;
+        self.thread.set(Field::Tries, tries);
+        self.moved_to(if tries < self.shape.threshold {
+            Place::I2
+        } else if d < self.shape.depth {
+            Place::I4
+        } else {
+            Place::I1
+        })
+    }
+
+    /// I3, the binary search of line 18: READ the leaf's ancestor halfway between lo and hi.
+    pub(super) fn search(&mut self) -> Outcome {
+        let leaf = self.thread.get(Field::Leaf);
+        let lo = self.thread.get(Field::Lo);
+        let hi = self.thread.get(Field::Hi);
+        if lo >= hi {
+            return Err(Refusal::Unreadable);
+        }
+        let middle = (lo + hi) / 2;
+        let copy = self.memory.read(ancestor(leaf, middle)?)?;
+        let found = copy.val() >= self.thread.get(Field::Key);
+        let (lo, hi) = if found { (lo, middle) } else { (middle + 1, hi) };
+        let answer = self.search_on(leaf, lo, hi)?;
+        self.thread.set_copy(Copied::First, copy);
+        Ok(answer)
+    }
+
+    /// Search: to I3 while levels are left between lo and hi, else to I5 with the ancestor found.
+    fn search_on(&mut self, leaf: u32, lo: u32, hi: u32) -> Outcome {
+        let place = if lo < hi {
+            Place::I3
+        } else {
+            self.thread.set(Field::Node, ancestor(leaf, hi)?);
+            Place::I5
+        };
+        self.thread.set(Field::Lo, lo);
+        self.thread.set(Field::Hi, hi);
+        self.moved_to(place)
+    }
+
+    /// I4, line 19: CAS depth from d to d + 1.
+    pub(super) fn grow(&mut self) -> Outcome {
+        let d = existing(self.thread.get(Field::D))?;
+        if d >= self.shape.depth {
+            return Err(Refusal::Unreadable);
+        }
+        self.memory.cas_depth(d, d + 1);
+        self.moved_to(Place::I1)
+    }
+
+    /// I5, lines 4 to 7: READ the node found.
+    pub(super) fn read_node(&mut self) -> Outcome {
+        let node = self.thread.get(Field::Node);
+        let copy = self.memory.read(node)?;
+        self.thread.set_copy(Copied::First, copy);
+        self.moved_to(if copy.val() < self.thread.get(Field::Key) {
+            Place::I1
+        } else if node == ROOT {
+            Place::I6
+        } else {
+            Place::I7
+        })
+    }
+
+    /// I6, line 8: CAS the root, with the own cell as its new head.
+    pub(super) fn push_on_root(&mut self) -> Outcome {
+        let push = self.push_on(ROOT)?;
+        let pushed = self.memory.cas(&push)?;
+        self.end_push(pushed, push)
+    }
+
+    /// I7, lines 10 and 11: READ the parent.
+    pub(super) fn read_parent(&mut self) -> Outcome {
+        let parent = self.thread.get(Field::Node) / 2;
+        let copy = self.memory.read(parent)?;
+        self.thread.set_copy(Copied::Second, copy);
+        self.moved_to(if copy.val() > self.thread.get(Field::Key) { Place::I1 } else { Place::I8 })
+    }
+
+    /// I8, line 12: DCSS of the node, with the own cell as its new head, under an unchanged parent.
+    pub(super) fn push_under_parent(&mut self) -> Outcome {
+        let node = self.thread.get(Field::Node);
+        let push = self.push_on(node)?;
+        let parent = self.thread.copy(Copied::Second).node;
+        let pushed = self.memory.dcss(&push, node / 2, parent)?;
+        self.end_push(pushed, push)
+    }
+
+    /// Line 6: the own cell before the copied list, the dirty bit as it was found.
+    fn push_on(&self, at: u32) -> Result<Update, Refusal> {
+        let first_cell = existing(self.thread.get(Field::OwnCell))?;
+        let old @ Node { dirty, .. } = self.thread.copy(Copied::First).node;
+        Ok(Update { at, old, first_cell, dirty })
+    }
+
+    fn end_push(&mut self, pushed: bool, push: Update) -> Outcome {
+        if !pushed {
+            return self.moved_to(Place::I1);
+        }
+        self.memory.link(push.first_cell, push.old.first_cell);
+        self.thread.go_idle();
+        Ok(Answer::Inserted)
+    }
+}

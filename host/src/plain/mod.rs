@@ -1,0 +1,66 @@
+//! The queue in plain Rust, written from its papers alone, for the tests and the benchmark to hold
+//! against the library.
+//!
+//! It shares [`Shape`](crate::Shape), [`Refusal`], [`Answer`] and [`Served`](crate::Served) with the
+//! rest of the crate, and no code with the library. The five calls are functions on a region's
+//! bytes; [`Machine`] is a region that is checked once and then used, and [`turn()`] serves one turn
+//! by itself.
+//!
+//! ```
+//! use mound::{plain, Answer, Refusal, Shape};
+//!
+//! let shape = Shape { depth: 1, cells: 1, threads: 1, threshold: 1 };
+//! let mut region = vec![0; shape.byte_len()?];
+//! plain::layout(&mut region, shape, &[3])?;
+//! plain::put(&mut region, 1, 5, 9)?;
+//! let answers: Vec<Answer> = (0..4).map(|_| plain::turn(&mut region, 1, 0)).collect();
+//! assert_eq!(answers, [Answer::Moved, Answer::Moved, Answer::Moved, Answer::Inserted]);
+//! # Ok::<(), Refusal>(())
+//! ```
+
+mod extract;
+mod fields;
+mod insert;
+mod layout;
+mod machine;
+mod memory;
+mod moundify;
+mod parts;
+mod readable;
+mod record;
+mod run;
+mod turn;
+
+use crate::{Answer, Refusal};
+
+pub use layout::layout;
+pub use machine::Machine;
+pub use readable::check;
+pub use run::run;
+
+/// Begins a put of an item.
+///
+/// # Errors
+///
+/// [`Refusal::Unreadable`] first, then those of [`Machine::put`]; no byte is changed.
+pub fn put(region: &mut [u8], thread: u32, key: u32, tag: u32) -> Result<(), Refusal> {
+    Machine::open(region)?.put(thread, key, tag)
+}
+
+/// Begins a take.
+///
+/// # Errors
+///
+/// [`Refusal::Unreadable`] first, then those of [`Machine::take`]; no byte is changed.
+pub fn take(region: &mut [u8], thread: u32) -> Result<(), Refusal> {
+    Machine::open(region)?.take(thread)
+}
+
+/// Serves one turn, as a run of one would: a region that is not readable is refused 7 before the
+/// thread is looked at, and otherwise the answer is that of [`Machine::turn`].
+pub fn turn(region: &mut [u8], thread: u32, choice: u32) -> Answer {
+    match Machine::open(region) {
+        Ok(mut machine) => machine.turn(thread, choice),
+        Err(refusal) => Answer::Refused(refusal),
+    }
+}

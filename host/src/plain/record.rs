@@ -1,0 +1,71 @@
+//! A thread's record: its fields, its three node copies, and what is done to it as a whole.
+
+use super::fields::{Field, Place};
+use super::memory::{Cell, Node, NodeCopy};
+use super::parts::{CopyWords, ThreadWords};
+use crate::Refusal;
+
+/// One of the three node copies.
+#[derive(Clone, Copy)]
+pub(super) enum Copied {
+    /// Of every other node that is read.
+    First = 0,
+    /// Of the parent, or of the left child.
+    Second = 1,
+    /// Of the right child.
+    Third = 2,
+}
+
+/// A thread's record in a readable region.
+pub(super) struct Record<'a>(pub &'a mut ThreadWords);
+
+impl Record<'_> {
+    pub fn get(&self, field: Field) -> u32 {
+        u32::from_le_bytes(self.0[field as usize])
+    }
+
+    pub fn set(&mut self, field: Field, value: u32) {
+        self.0[field as usize] = value.to_le_bytes();
+    }
+
+    pub fn place(&self) -> Place {
+        Place::ALL[self.get(Field::Place) as usize]
+    }
+
+    pub fn set_place(&mut self, place: Place) {
+        self.set(Field::Place, place as u32);
+    }
+
+    pub fn copy(&self, copied: Copied) -> NodeCopy {
+        let copies: &[CopyWords] = self.0[Field::Copies as usize..].as_chunks().0;
+        let [first_cell, dirty, counter, key, tag, next] = copies[copied as usize];
+        NodeCopy {
+            node: Node::from_words([first_cell, dirty, counter]),
+            head: Cell::from_words([key, tag, next]),
+        }
+    }
+
+    pub fn set_copy(&mut self, copied: Copied, copy: NodeCopy) {
+        let [first_cell, dirty, counter] = copy.node.to_words();
+        let [key, tag, next] = copy.head.to_words();
+        let copies: &mut [CopyWords] = self.0[Field::Copies as usize..].as_chunks_mut().0;
+        copies[copied as usize] = [first_cell, dirty, counter, key, tag, next];
+    }
+
+    /// Whether an operation may begin: the thread's list grants it and the thread is idle.
+    pub fn may_begin(&self, needed: u32) -> Result<(), Refusal> {
+        if self.get(Field::Permission) & needed == 0 {
+            return Err(Refusal::Permission);
+        }
+        match self.place() {
+            Place::Idle => Ok(()),
+            _ => Err(Refusal::Busy),
+        }
+    }
+
+    /// Going idle zeroes every field but the permission.
+    pub fn go_idle(&mut self) {
+        let [_permission, others @ ..] = &mut *self.0;
+        others.fill([0; 4]);
+    }
+}

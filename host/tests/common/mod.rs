@@ -1,0 +1,6 @@
+//! What the test programs share. Each of them uses a part of it.
+#![allow(dead_code)]
+
+pub mod beginnings;
+pub mod fields;
+pub mod random;

@@ -1,0 +1,72 @@
+//! Beginning a put or a take: the refusals in order, and each word afterwards.
+
+use crate::common::beginnings::with_every_set_of_reasons;
+use crate::fields::{place, Words, FIRST_FREE_CELL, KEY, OWN_CELL, PERMISSION, PLACE, TAG};
+use crate::queue::{Call, Queue};
+use crate::random::Random;
+
+#[test]
+fn the_first_reason_in_order_refuses() {
+    for beginning in with_every_set_of_reasons() {
+        let before = Queue { bytes: beginning.region };
+        let put = Call::Put((beginning.key, beginning.tag));
+        for (call, due) in [(put, beginning.put), (Call::Take, beginning.take)] {
+            let mut after = before.clone();
+            assert_eq!(after.begin(beginning.thread, call), due);
+            assert_eq!(after == before, due.is_err());
+        }
+    }
+}
+
+/// Each permission grants what it lists.
+#[test]
+fn a_permission_grants_what_it_lists() {
+    for (permission, may_put, may_take) in
+        [(0, false, false), (1, true, false), (2, false, true), (3, true, true)]
+    {
+        let mut queue = Queue::laid_out(crate::queue::SMALL, &[permission; 2]);
+        assert_eq!(queue.put(1, 5, 0).is_ok(), may_put);
+        assert_eq!(queue.take(2).is_ok(), may_take);
+    }
+}
+
+/// Any readable region in which thread 1 may begin.
+fn ready(random: &mut Random) -> Queue {
+    let shape = random.shape(5);
+    let mut queue = Queue { bytes: Words::any_readable(random, shape).bytes() };
+    queue.set_word(FIRST_FREE_CELL, random.among(1..=shape.cells));
+    queue.set_field(1, PERMISSION, 3);
+    queue.set_field(1, PLACE, place::IDLE);
+    queue.set_field(1, crate::fields::WAITING, 0);
+    queue
+}
+
+#[test]
+fn a_put_takes_the_first_free_cell() {
+    let random = &mut Random::new(80);
+    for _ in 0..5000 {
+        let mut queue = ready(random);
+        let (key, tag) = (random.among(0..=u32::MAX - 1), random.among(0..=65_535));
+        let mut due = queue.clone();
+        let own_cell = due.word(FIRST_FREE_CELL);
+        due.set_word(FIRST_FREE_CELL, due.cell(own_cell)[2]);
+        due.set_words(due.cell_at(own_cell), [key, tag, 0]);
+        for (field, value) in [(PLACE, place::I1), (KEY, key), (TAG, tag), (OWN_CELL, own_cell)] {
+            due.set_field(1, field, value);
+        }
+        assert_eq!(queue.put(1, key, tag), Ok(()));
+        assert!(queue == due);
+    }
+}
+
+#[test]
+fn a_take_sets_the_place_alone() {
+    let random = &mut Random::new(81);
+    for _ in 0..5000 {
+        let mut queue = ready(random);
+        let mut due = queue.clone();
+        due.set_field(1, PLACE, place::E1);
+        assert_eq!(queue.take(1), Ok(()));
+        assert!(queue == due);
+    }
+}

@@ -1,0 +1,6 @@
+//! Every interleaving of small workloads with every leaf choice, against the plain bag.
+
+mod mistaken;
+mod mistakes;
+mod right;
+mod search;

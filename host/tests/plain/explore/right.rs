@@ -1,0 +1,120 @@
+//! The machine without a mistake agrees with the bag in every state.
+
+use std::collections::BTreeSet;
+
+use mound::Shape;
+
+use super::mistaken::Machine;
+use super::search::{explore, Explored, Workload};
+use crate::fields::place::{E1, E2, I1, I2, I3, I4, I5, I6, I7, I8, IDLE, M1, M2, M3, M4, M5, M6};
+use crate::queue::{Call, Item};
+
+/// The items that a queue holds at the start: the first few of these.
+const HELD: [Item; 4] = [(5, 0), (6, 0), (7, 0), (8, 0)];
+
+/// From each place, the places where document 01 lets a turn go on.
+const WAYS: [(u32, &[u32]); 16] = [
+    (I1, &[I2]),
+    (I2, &[I1, I2, I3, I4, I5]),
+    (I3, &[I3, I5]),
+    (I4, &[I1]),
+    (I5, &[I1, I6, I7]),
+    (I6, &[IDLE, I1]),
+    (I7, &[I1, I8]),
+    (I8, &[IDLE, I1]),
+    (E1, &[IDLE, E2, M1]),
+    (E2, &[E1, M1]),
+    (M1, &[M2]),
+    (M2, &[IDLE, E1, M1, M3, M6]),
+    (M3, &[M4]),
+    (M4, &[M1, M5, M6]),
+    (M5, &[M1]),
+    (M6, &[IDLE, E1, M1]),
+];
+
+fn shape(depth: u32, threads: u32, threshold: u32) -> Shape {
+    Shape { depth, cells: 1 << (depth - 1), threads, threshold }
+}
+
+/// All lists of `length` numbers below `bound`.
+fn all_lists(bound: usize, length: u32) -> impl Iterator<Item = Vec<usize>> {
+    let digits = move |number| (0..length).map(|at| number / bound.pow(at) % bound).collect();
+    (0..bound.pow(length)).map(digits)
+}
+
+/// All workloads on a queue of `held` items in which each thread makes one to `longest` calls: takes,
+/// and puts of key 3, below all items held, or of another key. Threads differ in their number alone,
+/// so that workloads which are the same but for that are taken once.
+fn workloads(shape: Shape, held: usize, key: u32, longest: u32) -> impl Iterator<Item = Workload> {
+    let lists: Vec<_> = (1..=longest).flat_map(|length| all_lists(3, length)).collect();
+    let distinct = all_lists(lists.len(), shape.threads).filter(|chosen| chosen.is_sorted());
+    distinct.map(move |chosen| {
+        let calls_by = |(thread, list): (u32, &usize)| -> Vec<Call> {
+            let calls = [Call::Put((3, thread)), Call::Put((key, thread)), Call::Take];
+            lists[*list].iter().map(|&call| calls[call]).collect()
+        };
+        let calls = (1..).zip(&chosen).map(calls_by).collect();
+        let permissions = vec![3; shape.threads as usize];
+        Workload { shape, permissions, held: HELD[..held].to_vec(), calls }
+    })
+}
+
+/// Explores each workload. The turns go every way that document 01 lets them go, but for those that
+/// these workloads do not lead to, and no other.
+fn agree_going_every_way_but(not_gone: &[(u32, u32)], workloads: impl Iterator<Item = Workload>) {
+    let mut all = Explored::default();
+    for workload in workloads {
+        match explore(&workload, Machine { mistake: None }) {
+            Ok(explored) => {
+                all.states += explored.states;
+                all.moves.extend(explored.moves);
+            }
+            Err(counterexample) => panic!("{workload:?}: {counterexample:?}"),
+        }
+    }
+    println!("{} states", all.states);
+    let ways = WAYS.iter().flat_map(|&(from, to)| to.iter().map(move |&to| (from, to)));
+    assert_eq!(all.moves, ways.filter(|way| !not_gone.contains(way)).collect::<BTreeSet<_>>());
+}
+
+#[test]
+#[cfg_attr(debug_assertions, ignore = "slow without --release")]
+fn two_threads_at_depth_2() {
+    let at_threshold = |h| (0..=2).flat_map(move |held| workloads(shape(2, 2, h), held, 7, 2));
+    agree_going_every_way_but(&[(I3, I3)], (1..=2).flat_map(at_threshold));
+}
+
+#[test]
+#[cfg_attr(debug_assertions, ignore = "slow without --release")]
+fn two_threads_at_depth_3() {
+    let workloads = (0..=4).flat_map(|held| workloads(shape(3, 2, 1), held, 6, 2));
+    agree_going_every_way_but(&[(I2, I1), (I2, I2)], workloads);
+}
+
+#[test]
+#[cfg_attr(debug_assertions, ignore = "slow without --release")]
+fn three_threads_at_depth_2() {
+    let workloads = (0..=2).flat_map(|held| workloads(shape(2, 3, 1), held, 7, 1));
+    agree_going_every_way_but(&[(I2, I2), (I3, I3)], workloads);
+}
+
+#[test]
+#[cfg_attr(debug_assertions, ignore = "slow without --release")]
+fn three_threads_at_depth_3() {
+    let workloads = (0..=2).flat_map(|held| workloads(shape(3, 3, 1), held, 6, 1));
+    agree_going_every_way_but(&[(I2, I1), (I2, I2), (I3, I3)], workloads);
+}
+
+#[test]
+#[ignore = "about ten seconds"]
+fn two_threads_at_depth_2_with_three_calls_each() {
+    let workloads = (0..=2).flat_map(|held| workloads(shape(2, 2, 1), held, 7, 3));
+    agree_going_every_way_but(&[(I2, I2), (I3, I3)], workloads);
+}
+
+#[test]
+#[ignore = "about a minute, and a gigabyte"]
+fn three_threads_at_depth_3_with_more_items() {
+    let workloads = (2..=4).flat_map(|held| workloads(shape(3, 3, 1), held, 7, 1));
+    agree_going_every_way_but(&[(I2, I1), (I2, I2), (I2, I5)], workloads);
+}

@@ -1,0 +1,149 @@
+//! The search: breadth first over all states of a workload, so that a counterexample has as few
+//! steps as any.
+
+use std::collections::{BTreeSet, HashSet};
+use std::hash::{BuildHasher, BuildHasherDefault, DefaultHasher};
+
+use mound::{Refusal, Shape};
+
+use super::mistaken::Machine;
+use crate::fields::{place, D};
+use crate::ledger::{Disagreement, Ledger};
+use crate::queue::{Call, Item, Queue};
+
+/// What the threads of a small queue are to do, each its calls one after the other.
+#[derive(Clone, Debug)]
+pub struct Workload {
+    pub shape: Shape,
+    pub permissions: Vec<u8>,
+    /// The items that thread 1 has put in before.
+    pub held: Vec<Item>,
+    pub calls: Vec<Vec<Call>>,
+}
+
+/// One thing that can happen next.
+#[derive(Clone, Copy, Debug, PartialEq)]
+pub enum Step {
+    Begin { thread: u32, call: Call },
+    Turn { thread: u32, choice: u32 },
+}
+
+/// What a search came across.
+#[derive(Debug, Default)]
+pub struct Explored {
+    pub states: usize,
+    /// The place before a turn and the place after it, for each turn of a busy thread.
+    pub moves: BTreeSet<(u32, u32)>,
+}
+
+/// The steps to a disagreement with the bag.
+#[derive(Debug)]
+pub struct Counterexample {
+    pub steps: Vec<Step>,
+    pub disagreement: Disagreement,
+}
+
+#[derive(Clone, Hash)]
+struct State {
+    queue: Queue,
+    ledger: Ledger,
+    /// How many of its calls each thread has made.
+    made: Vec<usize>,
+}
+
+/// More states than any workload here has: a machine that never comes to rest has no last state.
+const MOST_STATES: usize = 10_000_000;
+
+/// Goes through every state that the workload can reach.
+pub fn explore(workload: &Workload, machine: Machine) -> Result<Explored, Counterexample> {
+    let queue = Queue::laid_out(workload.shape, &workload.permissions).holding(&workload.held);
+    let ledger = Ledger::of(&queue, machine.order());
+    let start = State { queue, ledger, made: vec![0; workload.calls.len()] };
+
+    let mut seen = HashSet::from([fingerprint(&start)]);
+    let mut moves = BTreeSet::new();
+    // How each state after the first was reached: the number of the state before it, and the step.
+    let mut reached = vec![];
+    let mut frontier = vec![(0, start)];
+    while !frontier.is_empty() {
+        let mut next_frontier = vec![];
+        for (number, state) in frontier {
+            for step in steps(workload, &state) {
+                let after = step_from(&state, machine, step).map_err(|disagreement| {
+                    Counterexample { steps: path(&reached, number, step), disagreement }
+                })?;
+                moves.extend(move_of(step, &state.queue, &after.queue));
+                if seen.insert(fingerprint(&after)) {
+                    reached.push((number, step));
+                    next_frontier.push((reached.len(), after));
+                }
+            }
+        }
+        assert!(seen.len() < MOST_STATES, "no end of states in {workload:?}");
+        frontier = next_frontier;
+    }
+    Ok(Explored { states: seen.len(), moves })
+}
+
+/// All that can happen next: a beginning or a turn of each thread, with every leaf choice.
+fn steps(workload: &Workload, state: &State) -> Vec<Step> {
+    let mut steps = vec![];
+    for (thread, (calls, &made)) in (1..).zip(workload.calls.iter().zip(&state.made)) {
+        if let (false, Some(&call)) = (state.ledger.is_busy(thread), calls.get(made)) {
+            steps.push(Step::Begin { thread, call });
+        }
+        let choices = match state.queue.place(thread) {
+            place::I2 => 1 << (state.queue.field(thread, D) - 1),
+            _ => 1,
+        };
+        steps.extend((0..choices).map(|choice| Step::Turn { thread, choice }));
+    }
+    steps
+}
+
+/// The state after a step, unless the bag disagrees.
+fn step_from(state: &State, machine: Machine, step: Step) -> Result<State, Disagreement> {
+    let State { mut queue, mut ledger, mut made } = state.clone();
+    match step {
+        Step::Begin { thread, call } => {
+            let result = machine.begin(&mut queue, thread, call);
+            ledger.called(thread, call, result, (&state.queue, &queue))?;
+            // A put that finds no cell is tried again later.
+            if result != Err(Refusal::NoFreeCell) {
+                made[thread as usize - 1] += 1;
+            }
+        }
+        Step::Turn { thread, choice } => {
+            let answer = machine.turn(&mut queue, thread, choice);
+            ledger.turned(thread, answer, (&state.queue, &queue))?;
+        }
+    }
+    Ok(State { queue, ledger, made })
+}
+
+fn move_of(step: Step, before: &Queue, after: &Queue) -> Option<(u32, u32)> {
+    match step {
+        Step::Turn { thread, .. } if before.place(thread) != place::IDLE => {
+            Some((before.place(thread), after.place(thread)))
+        }
+        _ => None,
+    }
+}
+
+/// The steps to a state, and one more.
+fn path(reached: &[(usize, Step)], mut number: usize, last: Step) -> Vec<Step> {
+    let mut steps = vec![last];
+    while number > 0 {
+        let (before, step) = reached[number - 1];
+        steps.push(step);
+        number = before;
+    }
+    steps.reverse();
+    steps
+}
+
+/// 64 bits that tell states apart. Among a million states, two that share theirs are as likely as 1
+/// in 37 million.
+fn fingerprint(state: &State) -> u64 {
+    BuildHasherDefault::<DefaultHasher>::default().hash_one(state)
+}

@@ -1,0 +1,138 @@
+//! Long random histories of laid-out regions, beside the plain bag.
+
+use std::ops::RangeInclusive;
+
+use mound::{Answer, Refusal, Shape};
+
+use crate::fields::{PERMISSION, PRESENT_DEPTH};
+use crate::ledger::{Ledger, Order};
+use crate::queue::{Call, Queue};
+use crate::random::Random;
+
+/// A queue with its ledger, and the range from which keys are drawn; it may rise from put to put,
+/// as times do, so that the tree grows deep.
+struct History {
+    queue: Queue,
+    ledger: Ledger,
+    keys: RangeInclusive<u32>,
+    rise: u32,
+}
+
+impl History {
+    /// An empty queue, its last thread with an empty permission list.
+    fn start(random: &mut Random) -> History {
+        let depth = random.among(1..=7);
+        let shape = Shape {
+            depth,
+            cells: random.among_or_extreme(1..=1 << (depth - 1)),
+            threads: random.among(2..=16),
+            threshold: random.among(1..=4),
+        };
+        let mut permissions: Vec<u8> =
+            (1..shape.threads).map(|_| random.one_of(&[0, 1, 2, 3, 3, 3, 3])).collect();
+        permissions.push(0);
+        let queue = Queue::laid_out(shape, &permissions);
+        let ledger = Ledger::of(&queue, Order::Deciding);
+        let keys = 0..=random.one_of(&[0, 3, 20, 4_294_000_000]);
+        History { queue, ledger, keys, rise: random.one_of(&[0, 0, 1, 5]) }
+    }
+
+    /// A call of some thread, or turns of it, or both. Some calls are refused for one of its states.
+    fn go_on(&mut self, random: &mut Random) {
+        let thread = random.among(1..=self.queue.shape().threads);
+        if random.among(0..=3) == 0 {
+            let item = (random.among(self.keys.clone()), random.among_or_extreme(0..=65_535));
+            self.keys = self.keys.start() + self.rise..=self.keys.end() + self.rise;
+            self.begin(thread, random.one_of(&[Call::Put(item), Call::Put(item), Call::Take]));
+        }
+        for _ in 0..random.one_of(&[0, 1, 1, 1, 2, 5, 20]) {
+            self.turn(thread, random.among(0..=u32::MAX));
+        }
+    }
+
+    fn begin(&mut self, thread: u32, call: Call) {
+        let before = self.queue.clone();
+        let result = self.queue.begin(thread, call);
+        let agreed = self.ledger.called(thread, call, result, (&before, &self.queue));
+        assert_eq!(agreed, Ok(()), "{call:?} of thread {thread}");
+    }
+
+    fn turn(&mut self, thread: u32, choice: u32) {
+        let before = self.queue.clone();
+        let answer = self.queue.turn(thread, choice);
+        let agreed = self.ledger.turned(thread, answer, (&before, &self.queue));
+        assert_eq!(agreed, Ok(()), "turn of thread {thread} with choice {choice}: {answer:?}");
+    }
+
+    fn has_only_clean_nodes(&self) -> bool {
+        (1..1 << self.queue.shape().depth).all(|node| self.queue.node(node)[1] == 0)
+    }
+
+    /// A thread that may begin a take.
+    fn may_take(&self) -> Option<u32> {
+        let permitted = |thread: u32| self.queue.field(thread, PERMISSION) & 2 != 0;
+        let mut threads = 1..=self.queue.shape().threads;
+        threads.find(|&thread| permitted(thread) && !self.ledger.is_busy(thread))
+    }
+}
+
+#[test]
+fn agree_with_the_bag() {
+    let random = &mut Random::new(70);
+    for _ in 0..300 {
+        let mut history = History::start(random);
+        for _ in 0..1000 {
+            history.go_on(random);
+        }
+    }
+}
+
+#[test]
+fn a_thread_that_lists_nothing_changes_nothing() {
+    let random = &mut Random::new(71);
+    for _ in 0..100 {
+        let mut history = History::start(random);
+        let lists_nothing = history.queue.shape().threads;
+        for _ in 0..100 {
+            history.go_on(random);
+            let mut queue = history.queue.clone();
+            assert_eq!(queue.put(lists_nothing, 1, 2), Err(Refusal::Permission));
+            assert_eq!(queue.take(lists_nothing), Err(Refusal::Permission));
+            assert_eq!(queue.turn(lists_nothing, random.among(0..=u32::MAX)), Answer::Idle);
+            assert!(queue == history.queue);
+        }
+    }
+}
+
+/// The accesses of a take by that thread while no other moves.
+fn accesses_of_a_take_alone(mut queue: Queue, thread: u32) -> u32 {
+    assert_eq!(queue.take(thread), Ok(()));
+    for accesses in 1..=100 {
+        match queue.turn(thread, 0) {
+            Answer::Moved => {}
+            Answer::Took { .. } | Answer::Empty => return accesses,
+            other => panic!("a take was answered {other:?}"),
+        }
+    }
+    panic!("a take has no end");
+}
+
+/// With all nodes clean and no other thread moving, a take begun at depth d ends within 5 × d
+/// accesses, and some take needs them.
+#[test]
+fn a_take_by_itself_ends_within_five_accesses_a_level() {
+    let random = &mut Random::new(72);
+    let mut most_at_depth = [0; 7];
+    for _ in 0..100 {
+        let mut history = History::start(random);
+        for _ in 0..1000 {
+            history.go_on(random);
+            if let (true, Some(thread)) = (history.has_only_clean_nodes(), history.may_take()) {
+                let accesses = accesses_of_a_take_alone(history.queue.clone(), thread);
+                let depth = history.queue.word(PRESENT_DEPTH) as usize;
+                most_at_depth[depth - 1] = accesses.max(most_at_depth[depth - 1]);
+            }
+        }
+    }
+    assert_eq!(most_at_depth, [5, 10, 15, 20, 25, 30, 35]);
+}

@@ -1,0 +1,89 @@
+//! What turns leave in the thread's record and in shared memory, word by word: a field keeps what
+//! was last put in it until the thread goes idle.
+
+use mound::Answer::{Inserted, Moved, Took};
+
+use crate::fields::{place, AFTER, COPIES, FIRST_FREE_CELL, NODE, PLACE, WAITING};
+use crate::queue::{Queue, SMALL};
+
+/// The record's words from the place to the node.
+fn put_words(queue: &Queue, thread: u32) -> [u32; 10] {
+    std::array::from_fn(|word| queue.field(thread, PLACE + word))
+}
+
+fn copy(queue: &Queue, thread: u32, copy: usize) -> [u32; 6] {
+    std::array::from_fn(|word| queue.field(thread, COPIES[copy] + word))
+}
+
+/// Case H: a put that fails at the root, grows the tree and ends at node 3.
+#[test]
+fn a_put_turn_by_turn() {
+    use place::{I1, I2, I3, I4, I5, I7, I8};
+    let root = [1, 0, 1, 5, 6, 0];
+    let none = [0; 6];
+    let mut queue = Queue::open_to_all(SMALL).holding(&[(5, 6)]);
+    assert_eq!(queue.put(2, 7, 8), Ok(()));
+    assert_eq!(queue.cell(2), [7, 8, 0]);
+    assert_eq!(put_words(&queue, 2), [I1, 7, 8, 2, 0, 0, 0, 0, 0, 0]);
+
+    // Place, item, own cell, d, leaf, tries, lo, hi, node; then the first copy and the second.
+    let after_each_turn = [
+        ([I2, 7, 8, 2, 1, 0, 0, 0, 0, 0], none, none),
+        ([I4, 7, 8, 2, 1, 1, 1, 0, 0, 0], root, none),
+        ([I1, 7, 8, 2, 1, 1, 1, 0, 0, 0], root, none),
+        ([I2, 7, 8, 2, 2, 1, 0, 0, 0, 0], root, none),
+        ([I3, 7, 8, 2, 2, 3, 0, 1, 2, 0], none, none),
+        ([I5, 7, 8, 2, 2, 3, 0, 2, 2, 3], root, none),
+        ([I7, 7, 8, 2, 2, 3, 0, 2, 2, 3], none, none),
+        ([I8, 7, 8, 2, 2, 3, 0, 2, 2, 3], none, root),
+    ];
+    for (words, first, second) in after_each_turn {
+        assert_eq!(queue.turn(2, 5), Moved);
+        assert_eq!(put_words(&queue, 2), words);
+        assert_eq!([copy(&queue, 2, 0), copy(&queue, 2, 1)], [first, second]);
+    }
+    assert_eq!(queue.turn(2, 5), Inserted);
+    assert_eq!(put_words(&queue, 2), [0; 10]);
+    assert_eq!(queue.node(3), [2, 0, 1]);
+    assert_eq!(queue.cell(2), [7, 8, 0]);
+}
+
+/// Items of keys 5 and 7 at nodes 1 and 3; the second take finds node 3 as the first left it, dirty.
+#[test]
+fn two_takes_that_mend_turn_by_turn() {
+    use place::{E2, M1, M2, M3, M4, M5, M6};
+    let mut queue = Queue::open_to_all(SMALL).holding(&[(5, 6), (7, 8)]);
+    assert_eq!([queue.node(1), queue.node(3)], [[1, 0, 1], [2, 0, 1]]);
+    assert_eq!([queue.take(1), queue.take(2)], [Ok(()); 2]);
+
+    let places_of = |queue: &mut Queue, thread: u32, turns: usize| -> Vec<u32> {
+        let turn = |_| {
+            assert_eq!(queue.turn(thread, 0), Moved);
+            queue.place(thread)
+        };
+        (0..turns).map(turn).collect()
+    };
+    assert_eq!(places_of(&mut queue, 1, 7), [E2, M1, M2, M3, M4, M5, M1]);
+    // The root got the child's list, clean; the child the root's empty one, dirty.
+    assert_eq!([queue.node(1), queue.node(3)], [[2, 0, 3], [0, 1, 2]]);
+    assert_eq!([queue.field(1, NODE), queue.field(1, AFTER)], [3, 1]);
+    assert_eq!((queue.cell(1), queue.word(FIRST_FREE_CELL)), ([0, 0, 0], 1));
+
+    assert_eq!(places_of(&mut queue, 2, 6), [E2, M1, M2, M3, M4, M1]);
+    assert_eq!([queue.field(2, NODE), queue.field(2, WAITING)], [3, 1]);
+    assert_eq!(copy(&queue, 2, 0), [0, 1, 4, 0, 0, 0]);
+    assert_eq!(copy(&queue, 2, 2), [0, 1, 2, 0, 0, 0]);
+    assert_eq!((queue.cell(2), queue.word(FIRST_FREE_CELL)), ([0, 0, 1], 2));
+
+    // Thread 2 cleans the child and comes back to the root, which waits no more.
+    assert_eq!(places_of(&mut queue, 2, 3), [M2, M6, M1]);
+    assert_eq!([queue.field(2, NODE), queue.field(2, WAITING)], [1, 0]);
+    assert_eq!([queue.node(1), queue.node(3)], [[0, 1, 4], [0, 0, 3]]);
+    assert_eq!(places_of(&mut queue, 2, 4), [M2, M3, M4, M6]);
+    assert_eq!(queue.turn(2, 0), Took { key: 7, tag: 8 });
+    assert_eq!(queue.node(1), [0, 0, 5]);
+
+    assert_eq!(places_of(&mut queue, 1, 1), [M2]);
+    assert_eq!(queue.turn(1, 0), Took { key: 5, tag: 6 });
+    assert_eq!([queue.place(1), queue.place(2)], [place::IDLE; 2]);
+}

@@ -1,0 +1,163 @@
+//! Turns that are refused: 3 for the thread, 7 for what does not exist, 11 for a spent counter. Each
+//! leaves every byte.
+
+use mound::{plain, Answer, Refusal};
+
+use crate::fields::place::{E1, E2, I1, I2, I3, I4, I5, I6, I7, I8, IDLE, M1, M2, M3, M4, M5, M6};
+use crate::fields::{COPIES, D, HI, KEY, LEAF, LO, NODE, OWN_CELL, PLACE};
+use crate::queue::{Queue, EMPTY};
+
+/// Thread 1 at a place with these fields; the root and node 2 hold keys 5 and 6.
+fn queue_with_thread_at(place: u32, fields: &[(usize, u32)]) -> Queue {
+    Queue::with_thread_at(place, fields, [5, 6, EMPTY])
+}
+
+/// Serves a turn of thread 1, which is refused and leaves every byte.
+fn refused(queue: &Queue) -> Refusal {
+    assert_eq!(plain::check(&queue.bytes), Ok(()));
+    let mut after = queue.clone();
+    let Answer::Refused(refusal) = after.turn(1, 0) else {
+        panic!("not refused at place {}", queue.place(1));
+    };
+    assert!(after == *queue, "a refused turn changed bytes at place {}", queue.place(1));
+    refusal
+}
+
+#[test]
+fn a_thread_that_does_not_exist() {
+    for thread in [0, 3, 64, u32::MAX] {
+        let mut queue = queue_with_thread_at(I1, &[]);
+        let before = queue.clone();
+        assert_eq!(queue.turn(thread, 0), Answer::Refused(Refusal::Thread));
+        assert!(queue == before);
+    }
+}
+
+#[test]
+fn a_region_that_is_not_readable() {
+    let queue = queue_with_thread_at(17, &[]);
+    for thread in 0..=3 {
+        let mut after = queue.clone();
+        assert_eq!(after.turn(thread, 0), Answer::Refused(Refusal::Unreadable));
+        assert!(after == queue);
+    }
+}
+
+#[test]
+fn a_node_a_cell_or_a_level_that_does_not_exist() {
+    let at = |place, fields: &[(usize, u32)]| refused(&queue_with_thread_at(place, fields));
+    let refusals = [
+        at(I2, &[(D, 0)]),
+        at(I4, &[(D, 0)]),
+        at(I4, &[(D, 3)]),
+        at(I5, &[(NODE, 0)]),
+        at(I6, &[(NODE, 1), (OWN_CELL, 0)]),
+        at(I7, &[(NODE, 0)]),
+        at(I7, &[(NODE, 1)]),
+        at(I8, &[(NODE, 2), (OWN_CELL, 0)]),
+        at(I8, &[(NODE, 0)]),
+        at(I8, &[(NODE, 1)]),
+        at(E2, &[(COPIES[0], 0)]),
+        at(M1, &[(NODE, 0)]),
+        at(M2, &[(NODE, 0)]),
+        at(M6, &[(NODE, 0)]),
+        at(M3, &[(NODE, 0)]),
+        at(M3, &[(NODE, 4)]),
+        at(M4, &[(NODE, 0)]),
+        at(M4, &[(NODE, 7)]),
+        at(M5, &[(NODE, 0)]),
+        at(M5, &[(NODE, 4)]),
+    ];
+    assert_eq!(refusals, [Refusal::Unreadable; 20]);
+}
+
+#[test]
+fn a_search_that_leaves_the_path_to_its_leaf() {
+    let searching = |leaf, lo, hi, key| {
+        queue_with_thread_at(I3, &[(LEAF, leaf), (LO, lo), (HI, hi), (KEY, key)])
+    };
+    // Nothing left to search; no leaf; no level 0; a level below the leaf.
+    for (leaf, lo, hi) in [(4, 2, 2), (4, 3, 1), (4, 0, 0), (0, 1, 3), (4, 0, 1), (1, 2, 3)] {
+        assert_eq!(refused(&searching(leaf, lo, hi, 6)), Refusal::Unreadable);
+    }
+    // Node 2 is read either way. One way ends there, the other at level 3, below the leaf.
+    assert_eq!(searching(2, 2, 3, 6).moved([PLACE]), [I5]);
+    assert_eq!(refused(&searching(2, 2, 3, 7)), Refusal::Unreadable);
+    // With level 3 to be searched on, the way down is not yet refused.
+    assert_eq!(searching(2, 0, 3, 7).moved([PLACE]), [I3]);
+}
+
+#[test]
+fn what_a_place_does_not_use_may_be_missing() {
+    for place in [IDLE, I1, E1] {
+        let mut queue = queue_with_thread_at(place, &[]);
+        assert!(!matches!(queue.turn(1, 0), Answer::Refused(_)));
+    }
+    // I6 goes to the root whatever node the record names.
+    assert_eq!(queue_with_thread_at(I6, &[]).moved([PLACE]), [I1]);
+    // M2 without a copy is a return; M1 of a node in the lowest level is a READ like any other.
+    assert_eq!(queue_with_thread_at(M2, &[(NODE, 4)]).moved([PLACE]), [E1]);
+    assert_eq!(queue_with_thread_at(M1, &[(NODE, 7)]).moved([PLACE]), [M2]);
+}
+
+/// Each update with its copies equal to their nodes, and the nodes that it changes.
+fn updates() -> [(Queue, &'static [u32]); 5] {
+    let at = |place, node, changed: &'static [u32]| {
+        let mut queue = queue_with_thread_at(place, &[(NODE, node), (KEY, 5)]);
+        queue.match_copies(1);
+        (queue, changed)
+    };
+    [at(I6, 1, &[1]), at(I8, 2, &[2]), at(E2, 1, &[1]), at(M5, 1, &[1, 2]), at(M6, 2, &[2])]
+}
+
+/// The queue with that counter at a node and another in the copy that is compared with it.
+fn with_counter(queue: &Queue, node: u32, counter: u32, copied: u32) -> Queue {
+    let mut queue = queue.clone();
+    let (copy, _) = *queue.compared(1).iter().find(|compared| compared.1 == node).unwrap();
+    queue.set_word(queue.node_at(node) + 2, counter);
+    queue.set_word(copy + 2, copied);
+    queue
+}
+
+/// The counters of all nodes.
+fn counters(queue: &Queue) -> Vec<u32> {
+    (1..8).map(|node| queue.node(node)[2]).collect()
+}
+
+#[test]
+fn a_spent_counter_in_a_node_that_would_change() {
+    for (queue, changed) in updates() {
+        for &node in changed {
+            let spent = with_counter(&queue, node, u32::MAX, u32::MAX);
+            assert_eq!(refused(&spent), Refusal::CounterSpent);
+            // The last step of a counter is not refused.
+            let mut last = with_counter(&queue, node, u32::MAX - 1, u32::MAX - 1);
+            assert!(last.turn(1, 0).is_access());
+            assert_eq!(last.node(node)[2], u32::MAX);
+        }
+    }
+}
+
+#[test]
+fn a_spent_counter_where_the_comparison_fails() {
+    for (queue, _) in updates() {
+        for (_, node) in queue.compared(1).into_iter().filter(|compared| compared.1 != 3) {
+            let mut failing = with_counter(&queue, node, u32::MAX, u32::MAX - 1);
+            let before = counters(&failing);
+            assert_eq!(failing.turn(1, 0), Answer::Moved);
+            assert_eq!(counters(&failing), before);
+        }
+    }
+}
+
+#[test]
+fn a_spent_counter_in_a_node_that_would_stay() {
+    let [_, (push, _), _, (swap, _), _] = updates();
+    let mut push = with_counter(&push, 1, u32::MAX, u32::MAX);
+    assert_eq!(push.turn(1, 0), Answer::Inserted);
+    assert_eq!(push.node(1)[2], u32::MAX);
+    // The child that is not chosen is not even compared.
+    let mut swap = with_counter(&swap, 3, u32::MAX, 0);
+    assert_eq!(swap.turn(1, 0), Answer::Moved);
+    assert_eq!(swap.field(1, NODE), 2);
+}
