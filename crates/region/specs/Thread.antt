@@ -72,21 +72,25 @@ zeroSearch = record { leaf = 0; tries = 0; lo = 0; hi = 0 }
 abbrev pub zeroCopies : Copies
 zeroCopies = record { first = zeroCopy; second = zeroCopy; third = zeroCopy }
 
--- idle, with this permission and every other word 0
-abbrev pub idleThread : ℕ → Thread
-idleThread p =
+-- a record from its fields
+abbrev pub threadWith : ℕ → Place → Item → ℕ → ℕ → Search → ℕ → ℕ → Item → Copies → Thread
+threadWith p x i o d s n a r c =
     record {
       permission = p;
-      place = Idle;
-      item = zeroItem;
-      own = 0;
-      depth = 0;
-      search = zeroSearch;
-      node = 0;
-      after = 0;
-      result = zeroItem;
-      copies = zeroCopies;
+      place = x;
+      item = i;
+      own = o;
+      depth = d;
+      search = s;
+      node = n;
+      after = a;
+      result = r;
+      copies = c
     }
+
+-- idle, with this permission and every other word 0
+abbrev pub idleThread : ℕ → Thread
+idleThread p = threadWith p Idle zeroItem 0 0 zeroSearch 0 0 zeroItem zeroCopies
 
 -- "Going idle zeroes every field but the permission."
 unfoldable pub goneIdle : Thread → Thread
@@ -95,151 +99,52 @@ goneIdle t = idleThread (t .permission)
 -- "any other field keeps what was last put in it": the record with one field put anew
 unfoldable pub atPlace : Thread → Place → Thread
 atPlace t x =
-    record {
-      permission = t .permission;
-      place = x;
-      item = t .item;
-      own = t .own;
-      depth = t .depth;
-      search = t .search;
-      node = t .node;
-      after = t .after;
-      result = t .result;
-      copies = t .copies;
-    }
+    threadWith (t .permission) x (t .item) (t .own) (t .depth) (t .search) (t .node) (t .after) (t .result) (t .copies)
 
 unfoldable pub withItem : Thread → Item → Thread
 withItem t x =
-    record {
-      permission = t .permission;
-      place = t .place;
-      item = x;
-      own = t .own;
-      depth = t .depth;
-      search = t .search;
-      node = t .node;
-      after = t .after;
-      result = t .result;
-      copies = t .copies;
-    }
+    threadWith (t .permission) (t .place) x (t .own) (t .depth) (t .search) (t .node) (t .after) (t .result) (t .copies)
 
 unfoldable pub withOwn : Thread → ℕ → Thread
 withOwn t x =
-    record {
-      permission = t .permission;
-      place = t .place;
-      item = t .item;
-      own = x;
-      depth = t .depth;
-      search = t .search;
-      node = t .node;
-      after = t .after;
-      result = t .result;
-      copies = t .copies;
-    }
+    threadWith (t .permission) (t .place) (t .item) x (t .depth) (t .search) (t .node) (t .after) (t .result) (t .copies)
 
 unfoldable pub withDepth : Thread → ℕ → Thread
 withDepth t x =
-    record {
-      permission = t .permission;
-      place = t .place;
-      item = t .item;
-      own = t .own;
-      depth = x;
-      search = t .search;
-      node = t .node;
-      after = t .after;
-      result = t .result;
-      copies = t .copies;
-    }
+    threadWith (t .permission) (t .place) (t .item) (t .own) x (t .search) (t .node) (t .after) (t .result) (t .copies)
 
 unfoldable pub withSearch : Thread → Search → Thread
 withSearch t x =
-    record {
-      permission = t .permission;
-      place = t .place;
-      item = t .item;
-      own = t .own;
-      depth = t .depth;
-      search = x;
-      node = t .node;
-      after = t .after;
-      result = t .result;
-      copies = t .copies;
-    }
+    threadWith (t .permission) (t .place) (t .item) (t .own) (t .depth) x (t .node) (t .after) (t .result) (t .copies)
 
 unfoldable pub withNode : Thread → ℕ → Thread
 withNode t x =
-    record {
-      permission = t .permission;
-      place = t .place;
-      item = t .item;
-      own = t .own;
-      depth = t .depth;
-      search = t .search;
-      node = x;
-      after = t .after;
-      result = t .result;
-      copies = t .copies;
-    }
+    threadWith (t .permission) (t .place) (t .item) (t .own) (t .depth) (t .search) x (t .after) (t .result) (t .copies)
 
 unfoldable pub withAfter : Thread → ℕ → Thread
 withAfter t x =
-    record {
-      permission = t .permission;
-      place = t .place;
-      item = t .item;
-      own = t .own;
-      depth = t .depth;
-      search = t .search;
-      node = t .node;
-      after = x;
-      result = t .result;
-      copies = t .copies;
-    }
+    threadWith (t .permission) (t .place) (t .item) (t .own) (t .depth) (t .search) (t .node) x (t .result) (t .copies)
 
 unfoldable pub withResult : Thread → Item → Thread
 withResult t x =
-    record {
-      permission = t .permission;
-      place = t .place;
-      item = t .item;
-      own = t .own;
-      depth = t .depth;
-      search = t .search;
-      node = t .node;
-      after = t .after;
-      result = x;
-      copies = t .copies;
-    }
+    threadWith (t .permission) (t .place) (t .item) (t .own) (t .depth) (t .search) (t .node) (t .after) x (t .copies)
 
-unfoldable pub withCopies : Thread → NodeCopy → NodeCopy → NodeCopy → Thread
-withCopies t x y z =
-    record {
-      permission = t .permission;
-      place = t .place;
-      item = t .item;
-      own = t .own;
-      depth = t .depth;
-      search = t .search;
-      node = t .node;
-      after = t .after;
-      result = t .result;
-      copies = record { first = x; second = y; third = z };
-    }
+unfoldable pub withCopies : Thread → Copies → Thread
+withCopies t x =
+    threadWith (t .permission) (t .place) (t .item) (t .own) (t .depth) (t .search) (t .node) (t .after) (t .result) x
 
 -- the first, the second or the third node copy put anew
 unfoldable pub withFirst : Thread → NodeCopy → Thread
 unfolding withCopies
-withFirst t x = withCopies t x (t .copies .second) (t .copies .third)
+withFirst t x = withCopies t (record { first = x; second = t .copies .second; third = t .copies .third })
 
 unfoldable pub withSecond : Thread → NodeCopy → Thread
 unfolding withCopies
-withSecond t x = withCopies t (t .copies .first) x (t .copies .third)
+withSecond t x = withCopies t (record { first = t .copies .first; second = x; third = t .copies .third })
 
 unfoldable pub withThird : Thread → NodeCopy → Thread
 unfolding withCopies
-withThird t x = withCopies t (t .copies .first) (t .copies .second) x
+withThird t x = withCopies t (record { first = t .copies .first; second = t .copies .second; third = x })
 
 -- "Beginning sets the place (I1 or E1) and, for a put, key, tag and own cell."
 unfoldable pub begunPut : Thread → Item → ℕ → Thread

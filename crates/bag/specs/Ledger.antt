@@ -1,0 +1,55 @@
+-- The ledger: a plain bag of items and each thread's operation, and which ledger follows which at a moment. Its clauses are document 01's
+-- "The bag" and nothing else.
+use Prim.Native.Nat.{ℕ, _+_, _-_, _≤_}
+use mathlib.Core.Path.{_≡_}
+use Rattle.region.specs.Pick.{pick, upd}
+use Rattle.region.specs.declared.record.Item.{Item}
+use Rattle.bag.specs.History.{Told, nothing, begunPut, begunTake, decidedPut, decidedTake, decidedEmpty, tookItem}
+use Rattle.bag.specs.Tree.{sameItem}
+
+-- a thread's operation begun last, as far as it goes
+pub data Operation : Type 0 where
+  none : Operation
+  putting : Item → Operation
+  taking : Operation
+  -- a take that has its item and is not answered yet
+  holding : Item → Operation
+
+pub record Ledger : Type 0 where
+  -- "The bag counts copies of each item"
+  pub bag : Item → ℕ
+  pub operation : ℕ → Operation
+
+-- "and starts with none"
+abbrev pub emptyLedger : Ledger
+emptyLedger = record { bag = λ i. 0; operation = λ t. none }
+
+-- one copy more, or less, of i
+unfoldable pub oneMore : (Item → ℕ) → Item → Item → ℕ
+oneMore bag i j = pick (sameItem i j) (bag j + 1) (bag j)
+
+unfoldable pub oneLess : (Item → ℕ) → Item → Item → ℕ
+oneLess bag i j = pick (sameItem i j) (bag j - 1) (bag j)
+
+-- what is claimed of a moment, and the ledger after it
+pub data Follows : Told → Ledger → Ledger → Type 0 where
+  -- "Any other turn, a refused turn or call, a beginning, a check: no change."
+  still : {l : Ledger} → Follows nothing l l
+  -- a beginning; the thread has no operation under way
+  put-begins : {l : Ledger} {t : ℕ} {i : Item} → l .operation t ≡ none
+      → Follows (begunPut t i) l (record { bag = l .bag; operation = upd (l .operation) t (putting i) })
+  take-begins : {l : Ledger} {t : ℕ} → l .operation t ≡ none
+      → Follows (begunTake t) l (record { bag = l .bag; operation = upd (l .operation) t taking })
+  -- "Successful I6 or I8: one copy more of the item given to the put's call."
+  put-decides : {l : Ledger} {t : ℕ} {i : Item} → l .operation t ≡ putting i
+      → Follows (decidedPut t) l (record { bag = oneMore (l .bag) i; operation = upd (l .operation) t none })
+  -- "Successful E2: .. The bag holds it and holds no lesser key; one copy leaves."
+  take-decides : {l : Ledger} {t : ℕ} {i : Item} → l .operation t ≡ taking → 1 ≤ l .bag i
+      → ((j : Item) → 1 ≤ l .bag j → i .key ≤ j .key)
+      → Follows (decidedTake t i) l (record { bag = oneLess (l .bag) i; operation = upd (l .operation) t (holding i) })
+  -- "E1 that answers empty: the bag holds nothing."
+  empty-decides : {l : Ledger} {t : ℕ} → l .operation t ≡ taking → ((j : Item) → l .bag j ≡ 0)
+      → Follows (decidedEmpty t) l (record { bag = l .bag; operation = upd (l .operation) t none })
+  -- "The take's answer, if it comes, is took with this item."
+  take-answers : {l : Ledger} {t : ℕ} {i : Item} → l .operation t ≡ holding i
+      → Follows (tookItem t i) l (record { bag = l .bag; operation = upd (l .operation) t none })
