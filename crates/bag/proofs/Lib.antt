@@ -1,0 +1,2 @@
+-- What is computed of the definitions.
+pub mod CaseJ
