@@ -49,7 +49,7 @@ serve f t r =
       region = turnBytes f (r .region) (t .thread) (t .choice);
       answers = setWords (r .answers) (3 * r .turns) (answerWords (turnAnswer f (r .region) (t .thread) (t .choice)));
       turns = r .turns + 1;
-      accesses = r .accesses + accessesOf (turnAnswer f (r .region) (t .thread) (t .choice))
+      accesses = r .accesses + accessesOf (turnAnswer f (r .region) (t .thread) (t .choice));
     }
 
 unfoldable pub serveAll : Frame → ℕ → List Turn → Served → Served

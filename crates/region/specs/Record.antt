@@ -52,7 +52,7 @@ zeroCell = record { item = zeroItem; next = 0 }
 abbrev pub zeroCopy : NodeCopy
 zeroCopy = record { node = emptyNode; head = zeroCell }
 
--- the node and the cell at word `at` of the bytes b, and b with another one there
+-- the node, the cell and the node copy at word `at` of the bytes b, and b with another one there
 unfoldable pub nodeAt : List ℕ → ℕ → Node
 nodeAt b at = nodeOf (wordsAt b at 3) 0
 
@@ -64,3 +64,9 @@ cellAt b at = cellOf (wordsAt b at 3) 0
 
 unfoldable pub setCellAt : List ℕ → ℕ → Cell → List ℕ
 setCellAt b at c = setWords b at (cellWords c)
+
+unfoldable pub copyAt : List ℕ → ℕ → NodeCopy
+copyAt b at = copyOf (wordsAt b at 6) 0
+
+unfoldable pub setCopyAt : List ℕ → ℕ → NodeCopy → List ℕ
+setCopyAt b at q = setWords b at (copyWords q)

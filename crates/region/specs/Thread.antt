@@ -85,7 +85,7 @@ threadWith p x i o d s n a r c =
       node = n;
       after = a;
       result = r;
-      copies = c
+      copies = c;
     }
 
 -- idle, with this permission and every other word 0

@@ -2,7 +2,7 @@
 ghost use mathlib.Core.Path.{_≡_};
 ghost use Prim.Native.Nat.{_+_, _*_, _≤_};
 ghost use lib.ListN.{length};
-ghost use Rattle.region.specs.Record.{emptyNode, zeroCell, copyOfWords, nodeAt, setNodeAt, cellAt, setCellAt};
+ghost use Rattle.region.specs.Record.{emptyNode, zeroCell, copyOfWords, nodeAt, setNodeAt, cellAt, setCellAt, copyAt, setCopyAt};
 
 // A key with a tag.
 pub struct Item {
@@ -116,5 +116,30 @@ pub fn store_cell_at(b: &mut [u8], at: usize, c: Cell)
     ensures { λ r. ⌜ now (b .exit) ≡ setCellAt (now (b .entry)) at c ⌝ }
 {
     let a = [c.item.key, c.item.tag, c.next];
+    words::store_words(b, at, &a);
+}
+
+// The node copy at word `at`.
+pub fn load_copy_at(b: &[u8], at: usize) -> NodeCopy
+    requires { ⌜ 4 * (at + 6) ≤ length (now b) ⌝ }
+    ensures { λ r. ⌜ r ≡ copyAt (now (b .entry)) at ⌝ }
+{
+    let mut a = [0u32; 6];
+    words::load_words(b, at, &mut a);
+    NodeCopy::of(a[0], a[1], a[2], a[3], a[4], a[5])
+}
+
+pub fn store_copy_at(b: &mut [u8], at: usize, q: NodeCopy)
+    requires { ⌜ 4 * (at + 6) ≤ length (now b) ⌝ }
+    ensures { λ r. ⌜ now (b .exit) ≡ setCopyAt (now (b .entry)) at q ⌝ }
+{
+    let a = [
+        q.node.first,
+        q.node.dirty,
+        q.node.counter,
+        q.head.item.key,
+        q.head.item.tag,
+        q.head.next,
+    ];
     words::store_words(b, at, &a);
 }

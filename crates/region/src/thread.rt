@@ -10,6 +10,8 @@ use crate::place::Place;
 use crate::place::place_of;
 use crate::record::Item;
 use crate::record::NodeCopy;
+use crate::record::load_copy_at;
+use crate::record::store_copy_at;
 
 // What a put's search for its node keeps: the leaf, the tries so far, and the levels between which it looks.
 pub struct Search {
@@ -44,12 +46,13 @@ pub struct Thread {
     pub copies: Copies,
 }
 
-// The thread's record at word `at`.
+// The thread's record at word `at`: a run of fifteen words, then three node copies. (One run of 33 words would stay in memory;
+// shorter ones are kept in registers, and what a turn does not look at is not loaded.)
 pub fn load_thread_at(b: &[u8], at: usize) -> Thread
     requires { ⌜ 4 * (at + 33) ≤ length (now b) ⌝ }
     ensures { λ r. ⌜ r ≡ threadAt (now (b .entry)) at ⌝ }
 {
-    let mut a = [0u32; 33];
+    let mut a = [0u32; 15];
     words::load_words(b, at, &mut a);
     Thread {
         permission: a[0],
@@ -73,9 +76,9 @@ pub fn load_thread_at(b: &[u8], at: usize) -> Thread
             tag: a[14],
         },
         copies: Copies {
-            first: NodeCopy::of(a[15], a[16], a[17], a[18], a[19], a[20]),
-            second: NodeCopy::of(a[21], a[22], a[23], a[24], a[25], a[26]),
-            third: NodeCopy::of(a[27], a[28], a[29], a[30], a[31], a[32]),
+            first: load_copy_at(b, at + 15),
+            second: load_copy_at(b, at + 21),
+            third: load_copy_at(b, at + 27),
         },
     }
 }
@@ -85,6 +88,7 @@ pub fn store_thread_at(b: &mut [u8], at: usize, t: Thread)
     ensures { λ r. ⌜ now (b .exit) ≡ setThreadAt (now (b .entry)) at t ⌝ }
 {
     let place = t.place;
+    let copies = t.copies;
     let a = [
         t.permission,
         place.number(),
@@ -101,26 +105,11 @@ pub fn store_thread_at(b: &mut [u8], at: usize, t: Thread)
         t.after,
         t.result.key,
         t.result.tag,
-        t.copies.first.node.first,
-        t.copies.first.node.dirty,
-        t.copies.first.node.counter,
-        t.copies.first.head.item.key,
-        t.copies.first.head.item.tag,
-        t.copies.first.head.next,
-        t.copies.second.node.first,
-        t.copies.second.node.dirty,
-        t.copies.second.node.counter,
-        t.copies.second.head.item.key,
-        t.copies.second.head.item.tag,
-        t.copies.second.head.next,
-        t.copies.third.node.first,
-        t.copies.third.node.dirty,
-        t.copies.third.node.counter,
-        t.copies.third.head.item.key,
-        t.copies.third.head.item.tag,
-        t.copies.third.head.next,
     ];
     words::store_words(b, at, &a);
+    store_copy_at(b, at + 15, copies.first);
+    store_copy_at(b, at + 21, copies.second);
+    store_copy_at(b, at + 27, copies.third);
 }
 
 impl Thread {

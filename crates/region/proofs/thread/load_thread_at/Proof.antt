@@ -1,4 +1,4 @@
--- `region::thread::load_thread_at` meets its contract: the 33 words of the run, by their places. Assumes nothing.
+-- `region::thread::load_thread_at` meets its contract: the words of the first run, by their places, and the copies behind it. Assumes nothing.
 use borrow.Author.Needs.{needs}
 use Rattle.region.proofs.thread.load_thread_at.Statement.{statement}
 use Rattle.region.proofs.thread.load_thread_at.Tie as tie
@@ -58,71 +58,26 @@ array-read-t51 c = search needs
 array-read-t54 : tie.Need-array-read-t54
 array-read-t54 c = search needs
 
-array-read-of : tie.Need-array-read-of
-array-read-of c = search needs
+add-load-copy-at : tie.Need-add-load-copy-at
+add-load-copy-at c = search needs
 
-array-read-of-2 : tie.Need-array-read-of-2
-array-read-of-2 c = search needs
+load-copy-at-requires : tie.Need-load-copy-at-requires
+load-copy-at-requires c κs = search needs
 
-array-read-of-3 : tie.Need-array-read-of-3
-array-read-of-3 c = search needs
+add-load-copy-at-2 : tie.Need-add-load-copy-at-2
+add-load-copy-at-2 c = search needs
 
-array-read-of-4 : tie.Need-array-read-of-4
-array-read-of-4 c = search needs
+load-copy-at-requires-2 : tie.Need-load-copy-at-requires-2
+load-copy-at-requires-2 c κs = search needs
 
-array-read-of-5 : tie.Need-array-read-of-5
-array-read-of-5 c = search needs
+add-load-copy-at-3 : tie.Need-add-load-copy-at-3
+add-load-copy-at-3 c = search needs
 
-array-read-of-6 : tie.Need-array-read-of-6
-array-read-of-6 c = search needs
-
-of-requires : tie.Need-of-requires
-of-requires c κs = search needs
-
-array-read-of-7 : tie.Need-array-read-of-7
-array-read-of-7 c = search needs
-
-array-read-of-8 : tie.Need-array-read-of-8
-array-read-of-8 c = search needs
-
-array-read-of-9 : tie.Need-array-read-of-9
-array-read-of-9 c = search needs
-
-array-read-of-10 : tie.Need-array-read-of-10
-array-read-of-10 c = search needs
-
-array-read-of-11 : tie.Need-array-read-of-11
-array-read-of-11 c = search needs
-
-array-read-of-12 : tie.Need-array-read-of-12
-array-read-of-12 c = search needs
-
-of-requires-2 : tie.Need-of-requires-2
-of-requires-2 c κs = search needs
-
-array-read-of-13 : tie.Need-array-read-of-13
-array-read-of-13 c = search needs
-
-array-read-of-14 : tie.Need-array-read-of-14
-array-read-of-14 c = search needs
-
-array-read-of-15 : tie.Need-array-read-of-15
-array-read-of-15 c = search needs
-
-array-read-of-16 : tie.Need-array-read-of-16
-array-read-of-16 c = search needs
-
-array-read-of-17 : tie.Need-array-read-of-17
-array-read-of-17 c = search needs
-
-array-read-of-18 : tie.Need-array-read-of-18
-array-read-of-18 c = search needs
-
-of-requires-3 : tie.Need-of-requires-3
-of-requires-3 c κs = search needs
+load-copy-at-requires-3 : tie.Need-load-copy-at-requires-3
+load-copy-at-requires-3 c κs = search needs
 
 returns : tie.Need-returns
-returns c = let l = c .before .before .before .before .before in thread-loaded (l .before .before .before .args .b .now) (l .load-words .last .1 .1 .0) (l .before .before .before .args .at) (c .before .before .before .place-of .result) (c .before .before .of .result) (c .before .of2 .result) (c .of3 .result) (l .load-words .ensures) (c .before .before .before .place-of .ensures) (c .before .before .of .ensures) (c .before .of2 .ensures) (c .of3 .ensures)
+returns c = let l = c .before .before .before .before .before in thread-loaded (l .before .before .before .args .b .now) (l .load-words .last .1 .1 .0) (l .before .before .before .args .at) (c .before .before .before .place-of .result) (c .before .before .load-copy-at .result) (c .before .load-copy-at2 .result) (c .load-copy-at3 .result) (l .load-words .ensures) (c .before .before .before .place-of .ensures) (c .before .before .load-copy-at .ensures) (c .before .load-copy-at2 .ensures) (c .load-copy-at3 .ensures)
 
 pub load-thread-at-spec : {M : Type 1} → statement M
 load-thread-at-spec =
@@ -146,25 +101,10 @@ load-thread-at-spec =
     array-read-t48
     array-read-t51
     array-read-t54
-    array-read-of
-    array-read-of-2
-    array-read-of-3
-    array-read-of-4
-    array-read-of-5
-    array-read-of-6
-    of-requires
-    array-read-of-7
-    array-read-of-8
-    array-read-of-9
-    array-read-of-10
-    array-read-of-11
-    array-read-of-12
-    of-requires-2
-    array-read-of-13
-    array-read-of-14
-    array-read-of-15
-    array-read-of-16
-    array-read-of-17
-    array-read-of-18
-    of-requires-3
+    add-load-copy-at
+    load-copy-at-requires
+    add-load-copy-at-2
+    load-copy-at-requires-2
+    add-load-copy-at-3
+    load-copy-at-requires-3
     returns)

@@ -1,4 +1,4 @@
--- `region::thread::store_thread_at` meets its contract: the record's 33 words are stored as a run. Assumes nothing.
+-- `region::thread::store_thread_at` meets its contract: the first run is stored, and the copies behind it. Assumes nothing.
 use borrow.Author.Needs.{needs}
 use Rattle.region.proofs.thread.store_thread_at.Statement.{statement}
 use Rattle.region.proofs.thread.store_thread_at.Tie as tie
@@ -16,11 +16,29 @@ slice-aggregate-store-words c = search needs
 store-words-requires : tie.Need-store-words-requires
 store-words-requires c κs = search needs
 
+add-store-copy-at : tie.Need-add-store-copy-at
+add-store-copy-at c = search needs
+
+store-copy-at-requires : tie.Need-store-copy-at-requires
+store-copy-at-requires c κs = search needs
+
+add-store-copy-at-2 : tie.Need-add-store-copy-at-2
+add-store-copy-at-2 c = search needs
+
+store-copy-at-requires-2 : tie.Need-store-copy-at-requires-2
+store-copy-at-requires-2 c κs = search needs
+
+add-store-copy-at-3 : tie.Need-add-store-copy-at-3
+add-store-copy-at-3 c = search needs
+
+store-copy-at-requires-3 : tie.Need-store-copy-at-requires-3
+store-copy-at-requires-3 c κs = search needs
+
 same-length : tie.Need-same-length
 same-length c = search needs
 
 returns : tie.Need-returns
-returns c = let s = c .before .before in let a = s .before .before .before .before .before .before .args in thread-stored (a .b .now) (s .store-words .last .0) (a .at) (a .t) (s .before .before .before .before .number .result) (s .before .before .before .waiting .result) (s .before .before .before .before .number .ensures) (s .before .before .before .waiting .ensures) (s .store-words .ensures)
+returns c = let a = c .before .before .before .before .before .before .before .before .before .before .before .before .before .before .before .before .before .before .before .before .before .args in thread-stored (a .b .now) (c .before .before .before .before .before .before .before .before .before .before .before .before .before .before .store-words .last .0) (c .before .before .before .before .before .before .before .before .before .before .store-copy-at .last .0) (c .before .before .before .before .before .before .store-copy-at2 .last .0) (c .before .before .store-copy-at3 .last .0) (a .at) (a .t) (c .before .before .before .before .before .before .before .before .before .before .before .before .before .before .before .before .before .before .number .result) (c .before .before .before .before .before .before .before .before .before .before .before .before .before .before .before .before .before .waiting .result) (c .before .before .before .before .before .before .before .before .before .before .before .before .before .before .before .before .before .before .number .ensures) (c .before .before .before .before .before .before .before .before .before .before .before .before .before .before .before .before .before .waiting .ensures) (c .before .before .before .before .before .before .before .before .before .before .before .before .before .before .store-words .ensures) (c .before .before .before .before .before .before .before .before .before .before .store-copy-at .ensures) (c .before .before .before .before .before .before .store-copy-at2 .ensures) (c .before .before .store-copy-at3 .ensures)
 
 pub store-thread-at-spec : {M : Type 1} → statement M
 store-thread-at-spec =
@@ -30,5 +48,11 @@ store-thread-at-spec =
     waiting-requires
     slice-aggregate-store-words
     store-words-requires
+    add-store-copy-at
+    store-copy-at-requires
+    add-store-copy-at-2
+    store-copy-at-requires-2
+    add-store-copy-at-3
+    store-copy-at-requires-3
     same-length
     returns)

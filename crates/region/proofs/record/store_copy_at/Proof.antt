@@ -1,0 +1,22 @@
+-- `region::record::store_copy_at` meets its contract: the record's words are stored as a run. Assumes nothing.
+use borrow.Author.Needs.{needs}
+use Rattle.region.proofs.record.store_copy_at.Statement.{statement}
+use Rattle.region.proofs.record.store_copy_at.Tie as tie
+use Rattle.region.specs.Record.{setCopyAt}
+
+slice-aggregate-store-words : tie.Need-slice-aggregate-store-words
+slice-aggregate-store-words c = search needs
+
+store-words-requires : tie.Need-store-words-requires
+store-words-requires c κs = search needs
+
+same-length : tie.Need-same-length
+same-length c = search needs
+
+returns : tie.Need-returns
+unfolding setCopyAt
+returns c = c .before .before .store-words .ensures
+
+pub store-copy-at-spec : {M : Type 1} → statement M
+store-copy-at-spec =
+    tie.close (tie.spec slice-aggregate-store-words store-words-requires same-length returns)
