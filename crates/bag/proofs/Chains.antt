@@ -1,0 +1,68 @@
+-- Lists of cells. A chain's cells all have one owner, and each the number of cells behind it as its rank: so chains of different owners are
+-- apart, and none repeats a cell. A change of cells elsewhere leaves a chain alone, and walking it counts its items. Assumes nothing.
+use Prim.Native.Nat.{ℕ, zero, suc, _+_, _≤_, _<_}
+use native.Mathlib.Omega.{arith}
+use mathlib.Core.Path.{_≡_, refl, sym, ap, subst, _∙_}
+use mathlib.Core.Bool.{Bool, true, false}
+use mathlib.Core.List.{List, [], _∷_}
+use borrow.Author.Tests.{ne-eqb}
+use lib.Dec.{eqb}
+use lib.ListN.{length}
+use Rattle.region.specs.Pick.{pick}
+use Rattle.region.specs.Shared.{Shared}
+use Rattle.region.specs.declared.record.Cell.{Cell}
+use Rattle.region.specs.declared.record.Item.{Item}
+use Rattle.bag.specs.Tree.{inList, sameItem}
+
+-- from cell c by next cells to 0 these cells, owned by o
+pub data Chain (cell : ℕ → Cell) (own rank : ℕ → ℕ) (o : ℕ) : ℕ → List ℕ → Type 0 where
+  ends : Chain cell own rank o 0 []
+  link : (c : ℕ) {cs : List ℕ} → 1 ≤ c → own c ≡ o → rank c ≡ length cs → Chain cell own rank o (cell c .next) cs
+      → Chain cell own rank o c (c ∷ cs)
+
+-- what a change of cells, owners and ranks leaves of the cells of one owner with a rank below n, which may change hands together
+abbrev pub Left : (ℕ → Cell) → (ℕ → Cell) → (ℕ → ℕ) → (ℕ → ℕ) → (ℕ → ℕ) → (ℕ → ℕ) → ℕ → ℕ → ℕ → Type 0
+Left cell cell′ own own′ rank rank′ o o′ n =
+    (d : ℕ) → own d ≡ o → rank d < n → (cell′ d ≡ cell d) × (own′ d ≡ o′) × (rank′ d ≡ rank d)
+
+module _ (cell cell′ : ℕ → Cell) (own own′ rank rank′ : ℕ → ℕ) (o o′ : ℕ) where
+  pub chain-left : (c : ℕ) (cs : List ℕ) → Left cell cell′ own own′ rank rank′ o o′ (length cs) → Chain cell own rank o c cs
+      → Chain cell′ own′ rank′ o′ c cs
+  chain-left c cs h ends = ends
+  chain-left c cs h (link d {cs = ds} p eo er k) =
+      let same = h d eo (omega arith) in
+      link d p (same .1) (same .2 ∙ er)
+      (subst (λ x. Chain cell′ own′ rank′ o′ (x .next) ds) (sym (same .0))
+      (chain-left (cell d .next) ds (λ e q r. h e q (omega arith)) k))
+
+-- copies of an item among these cells
+unfoldable pub copies : (ℕ → Cell) → Item → List ℕ → ℕ
+copies cell i [] = 0
+copies cell i (c ∷ cs) = pick (sameItem i (cell c .item)) 1 0 + copies cell i cs
+
+-- walking a chain counts its items
+pub walk-counts : (m : Shared) (own rank : ℕ → ℕ) (o : ℕ) (i : Item) (n c : ℕ) (cs : List ℕ) → Chain (m .cell) own rank o c cs
+    → length cs ≤ n → inList m i n c ≡ copies (m .cell) i cs
+unfolding inList copies pick
+walk-counts m own rank o i n c cs ends h = at-end n
+  where
+    at-end : (k : ℕ) → inList m i k 0 ≡ 0
+    at-end zero = refl
+    at-end (suc k) = refl
+walk-counts m own rank o i zero c cs (link d p eo er k) h = absurd (omega arith)
+walk-counts m own rank o i (suc n) c cs (link d {cs = ds} p eo er k) h =
+    rw
+    (ne-eqb d 0 (λ z. omega arith))
+    (ap (λ x. pick (sameItem i (m .cell d .item)) 1 0 + x) (walk-counts m own rank o i n (m .cell d .next) ds k (omega arith)))
+
+-- a change elsewhere leaves the count
+pub copies-left : (cell cell′ : ℕ → Cell) (own own′ rank rank′ : ℕ → ℕ) (o o′ : ℕ) (i : Item) (c : ℕ) (cs : List ℕ)
+    → Left cell cell′ own own′ rank rank′ o o′ (length cs) → Chain cell own rank o c cs → copies cell′ i cs ≡ copies cell i cs
+unfolding copies
+copies-left cell cell′ own own′ rank rank′ o o′ i c cs h ends = refl
+copies-left cell cell′ own own′ rank rank′ o o′ i c cs h (link d {cs = ds} p eo er k) =
+    let same = h d eo (omega arith) in
+    cc (
+      same .0,
+      copies-left cell cell′ own own′ rank rank′ o o′ i (cell d .next) ds (λ e q r. h e q (omega arith)) k,
+    )
