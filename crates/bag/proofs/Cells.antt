@@ -1,0 +1,131 @@
+-- All chains together. Owner 0 has the free chain, owner 2n the list of node n, owner 2t + 1 what thread t holds. Two changes cover every
+-- effect and beginning: the head of one chain moves to the front of another (a put begins, a push, a pop), and two chains change hands
+-- (an exchange). Assumes nothing.
+use Prim.Native.Nat.{ℕ, zero, suc, _+_, _≤_, _<_}
+use native.Mathlib.Decide.{ℕ-discrete}
+use native.Mathlib.Omega.{arith}
+use mathlib.Core.Path.{_≡_, refl, sym, ap, subst, subst₂, _∙_}
+use mathlib.Core.List.{List, [], _∷_}
+use borrow.Author.Tests.{eq-eqb, ne-eqb}
+use lib.ListN.{length}
+use Rattle.region.specs.Pick.{pick, upd}
+use Rattle.region.specs.declared.record.Cell.{Cell}
+use Rattle.bag.proofs.Chains.{Chain, ends, link, chain-left}
+
+pub upd-same : {A : Type 0} (f : ℕ → A) (n : ℕ) (a : A) → upd f n a n ≡ a
+unfolding upd pick
+upd-same f n a = rw (eq-eqb n n refl) refl
+
+pub upd-other : {A : Type 0} (f : ℕ → A) (n m : ℕ) (a : A) → (m ≡ n → ⊥) → upd f n a m ≡ f m
+unfolding upd pick
+upd-other f n m a h = rw (ne-eqb m n h) refl
+
+-- every owner's cells, from its head
+abbrev pub Chains : (ℕ → Cell) → (ℕ → ℕ) → (ℕ → ℕ) → (ℕ → ℕ) → (ℕ → List ℕ) → Type 0
+Chains cell own rank head list = (o : ℕ) → Chain cell own rank o (head o) (list o)
+
+-- a chain that is not empty starts with a link
+pub record Link (cell : ℕ → Cell) (own rank : ℕ → ℕ) (o c d : ℕ) (cs : List ℕ) : Type 0 where
+  pub is : c ≡ d
+  pub some : 1 ≤ d
+  pub owner : own d ≡ o
+  pub behind : rank d ≡ length cs
+  pub rest : Chain cell own rank o (cell d .next) cs
+
+pub first-link : {cell : ℕ → Cell} {own rank : ℕ → ℕ} {o c d : ℕ} {cs : List ℕ} → Chain cell own rank o c (d ∷ cs) → Link cell own rank o c d cs
+first-link (link e p eo er k) = record { is = refl; some = p; owner = eo; behind = er; rest = k }
+
+-- The head c of owner o's chain moves to the front of owner q's.
+module _ (cell cell′ : ℕ → Cell) (own rank head head′ : ℕ → ℕ) (list : ℕ → List ℕ) (chains : Chains cell own rank head list)
+    (o q c : ℕ) (cs : List ℕ) (apart : o ≡ q → ⊥) (here : list o ≡ c ∷ cs)
+    (others : (d : ℕ) → (d ≡ c → ⊥) → cell′ d ≡ cell d) (onto : cell′ c .next ≡ head q)
+    (left : head′ o ≡ cell c .next) (now : head′ q ≡ c) (still : (x : ℕ) → (x ≡ o → ⊥) → (x ≡ q → ⊥) → head′ x ≡ head x) where
+  the-link : Link cell own rank o (head o) c cs
+  the-link = first-link (subst (Chain cell own rank o (head o)) here (chains o))
+
+  unfoldable pub own′ : ℕ → ℕ
+  own′ = upd own c q
+
+  unfoldable pub rank′ : ℕ → ℕ
+  rank′ = upd rank c (length (list q))
+
+  unfoldable pub list′ : ℕ → List ℕ
+  list′ = upd (upd list o cs) q (c ∷ list q)
+
+  -- another owner's cells, and those behind c, are not c
+  not-owned : (x d : ℕ) → (x ≡ o → ⊥) → own d ≡ x → d ≡ c → ⊥
+  not-owned x d n e z = n (sym e ∙ ap own z ∙ the-link .owner)
+
+  kept : (x d : ℕ) → own d ≡ x → (d ≡ c → ⊥) → (cell′ d ≡ cell d) × (own′ d ≡ x) × (rank′ d ≡ rank d)
+  unfolding own′ rank′
+  kept x d e n = (others d n, upd-other own c d q n ∙ e, upd-other rank c d (length (list q)) n)
+
+  to-front : Chain cell′ own′ rank′ q c (c ∷ list q)
+  unfolding own′ rank′
+  to-front =
+      link c (the-link .some) (upd-same own c q) (upd-same rank c (length (list q)))
+      (subst (λ x. Chain cell′ own′ rank′ q x (list q)) (sym onto)
+      (chain-left cell cell′ own own′ rank rank′ q q (head q) (list q)
+      (λ d e r. kept q d e (not-owned q d (λ z. apart (sym z)) e)) (chains q)))
+
+  what-stays : Chain cell′ own′ rank′ o (cell c .next) cs
+  what-stays =
+      chain-left cell cell′ own own′ rank rank′ o o (cell c .next) cs
+      (λ d e r. kept o d e (λ z. let b = the-link .behind in let k = ap rank z in omega arith)) (the-link .rest)
+
+  pub moved : Chains cell′ own′ rank′ head′ list′
+  unfolding list′
+  moved x = go (ℕ-discrete x q) (ℕ-discrete x o)
+    where
+      go : Dec (x ≡ q) → Dec (x ≡ o) → Chain cell′ own′ rank′ x (head′ x) (upd (upd list o cs) q (c ∷ list q) x)
+      go (yes e) d =
+          subst (λ y. Chain cell′ own′ rank′ y (head′ y) (upd (upd list o cs) q (c ∷ list q) y)) (sym e)
+          (subst₂ (λ h l. Chain cell′ own′ rank′ q h l) (sym now) (sym (upd-same (upd list o cs) q (c ∷ list q))) to-front)
+      go (no n) (yes e) =
+          subst (λ y. Chain cell′ own′ rank′ y (head′ y) (upd (upd list o cs) q (c ∷ list q) y)) (sym e)
+          (subst₂ (λ h l. Chain cell′ own′ rank′ o h l) (sym left)
+          (sym (upd-other (upd list o cs) q o (c ∷ list q) apart ∙ upd-same list o cs)) what-stays)
+      go (no n) (no m) =
+          subst₂ (λ h l. Chain cell′ own′ rank′ x h l) (sym (still x m n))
+          (sym (upd-other (upd list o cs) q x (c ∷ list q) n ∙ upd-other list o x cs m))
+          (chain-left cell cell′ own own′ rank rank′ x x (head x) (list x) (λ d e r. kept x d e (not-owned x d m e)) (chains x))
+
+-- The chains of owners o and q change hands; the cells stay as they are.
+module _ (cell : ℕ → Cell) (own rank head head′ : ℕ → ℕ) (list : ℕ → List ℕ) (chains : Chains cell own rank head list) (o q : ℕ)
+    (apart : o ≡ q → ⊥) (to-o : head′ o ≡ head q) (to-q : head′ q ≡ head o)
+    (still : (x : ℕ) → (x ≡ o → ⊥) → (x ≡ q → ⊥) → head′ x ≡ head x) where
+  -- the other of the two owners, and any third one itself
+  unfoldable pub turned : ℕ → ℕ
+  turned x = upd (upd (λ y. y) o q) q o x
+
+  turned-o : turned o ≡ q
+  unfolding turned
+  turned-o = upd-other (upd (λ y. y) o q) q o o apart ∙ upd-same (λ y. y) o q
+
+  turned-q : turned q ≡ o
+  unfolding turned
+  turned-q = upd-same (upd (λ y. y) o q) q o
+
+  turned-other : (x : ℕ) → (x ≡ o → ⊥) → (x ≡ q → ⊥) → turned x ≡ x
+  unfolding turned
+  turned-other x m n = upd-other (upd (λ y. y) o q) q x o n ∙ upd-other (λ y. y) o x q m
+
+  -- a chain of owner x is one of the owner that x turns into
+  over : (x : ℕ) → Chain cell (λ d. turned (own d)) rank (turned x) (head x) (list x)
+  over x =
+      chain-left cell cell own (λ d. turned (own d)) rank rank x (turned x) (head x) (list x)
+      (λ d e r. (refl, ap turned e, refl)) (chains x)
+
+  pub exchanged : Chains cell (λ d. turned (own d)) rank head′ (λ x. list (turned x))
+  exchanged x = go (ℕ-discrete x o) (ℕ-discrete x q)
+    where
+      here : (y : ℕ) → turned y ≡ x → head′ x ≡ head y → turned x ≡ y
+          → Chain cell (λ d. turned (own d)) rank x (head′ x) (list (turned x))
+      here y ey eh ex =
+          subst₂ (λ h l. Chain cell (λ d. turned (own d)) rank x h l) (sym eh) (ap list (sym ex))
+          (subst (λ z. Chain cell (λ d. turned (own d)) rank z (head y) (list y)) ey (over y))
+
+      go : Dec (x ≡ o) → Dec (x ≡ q) → Chain cell (λ d. turned (own d)) rank x (head′ x) (list (turned x))
+      go (yes e) d = here q (turned-q ∙ sym e) (ap head′ e ∙ to-o) (ap turned e ∙ turned-o)
+      go (no m) (yes e) = here o (turned-o ∙ sym e) (ap head′ e ∙ to-q) (ap turned e ∙ turned-q)
+      go (no m) (no n) = here x (turned-other x m n) (still x m n) (turned-other x m n)
