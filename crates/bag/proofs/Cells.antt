@@ -10,7 +10,9 @@ use borrow.Author.Tests.{eq-eqb, ne-eqb}
 use lib.ListN.{length}
 use Rattle.region.specs.Pick.{pick, upd}
 use Rattle.region.specs.declared.record.Cell.{Cell}
-use Rattle.bag.proofs.Chains.{Chain, ends, link, chain-left}
+use Rattle.region.specs.declared.record.Item.{Item}
+use Rattle.bag.specs.Tree.{sameItem}
+use Rattle.bag.proofs.Chains.{Chain, link, chain-left, copies, copies-left}
 
 pub upd-same : {A : Type 0} (f : ℕ → A) (n : ℕ) (a : A) → upd f n a n ≡ a
 unfolding upd pick
@@ -89,6 +91,31 @@ module _ (cell cell′ : ℕ → Cell) (own rank head head′ : ℕ → ℕ) (li
           subst₂ (λ h l. Chain cell′ own′ rank′ x h l) (sym (still x m n))
           (sym (upd-other (upd list o cs) q x (c ∷ list q) n ∙ upd-other list o x cs m))
           (chain-left cell cell′ own own′ rank rank′ x x (head x) (list x) (λ d e r. kept x d e (not-owned x d m e)) (chains x))
+
+  -- what the move makes of the counts: one copy more for q, one less for o, no change elsewhere
+  pub copies-to : (i : Item) → copies cell′ i (list′ q) ≡ pick (sameItem i (cell′ c .item)) 1 0 + copies cell i (list q)
+  unfolding list′ copies
+  copies-to i =
+      ap (copies cell′ i) (upd-same (upd list o cs) q (c ∷ list q))
+      ∙ ap (λ k. pick (sameItem i (cell′ c .item)) 1 0 + k)
+      (copies-left cell cell′ own own′ rank rank′ q q i (head q) (list q)
+      (λ d e r. kept q d e (not-owned q d (λ z. apart (sym z)) e)) (chains q))
+
+  pub copies-from : (i : Item) → copies cell i (list o) ≡ pick (sameItem i (cell c .item)) 1 0 + copies cell′ i (list′ o)
+  unfolding list′ copies
+  copies-from i =
+      ap (copies cell i) here
+      ∙ ap (λ k. pick (sameItem i (cell c .item)) 1 0 + k)
+      (sym
+      (ap (copies cell′ i) (upd-other (upd list o cs) q o (c ∷ list q) apart ∙ upd-same list o cs)
+      ∙ copies-left cell cell′ own own′ rank rank′ o o i (cell c .next) cs
+      (λ d e r. kept o d e (λ z. let b = the-link .behind in let k = ap rank z in omega arith)) (the-link .rest)))
+
+  pub copies-elsewhere : (i : Item) (x : ℕ) → (x ≡ o → ⊥) → (x ≡ q → ⊥) → copies cell′ i (list′ x) ≡ copies cell i (list x)
+  unfolding list′
+  copies-elsewhere i x m n =
+      ap (copies cell′ i) (upd-other (upd list o cs) q x (c ∷ list q) n ∙ upd-other list o x cs m)
+      ∙ copies-left cell cell′ own own′ rank rank′ x x i (head x) (list x) (λ d e r. kept x d e (not-owned x d m e)) (chains x)
 
 -- The chains of owners o and q change hands; the cells stay as they are.
 module _ (cell : ℕ → Cell) (own rank head head′ : ℕ → ℕ) (list : ℕ → List ℕ) (chains : Chains cell own rank head list) (o q : ℕ)

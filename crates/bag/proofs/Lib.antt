@@ -1,6 +1,8 @@
--- What is computed of the definitions, and the theory so far: the tree's order kept by each effect, chains of cells, sums over nodes.
+-- What is computed of the definitions, and the theory so far: the tree's order kept by each effect, chains of cells and what the effects
+-- make of them, and the tree's count as a sum over them.
 pub mod CaseJ
 pub mod Cells
 pub mod Chains
+pub mod Counts
 pub mod Order
 pub mod Sums
