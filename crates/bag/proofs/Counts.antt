@@ -25,11 +25,12 @@ pub tree-counts : (m : Shared) (own rank head : ℕ → ℕ) (list : ℕ → Lis
 unfolding inNodes inChains sum
 tree-counts m own rank head list chains heads l few i zero = refl
 tree-counts m own rank head list chains heads l few i (suc n) =
-    cc
-    (tree-counts m own rank head list chains heads l few i n,
-    walk-counts m own rank (2 * suc n) i l (m .node (suc n) .first) (list (2 * suc n))
-    (subst (λ c. Chain (m .cell) own rank (2 * suc n) c (list (2 * suc n))) (heads (suc n)) (chains (2 * suc n)))
-    (few (suc n)))
+    cc (
+      tree-counts m own rank head list chains heads l few i n,
+      walk-counts m own rank (2 * suc n) i l (m .node (suc n) .first) (list (2 * suc n))
+          (subst (λ c. Chain (m .cell) own rank (2 * suc n) c (list (2 * suc n))) (heads (suc n)) (chains (2 * suc n)))
+          (few (suc n)),
+    )
 
 module _ (cell cell′ : ℕ → Cell) (list list′ : ℕ → List ℕ) (i : Item) (n : ℕ) (one : ℕ) where
   -- node k's chain has one copy more, every other node's as many as before
