@@ -64,7 +64,8 @@ impl<'a> Region<'a> {
     /// Begins a put of an item by a thread, counted from 1. The item is in the queue when a turn of
     /// the thread answers so; until then it only has its cell.
     ///
-    /// Cost: that of [`Region::check`], then eight words are written.
+    /// Cost: that of [`Region::check`], then the thread's record, one cell and the first free cell are
+    /// written.
     ///
     /// ```
     /// use mound::{Permission, Refusal, Region, Shape};
@@ -93,7 +94,7 @@ impl<'a> Region<'a> {
     /// Begins a take by a thread, counted from 1. A later turn of the thread answers the item, or
     /// that the queue was empty.
     ///
-    /// Cost: that of [`Region::check`], then one word is written.
+    /// Cost: that of [`Region::check`], then the thread's record is written.
     ///
     /// ```
     /// use mound::{Permission, Refusal, Region, Shape};
