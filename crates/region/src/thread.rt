@@ -46,8 +46,7 @@ pub struct Thread {
     pub copies: Copies,
 }
 
-// The thread's record at word `at`: a run of fifteen words, then three node copies. (One run of 33 words would stay in memory;
-// shorter ones are kept in registers, and what a turn does not look at is not loaded.)
+// The thread's record at word `at`: a run of fifteen words, then three node copies.
 pub fn load_thread_at(b: &[u8], at: usize) -> Thread
     requires { ⌜ 4 * (at + 33) ≤ length (now b) ⌝ }
     ensures { λ r. ⌜ r ≡ threadAt (now (b .entry)) at ⌝ }
