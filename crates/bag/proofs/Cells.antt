@@ -1,18 +1,16 @@
 -- All chains together. Owner 0 has the free chain, owner 2n the list of node n, owner 2t + 1 what thread t holds. Two changes cover every
 -- effect and beginning: the head of one chain moves to the front of another (a put begins, a push, a pop), and two chains change hands
 -- (an exchange). Assumes nothing.
-use Prim.Native.Nat.{ℕ, zero, suc, _+_, _≤_, _<_}
+use Prim.Native.Nat.{ℕ, suc, _≤_}
 use native.Mathlib.Decide.{ℕ-discrete}
 use native.Mathlib.Omega.{arith}
 use mathlib.Core.Path.{_≡_, refl, sym, ap, subst, subst₂, _∙_}
-use mathlib.Core.List.{List, [], _∷_}
+use mathlib.Core.List.{List, _∷_}
 use borrow.Author.Tests.{eq-eqb, ne-eqb}
 use lib.ListN.{length}
 use Rattle.region.specs.Pick.{pick, upd}
 use Rattle.region.specs.declared.record.Cell.{Cell}
-use Rattle.region.specs.declared.record.Item.{Item}
-use Rattle.bag.specs.Tree.{sameItem}
-use Rattle.bag.proofs.Chains.{Chain, link, chain-left, copies, copies-left}
+use Rattle.bag.proofs.Chains.{Chain, ends, link, chain-left, items, items-left}
 
 pub upd-same : {A : Type 0} (f : ℕ → A) (n : ℕ) (a : A) → upd f n a n ≡ a
 unfolding upd pick
@@ -92,30 +90,50 @@ module _ (cell cell′ : ℕ → Cell) (own rank head head′ : ℕ → ℕ) (li
           (sym (upd-other (upd list o cs) q x (c ∷ list q) n ∙ upd-other list o x cs m))
           (chain-left cell cell′ own own′ rank rank′ x x (head x) (list x) (λ d e r. kept x d e (not-owned x d m e)) (chains x))
 
-  -- what the move makes of the counts: one copy more for q, one less for o, no change elsewhere
-  pub copies-to : (i : Item) → copies cell′ i (list′ q) ≡ pick (sameItem i (cell′ c .item)) 1 0 + copies cell i (list q)
-  unfolding list′ copies
-  copies-to i =
-      ap (copies cell′ i) (upd-same (upd list o cs) q (c ∷ list q))
-      ∙ ap (λ k. pick (sameItem i (cell′ c .item)) 1 0 + k)
-      (copies-left cell cell′ own own′ rank rank′ q q i (head q) (list q)
+  list-to : list′ q ≡ c ∷ list q
+  unfolding list′
+  list-to = upd-same (upd list o cs) q (c ∷ list q)
+
+  list-from : list′ o ≡ cs
+  unfolding list′
+  list-from = upd-other (upd list o cs) q o (c ∷ list q) apart ∙ upd-same list o cs
+
+  list-elsewhere : (x : ℕ) → (x ≡ o → ⊥) → (x ≡ q → ⊥) → list′ x ≡ list x
+  unfolding list′
+  list-elsewhere x m n = upd-other (upd list o cs) q x (c ∷ list q) n ∙ upd-other list o x cs m
+
+  -- what the move makes of the items and the lengths: one more for q, one less for o, no change elsewhere
+  pub items-to : items cell′ (list′ q) ≡ cell′ c .item ∷ items cell (list q)
+  unfolding items
+  items-to =
+      ap (items cell′) list-to
+      ∙ ap (λ k. cell′ c .item ∷ k)
+      (items-left cell cell′ own own′ rank rank′ q q (head q) (list q)
       (λ d e r. kept q d e (not-owned q d (λ z. apart (sym z)) e)) (chains q))
 
-  pub copies-from : (i : Item) → copies cell i (list o) ≡ pick (sameItem i (cell c .item)) 1 0 + copies cell′ i (list′ o)
-  unfolding list′ copies
-  copies-from i =
-      ap (copies cell i) here
-      ∙ ap (λ k. pick (sameItem i (cell c .item)) 1 0 + k)
+  pub items-from : items cell (list o) ≡ cell c .item ∷ items cell′ (list′ o)
+  unfolding items
+  items-from =
+      ap (items cell) here
+      ∙ ap (λ k. cell c .item ∷ k)
       (sym
-      (ap (copies cell′ i) (upd-other (upd list o cs) q o (c ∷ list q) apart ∙ upd-same list o cs)
-      ∙ copies-left cell cell′ own own′ rank rank′ o o i (cell c .next) cs
+      (ap (items cell′) list-from
+      ∙ items-left cell cell′ own own′ rank rank′ o o (cell c .next) cs
       (λ d e r. kept o d e (λ z. let b = the-link .behind in let k = ap rank z in omega arith)) (the-link .rest)))
 
-  pub copies-elsewhere : (i : Item) (x : ℕ) → (x ≡ o → ⊥) → (x ≡ q → ⊥) → copies cell′ i (list′ x) ≡ copies cell i (list x)
-  unfolding list′
-  copies-elsewhere i x m n =
-      ap (copies cell′ i) (upd-other (upd list o cs) q x (c ∷ list q) n ∙ upd-other list o x cs m)
-      ∙ copies-left cell cell′ own own′ rank rank′ x x i (head x) (list x) (λ d e r. kept x d e (not-owned x d m e)) (chains x)
+  pub items-elsewhere : (x : ℕ) → (x ≡ o → ⊥) → (x ≡ q → ⊥) → items cell′ (list′ x) ≡ items cell (list x)
+  items-elsewhere x m n =
+      ap (items cell′) (list-elsewhere x m n)
+      ∙ items-left cell cell′ own own′ rank rank′ x x (head x) (list x) (λ d e r. kept x d e (not-owned x d m e)) (chains x)
+
+  pub length-to : length (list′ q) ≡ suc (length (list q))
+  length-to = ap length list-to
+
+  pub length-from : length (list o) ≡ suc (length (list′ o))
+  length-from = ap length here ∙ ap (λ l. suc (length l)) (sym list-from)
+
+  pub length-elsewhere : (x : ℕ) → (x ≡ o → ⊥) → (x ≡ q → ⊥) → length (list′ x) ≡ length (list x)
+  length-elsewhere x m n = ap length (list-elsewhere x m n)
 
 -- The chains of owners o and q change hands; the cells stay as they are.
 module _ (cell : ℕ → Cell) (own rank head head′ : ℕ → ℕ) (list : ℕ → List ℕ) (chains : Chains cell own rank head list) (o q : ℕ)
@@ -125,15 +143,15 @@ module _ (cell : ℕ → Cell) (own rank head head′ : ℕ → ℕ) (list : ℕ
   unfoldable pub turned : ℕ → ℕ
   turned x = upd (upd (λ y. y) o q) q o x
 
-  turned-o : turned o ≡ q
+  pub turned-o : turned o ≡ q
   unfolding turned
   turned-o = upd-other (upd (λ y. y) o q) q o o apart ∙ upd-same (λ y. y) o q
 
-  turned-q : turned q ≡ o
+  pub turned-q : turned q ≡ o
   unfolding turned
   turned-q = upd-same (upd (λ y. y) o q) q o
 
-  turned-other : (x : ℕ) → (x ≡ o → ⊥) → (x ≡ q → ⊥) → turned x ≡ x
+  pub turned-other : (x : ℕ) → (x ≡ o → ⊥) → (x ≡ q → ⊥) → turned x ≡ x
   unfolding turned
   turned-other x m n = upd-other (upd (λ y. y) o q) q x o n ∙ upd-other (λ y. y) o x q m
 
@@ -156,3 +174,69 @@ module _ (cell : ℕ → Cell) (own rank head head′ : ℕ → ℕ) (list : ℕ
       go (yes e) d = here q (turned-q ∙ sym e) (ap head′ e ∙ to-o) (ap turned e ∙ turned-o)
       go (no m) (yes e) = here o (turned-o ∙ sym e) (ap head′ e ∙ to-q) (ap turned e ∙ turned-q)
       go (no m) (no n) = here x (turned-other x m n) (still x m n) (turned-other x m n)
+
+-- The two changes with all that they leave, for what lies above.
+pub record Moved (cell cell′ : ℕ → Cell) (head′ : ℕ → ℕ) (list : ℕ → List ℕ) (o q c : ℕ) : Type 0 where
+  pub owners : ℕ → ℕ
+  pub ranks : ℕ → ℕ
+  pub lists : ℕ → List ℕ
+  pub chained : Chains cell′ owners ranks head′ lists
+  pub items-q : items cell′ (lists q) ≡ cell′ c .item ∷ items cell (list q)
+  pub items-o : items cell (list o) ≡ cell c .item ∷ items cell′ (lists o)
+  pub items-x : (x : ℕ) → (x ≡ o → ⊥) → (x ≡ q → ⊥) → items cell′ (lists x) ≡ items cell (list x)
+  pub length-q : length (lists q) ≡ suc (length (list q))
+  pub length-o : length (list o) ≡ suc (length (lists o))
+  pub length-x : (x : ℕ) → (x ≡ o → ⊥) → (x ≡ q → ⊥) → length (lists x) ≡ length (list x)
+
+-- a chain from a cell starts with it
+pub record Starts (c : ℕ) (cs : List ℕ) : Type 0 where
+  pub rest : List ℕ
+  pub is : cs ≡ c ∷ rest
+
+pub starts : {cell : ℕ → Cell} {own rank : ℕ → ℕ} {o c : ℕ} {cs : List ℕ} → Chain cell own rank o c cs → 1 ≤ c → Starts c cs
+starts ends l = absurd (omega arith)
+starts (link d {cs = ds} p eo er k) l = record { rest = ds; is = refl }
+
+pub move : (cell cell′ : ℕ → Cell) (own rank head head′ : ℕ → ℕ) (list : ℕ → List ℕ) → Chains cell own rank head list
+    → (o q c : ℕ) → (o ≡ q → ⊥) → 1 ≤ c → head o ≡ c → ((d : ℕ) → (d ≡ c → ⊥) → cell′ d ≡ cell d) → cell′ c .next ≡ head q
+    → head′ o ≡ cell c .next → head′ q ≡ c → ((x : ℕ) → (x ≡ o → ⊥) → (x ≡ q → ⊥) → head′ x ≡ head x)
+    → Moved cell cell′ head′ list o q c
+move cell cell′ own rank head head′ list chains o q c apart some at others onto left now still =
+    let st = starts (subst (λ h. Chain cell own rank o h (list o)) at (chains o)) some in
+    let cs = st .rest in
+    let here = st .is in
+    record {
+      owners = own′ cell cell′ own rank head head′ list chains o q c cs apart here others onto left now still;
+      ranks = rank′ cell cell′ own rank head head′ list chains o q c cs apart here others onto left now still;
+      lists = list′ cell cell′ own rank head head′ list chains o q c cs apart here others onto left now still;
+      chained = moved cell cell′ own rank head head′ list chains o q c cs apart here others onto left now still;
+      items-q = items-to cell cell′ own rank head head′ list chains o q c cs apart here others onto left now still;
+      items-o = items-from cell cell′ own rank head head′ list chains o q c cs apart here others onto left now still;
+      items-x = items-elsewhere cell cell′ own rank head head′ list chains o q c cs apart here others onto left now still;
+      length-q = length-to cell cell′ own rank head head′ list chains o q c cs apart here others onto left now still;
+      length-o = length-from cell cell′ own rank head head′ list chains o q c cs apart here others onto left now still;
+      length-x = length-elsewhere cell cell′ own rank head head′ list chains o q c cs apart here others onto left now still;
+    }
+
+pub record Exchanged (cell : ℕ → Cell) (head′ : ℕ → ℕ) (list : ℕ → List ℕ) (o q : ℕ) : Type 0 where
+  pub owners : ℕ → ℕ
+  pub ranks : ℕ → ℕ
+  pub lists : ℕ → List ℕ
+  pub chained : Chains cell owners ranks head′ lists
+  pub list-o : lists o ≡ list q
+  pub list-q : lists q ≡ list o
+  pub list-x : (x : ℕ) → (x ≡ o → ⊥) → (x ≡ q → ⊥) → lists x ≡ list x
+
+pub exchange : (cell : ℕ → Cell) (own rank head head′ : ℕ → ℕ) (list : ℕ → List ℕ) → Chains cell own rank head list
+    → (o q : ℕ) → (o ≡ q → ⊥) → head′ o ≡ head q → head′ q ≡ head o
+    → ((x : ℕ) → (x ≡ o → ⊥) → (x ≡ q → ⊥) → head′ x ≡ head x) → Exchanged cell head′ list o q
+exchange cell own rank head head′ list chains o q apart to-o to-q still =
+    record {
+      owners = λ d. turned cell own rank head head′ list chains o q apart to-o to-q still (own d);
+      ranks = rank;
+      lists = λ x. list (turned cell own rank head head′ list chains o q apart to-o to-q still x);
+      chained = exchanged cell own rank head head′ list chains o q apart to-o to-q still;
+      list-o = ap list (turned-o cell own rank head head′ list chains o q apart to-o to-q still);
+      list-q = ap list (turned-q cell own rank head head′ list chains o q apart to-o to-q still);
+      list-x = λ x m n. ap list (turned-other cell own rank head head′ list chains o q apart to-o to-q still x m n);
+    }

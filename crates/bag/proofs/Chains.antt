@@ -3,10 +3,8 @@
 use Prim.Native.Nat.{ℕ, zero, suc, _+_, _≤_, _<_}
 use native.Mathlib.Omega.{arith}
 use mathlib.Core.Path.{_≡_, refl, sym, ap, subst, _∙_}
-use mathlib.Core.Bool.{Bool, true, false}
 use mathlib.Core.List.{List, [], _∷_}
 use borrow.Author.Tests.{ne-eqb}
-use lib.Dec.{eqb}
 use lib.ListN.{length}
 use Rattle.region.specs.Pick.{pick}
 use Rattle.region.specs.Shared.{Shared}
@@ -35,15 +33,20 @@ module _ (cell cell′ : ℕ → Cell) (own own′ rank rank′ : ℕ → ℕ) (
       (subst (λ x. Chain cell′ own′ rank′ o′ (x .next) ds) (sym (same .0))
       (chain-left (cell d .next) ds (λ e q r. h e q (omega arith)) k))
 
--- copies of an item among these cells
-unfoldable pub copies : (ℕ → Cell) → Item → List ℕ → ℕ
-copies cell i [] = 0
-copies cell i (c ∷ cs) = pick (sameItem i (cell c .item)) 1 0 + copies cell i cs
+-- the items in these cells
+unfoldable pub items : (ℕ → Cell) → List ℕ → List Item
+items cell [] = []
+items cell (c ∷ cs) = cell c .item ∷ items cell cs
+
+-- copies of an item among these
+unfoldable pub copies : Item → List Item → ℕ
+copies i [] = 0
+copies i (j ∷ js) = pick (sameItem i j) 1 0 + copies i js
 
 -- walking a chain counts its items
 pub walk-counts : (m : Shared) (own rank : ℕ → ℕ) (o : ℕ) (i : Item) (n c : ℕ) (cs : List ℕ) → Chain (m .cell) own rank o c cs
-    → length cs ≤ n → inList m i n c ≡ copies (m .cell) i cs
-unfolding inList copies pick
+    → length cs ≤ n → inList m i n c ≡ copies i (items (m .cell) cs)
+unfolding inList copies items pick
 walk-counts m own rank o i n c cs ends h = at-end n
   where
     at-end : (k : ℕ) → inList m i k 0 ≡ 0
@@ -55,14 +58,14 @@ walk-counts m own rank o i (suc n) c cs (link d {cs = ds} p eo er k) h =
     (ne-eqb d 0 (λ z. omega arith))
     (ap (λ x. pick (sameItem i (m .cell d .item)) 1 0 + x) (walk-counts m own rank o i n (m .cell d .next) ds k (omega arith)))
 
--- a change elsewhere leaves the count
-pub copies-left : (cell cell′ : ℕ → Cell) (own own′ rank rank′ : ℕ → ℕ) (o o′ : ℕ) (i : Item) (c : ℕ) (cs : List ℕ)
-    → Left cell cell′ own own′ rank rank′ o o′ (length cs) → Chain cell own rank o c cs → copies cell′ i cs ≡ copies cell i cs
-unfolding copies
-copies-left cell cell′ own own′ rank rank′ o o′ i c cs h ends = refl
-copies-left cell cell′ own own′ rank rank′ o o′ i c cs h (link d {cs = ds} p eo er k) =
+-- a change elsewhere leaves the items
+pub items-left : (cell cell′ : ℕ → Cell) (own own′ rank rank′ : ℕ → ℕ) (o o′ c : ℕ) (cs : List ℕ)
+    → Left cell cell′ own own′ rank rank′ o o′ (length cs) → Chain cell own rank o c cs → items cell′ cs ≡ items cell cs
+unfolding items
+items-left cell cell′ own own′ rank rank′ o o′ c cs h ends = refl
+items-left cell cell′ own own′ rank rank′ o o′ c cs h (link d {cs = ds} p eo er k) =
     let same = h d eo (omega arith) in
     cc (
       same .0,
-      copies-left cell cell′ own own′ rank rank′ o o′ i (cell d .next) ds (λ e q r. h e q (omega arith)) k,
+      items-left cell cell′ own own′ rank rank′ o o′ (cell d .next) ds (λ e q r. h e q (omega arith)) k,
     )

@@ -4,5 +4,7 @@ pub mod CaseJ
 pub mod Cells
 pub mod Chains
 pub mod Counts
+pub mod Held
 pub mod Order
+pub mod Sorted
 pub mod Sums

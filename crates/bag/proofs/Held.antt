@@ -1,0 +1,364 @@
+-- Which list, thread or free chain holds each cell: every cell is held once, lists never fall, and together they are all C cells. What a
+-- beginning, a push, a pop and an exchange make of it, and of the tree's count. Assumes nothing.
+use Prim.Native.Nat.{ℕ, zero, suc, _+_, _*_, _/_, _%_, _≤_}
+use native.Mathlib.Decide.{ℕ-discrete}
+use native.Mathlib.Omega.{arith}
+use mathlib.Core.Path.{_≡_, refl, sym, ap, subst, _∙_}
+use mathlib.Core.Bool.{Bool, true, false}
+use mathlib.Core.List.{List, [], _∷_}
+use borrow.Author.Tests.{eq-eqb, ne-eqb}
+use lib.Dec.{eqb}
+use lib.ListN.{length}
+use Rattle.region.specs.Pick.{pick, upd}
+use Rattle.region.specs.Shape.{nodeCount}
+use Rattle.region.specs.Shared.{Shared}
+use Rattle.region.specs.declared.record.Cell.{Cell}
+use Rattle.region.specs.declared.record.Item.{Item}
+use Rattle.region.specs.declared.record.Node.{Node}
+use Rattle.region.specs.declared.shape.Shape.{Shape}
+use Rattle.access.specs.Order.{itemLe, topItem, valueOf}
+use Rattle.access.specs.Read.{readNode}
+use Rattle.bag.specs.Tree.{inNodes, sameItem}
+use Rattle.bag.proofs.Cells.{Chains, Moved, Exchanged, move, exchange, upd-same, upd-other, first-link, starts}
+use Rattle.bag.proofs.Chains.{Chain, copies, items}
+use Rattle.bag.proofs.Counts.{inChain, tree-counts}
+use Rattle.bag.proofs.Sorted.{AtMost, Proper, AllFrom, Sorted, valueAt, from-head, head-least, head-proper, head-counted}
+use Rattle.bag.proofs.Sums.{sum, sum-same, sum-has, sum-but, sum-exchange, sum-some}
+
+-- the first cell of each holder: 0 is the free chain, 2n node n, 2t + 1 thread t
+unfoldable pub heads : ℕ → (ℕ → Node) → (ℕ → ℕ) → ℕ → ℕ
+heads free node own o = pick (eqb o 0) free (pick (eqb (o % 2) 0) (node (o / 2) .first) (own (o / 2)))
+
+module _ (free : ℕ) (node : ℕ → Node) (own : ℕ → ℕ) where
+  pub head-free : heads free node own 0 ≡ free
+  unfolding heads pick
+  head-free = refl
+
+  pub head-node : (n : ℕ) → 1 ≤ n → heads free node own (2 * n) ≡ node n .first
+  unfolding heads pick
+  head-node n p =
+      let e : (2 * n) / 2 ≡ n = omega arith in
+      let r : (2 * n) % 2 ≡ 0 = omega arith in
+      rw (ne-eqb (2 * n) 0 (λ z. omega arith), eq-eqb ((2 * n) % 2) 0 r) (ap (λ k. node k .first) e)
+
+  pub head-thread : (t : ℕ) → heads free node own (2 * t + 1) ≡ own t
+  unfolding heads pick
+  head-thread t =
+      let e : (2 * t + 1) / 2 ≡ t = omega arith in
+      let r : (2 * t + 1) % 2 ≡ 0 → ⊥ = λ z. omega arith in
+      rw (ne-eqb (2 * t + 1) 0 (λ z. omega arith), ne-eqb ((2 * t + 1) % 2) 0 r) (ap own e)
+
+  -- a holder whose part is left alone
+  pub head-still : (free′ : ℕ) (node′ : ℕ → Node) (own′ : ℕ → ℕ) (x : ℕ) → (x ≡ 0 → free′ ≡ free)
+      → ((n : ℕ) → 1 ≤ n → x ≡ 2 * n → node′ n .first ≡ node n .first) → ((t : ℕ) → x ≡ 2 * t + 1 → own′ t ≡ own t)
+      → heads free′ node′ own′ x ≡ heads free node own x
+  unfolding heads pick
+  head-still free′ node′ own′ x hf hn ho = go (ℕ-discrete x 0) (ℕ-discrete (x % 2) 0)
+    where
+      go : Dec (x ≡ 0) → Dec (x % 2 ≡ 0)
+          → pick (eqb x 0) free′ (pick (eqb (x % 2) 0) (node′ (x / 2) .first) (own′ (x / 2)))
+          ≡ pick (eqb x 0) free (pick (eqb (x % 2) 0) (node (x / 2) .first) (own (x / 2)))
+      go (yes e) d = rw (eq-eqb x 0 e) (hf e)
+      go (no n) (yes e) = rw (ne-eqb x 0 n, eq-eqb (x % 2) 0 e) (hn (x / 2) (omega arith) (omega arith))
+      go (no n) (no m) = rw (ne-eqb x 0 n, ne-eqb (x % 2) 0 m) (ho (x / 2) (omega arith))
+
+-- m's cells, with each thread's own cell
+pub record Held (s : Shape) (m : Shared) (own : ℕ → ℕ) : Type 0 where
+  pub owner : ℕ → ℕ
+  pub rank : ℕ → ℕ
+  pub list : ℕ → List ℕ
+  pub chains : Chains (m .cell) owner rank (heads (m .free) (m .node) own) list
+  pub sorted : (n : ℕ) → 1 ≤ n → Sorted (items (m .cell) (list (2 * n)))
+  pub total : length (list 0) + sum (λ n. length (list (2 * n))) (nodeCount s) + sum (λ t. length (list (2 * t + 1))) (s .threads) ≡ s .cells
+
+-- the value of node n
+abbrev pub val : Shared → ℕ → Item
+val m n = valueOf (readNode m n)
+
+-- the tree's count of i
+abbrev pub counted : Shape → Shared → Item → ℕ
+counted s m i = inNodes m i (s .cells) (nodeCount s)
+
+-- What holds of the tree.
+module _ (s : Shape) (m : Shared) (own : ℕ → ℕ) (h : Held s m own) where
+  pub node-chain : (n : ℕ) → 1 ≤ n → Chain (m .cell) (h .owner) (h .rank) (2 * n) (m .node n .first) (h .list (2 * n))
+  node-chain n p =
+      subst (λ c. Chain (m .cell) (h .owner) (h .rank) (2 * n) c (h .list (2 * n))) (head-node (m .free) (m .node) own n p) (h .chains (2 * n))
+
+  pub few-cells : (n : ℕ) → 1 ≤ n → n ≤ nodeCount s → length (h .list (2 * n)) ≤ s .cells
+  few-cells n p q = let a = sum-has (λ k. length (h .list (2 * k))) (nodeCount s) n p q in omega (arith, a, h .total)
+
+  pub counts : (i : Item) → counted s m i ≡ sum (inChain (m .cell) (h .list) i) (nodeCount s)
+  counts i =
+      tree-counts m (h .owner) (h .rank) (heads (m .free) (m .node) own) (h .list) (h .chains)
+      (λ k p. head-node (m .free) (m .node) own k p) (s .cells) i (nodeCount s) few-cells
+
+  -- an item that the tree holds is held by a node whose value is no greater
+  pub record HeldBy (i : Item) : Type 0 where
+    pub node : ℕ
+    pub some : 1 ≤ node
+    pub few : node ≤ nodeCount s
+    pub least : AtMost (val m node) i
+    pub proper : Proper (val m node)
+
+  pub held-by : (i : Item) → 1 ≤ counted s m i → HeldBy i
+  unfolding inChain valueOf readNode
+  held-by i l =
+      let w = sum-some (inChain (m .cell) (h .list) i) (nodeCount s) (subst (λ k. 1 ≤ k) (counts i) l) in
+      let n = w .at in
+      record {
+        node = n;
+        some = w .least;
+        few = w .most;
+        least = head-least (m .cell) (h .owner) (h .rank) (2 * n) (m .node n .first) (h .list (2 * n)) (node-chain n (w .least)) (h .sorted n (w .least)) i (w .some);
+        proper = head-proper (m .cell) (h .owner) (h .rank) (2 * n) (m .node n .first) (h .list (2 * n)) (node-chain n (w .least)) (h .sorted n (w .least)) i (w .some);
+      }
+
+  -- the head of a node's list is held
+  pub head-held : (n : ℕ) → 1 ≤ n → n ≤ nodeCount s → 1 ≤ m .node n .first → 1 ≤ counted s m (m .cell (m .node n .first) .item)
+  unfolding inChain
+  head-held n p q l =
+      let i = m .cell (m .node n .first) .item in
+      let a = head-counted (m .cell) (h .owner) (h .rank) (2 * n) (m .node n .first) (h .list (2 * n)) (node-chain n p) l in
+      let b = sum-has (inChain (m .cell) (h .list) i) (nodeCount s) n p q in
+      omega (arith, counts i, a, b)
+
+  -- the first cell of a node's list is that node's
+  pub first-owner : (n : ℕ) → 1 ≤ n → 1 ≤ m .node n .first → h .owner (m .node n .first) ≡ 2 * n
+  first-owner n p l =
+      let st = starts (node-chain n p) l in
+      first-link (subst (Chain (m .cell) (h .owner) (h .rank) (2 * n) (m .node n .first)) (st .is) (node-chain n p)) .owner
+
+  -- an own cell is its thread's
+  pub own-owner : (t : ℕ) → 1 ≤ own t → h .owner (own t) ≡ 2 * t + 1
+  own-owner t l =
+      let k = subst (λ c. Chain (m .cell) (h .owner) (h .rank) (2 * t + 1) c (h .list (2 * t + 1))) (head-thread (m .free) (m .node) own t) (h .chains (2 * t + 1)) in
+      let st = starts k l in
+      first-link (subst (Chain (m .cell) (h .owner) (h .rank) (2 * t + 1) (own t)) (st .is) k) .owner
+
+  -- the first free cell is free
+  pub free-owner : 1 ≤ m .free → h .owner (m .free) ≡ 0
+  free-owner l =
+      let k = subst (λ c. Chain (m .cell) (h .owner) (h .rank) 0 c (h .list 0)) (head-free (m .free) (m .node) own) (h .chains 0) in
+      let st = starts k l in
+      first-link (subst (Chain (m .cell) (h .owner) (h .rank) 0 (m .free)) (st .is) k) .owner
+
+-- The same lists in the same cells.
+pub held-same : (s : Shape) (m m′ : Shared) (own : ℕ → ℕ) → Held s m own → m′ .cell ≡ m .cell → m′ .free ≡ m .free
+    → ((n : ℕ) → m′ .node n .first ≡ m .node n .first) → Held s m′ own
+held-same s m m′ own h ec ef en =
+    record {
+      owner = h .owner;
+      rank = h .rank;
+      list = h .list;
+      chains = λ o.
+          subst (λ cell. Chain cell (h .owner) (h .rank) o (heads (m′ .free) (m′ .node) own o) (h .list o)) (sym ec)
+          (subst (λ c. Chain (m .cell) (h .owner) (h .rank) o c (h .list o))
+          (sym (head-still (m .free) (m .node) own (m′ .free) (m′ .node) own o (λ z. ef) (λ n p e. en n) (λ t e. refl)))
+          (h .chains o));
+      sorted = λ n p. subst (λ cell. Sorted (items cell (h .list (2 * n)))) (sym ec) (h .sorted n p);
+      total = h .total;
+    }
+
+pub counted-same : (s : Shape) (m m′ : Shared) (own : ℕ → ℕ) → Held s m own → m′ .cell ≡ m .cell → m′ .free ≡ m .free
+    → ((n : ℕ) → m′ .node n .first ≡ m .node n .first) → (i : Item) → counted s m′ i ≡ counted s m i
+unfolding inChain sum held-same
+counted-same s m m′ own h ec ef en i =
+    counts s m′ own (held-same s m m′ own h ec ef en) i
+    ∙ ap (λ cell. sum (λ k. copies i (items cell (h .list (2 * k)))) (nodeCount s)) ec
+    ∙ sym (counts s m own h i)
+
+-- A put begins: the first free cell c becomes thread t's own.
+module _ (s : Shape) (m m′ : Shared) (own own′ : ℕ → ℕ) (h : Held s m own) (t c : ℕ) (lt : 1 ≤ t) (ut : t ≤ s .threads) (some : 1 ≤ c)
+    (free : m .free ≡ c) (none : own t ≡ 0) (others : (d : ℕ) → (d ≡ c → ⊥) → m′ .cell d ≡ m .cell d) (ended : m′ .cell c .next ≡ 0)
+    (left : m′ .free ≡ m .cell c .next) (nodes : m′ .node ≡ m .node) (now : own′ t ≡ c)
+    (still : (u : ℕ) → (u ≡ t → ⊥) → own′ u ≡ own u) where
+  begin-move : Moved (m .cell) (m′ .cell) (heads (m′ .free) (m′ .node) own′) (h .list) 0 (2 * t + 1) c
+  begin-move =
+      move (m .cell) (m′ .cell) (h .owner) (h .rank) (heads (m .free) (m .node) own) (heads (m′ .free) (m′ .node) own′) (h .list) (h .chains)
+      0 (2 * t + 1) c (λ z. omega arith) some (head-free (m .free) (m .node) own ∙ free) others
+      (ended ∙ sym (head-thread (m .free) (m .node) own t ∙ none))
+      (head-free (m′ .free) (m′ .node) own′ ∙ left) (head-thread (m′ .free) (m′ .node) own′ t ∙ now)
+      (λ x n k. head-still (m .free) (m .node) own (m′ .free) (m′ .node) own′ x (λ z. absurd (n z)) (λ y p e. ap (λ f. f y .first) nodes)
+      (λ u e. still u (λ z. k (e ∙ ap (λ y. 2 * y + 1) z))))
+
+  pub held-begin : Held s m′ own′
+  held-begin =
+      let mv = begin-move in
+      record {
+        owner = mv .owners;
+        rank = mv .ranks;
+        list = mv .lists;
+        chains = mv .chained;
+        sorted = λ n p. subst Sorted (sym (mv .items-x (2 * n) (λ z. omega arith) (λ z. omega arith))) (h .sorted n p);
+        total =
+            let a = sum-same (λ n. length (h .list (2 * n))) (λ n. length (mv .lists (2 * n))) (nodeCount s) (λ k l u. mv .length-x (2 * k) (λ z. omega arith) (λ z. omega arith)) in
+            let b = sum-but (λ u. length (h .list (2 * u + 1))) (λ u. length (mv .lists (2 * u + 1))) (s .threads) t lt ut (λ x p n. mv .length-x (2 * x + 1) (λ z. omega arith) (λ z. n (omega arith))) in
+            omega (arith, a, b, mv .length-q, mv .length-o, h .total);
+      }
+
+  pub counted-begin : (i : Item) → counted s m′ i ≡ counted s m i
+  unfolding inChain held-begin begin-move
+  counted-begin i =
+      counts s m′ own′ held-begin i
+      ∙ sum-same (inChain (m .cell) (h .list) i) (inChain (m′ .cell) (begin-move .lists) i) (nodeCount s)
+      (λ k l u. ap (copies i) (begin-move .items-x (2 * k) (λ z. omega arith) (λ z. omega arith)))
+      ∙ sym (counts s m own h i)
+
+-- A push: thread t's own cell c becomes the head of node n's list.
+module _ (s : Shape) (m m′ : Shared) (own own′ : ℕ → ℕ) (h : Held s m own) (t n c : ℕ) (lt : 1 ≤ t) (ut : t ≤ s .threads) (ln : 1 ≤ n)
+    (un : n ≤ nodeCount s) (some : 1 ≤ c) (mine : own t ≡ c) (ended : m .cell c .next ≡ 0)
+    (others : (d : ℕ) → (d ≡ c → ⊥) → m′ .cell d ≡ m .cell d) (kept : m′ .cell c .item ≡ m .cell c .item)
+    (onto : m′ .cell c .next ≡ m .node n .first) (free : m′ .free ≡ m .free) (first : m′ .node n .first ≡ c)
+    (elsewhere : (x : ℕ) → (x ≡ n → ⊥) → m′ .node x .first ≡ m .node x .first) (gone : own′ t ≡ 0)
+    (still : (u : ℕ) → (u ≡ t → ⊥) → own′ u ≡ own u) (proper : Proper (m .cell c .item)) (least : AtMost (m .cell c .item) (val m n)) where
+  push-move : Moved (m .cell) (m′ .cell) (heads (m′ .free) (m′ .node) own′) (h .list) (2 * t + 1) (2 * n) c
+  push-move =
+      move (m .cell) (m′ .cell) (h .owner) (h .rank) (heads (m .free) (m .node) own) (heads (m′ .free) (m′ .node) own′) (h .list) (h .chains)
+      (2 * t + 1) (2 * n) c (λ z. omega arith) some (head-thread (m .free) (m .node) own t ∙ mine) others
+      (onto ∙ sym (head-node (m .free) (m .node) own n ln))
+      (head-thread (m′ .free) (m′ .node) own′ t ∙ gone ∙ sym ended) (head-node (m′ .free) (m′ .node) own′ n ln ∙ first)
+      (λ x a b. head-still (m .free) (m .node) own (m′ .free) (m′ .node) own′ x (λ z. free)
+      (λ y p e. elsewhere y (λ z. b (e ∙ ap (λ k. 2 * k) z))) (λ u e. still u (λ z. a (e ∙ ap (λ k. 2 * k + 1) z))))
+
+  pub held-push : Held s m′ own′
+  unfolding valueOf readNode
+  held-push =
+      let mv = push-move in
+      record {
+        owner = mv .owners;
+        rank = mv .ranks;
+        list = mv .lists;
+        chains = mv .chained;
+        sorted = λ k p. go mv k p (ℕ-discrete k n);
+        total =
+            let a = sum-but (λ k. length (h .list (2 * k))) (λ k. length (mv .lists (2 * k))) (nodeCount s) n ln un (λ x p q. mv .length-x (2 * x) (λ z. omega arith) (λ z. q (omega arith))) in
+            let b = sum-but (λ u. length (h .list (2 * u + 1))) (λ u. length (mv .lists (2 * u + 1))) (s .threads) t lt ut (λ x p q. mv .length-x (2 * x + 1) (λ z. q (omega arith)) (λ z. omega arith)) in
+            let z : length (mv .lists 0) ≡ length (h .list 0) = mv .length-x 0 (λ z. omega arith) (λ z. omega arith) in
+            omega (arith, a, b, z, mv .length-q, mv .length-o, h .total);
+      }
+    where
+      here : Moved (m .cell) (m′ .cell) (heads (m′ .free) (m′ .node) own′) (h .list) (2 * t + 1) (2 * n) c → Sorted (m .cell c .item ∷ items (m .cell) (h .list (2 * n)))
+      here mv = (
+        proper,
+        from-head (m .cell) (h .owner) (h .rank) (2 * n) (m .node n .first) (h .list (2 * n)) (node-chain s m own h n ln) (h .sorted n ln) (m .cell c .item) least,
+        h .sorted n ln,
+      )
+
+      go : (mv : Moved (m .cell) (m′ .cell) (heads (m′ .free) (m′ .node) own′) (h .list) (2 * t + 1) (2 * n) c) (k : ℕ) → 1 ≤ k → Dec (k ≡ n)
+          → Sorted (items (m′ .cell) (mv .lists (2 * k)))
+      go mv k p (yes e) =
+          subst (λ y. Sorted (items (m′ .cell) (mv .lists (2 * y)))) (sym e)
+          (subst Sorted (sym (mv .items-q ∙ ap (λ i. i ∷ items (m .cell) (h .list (2 * n))) kept)) (here mv))
+      go mv k p (no q) = subst Sorted (sym (mv .items-x (2 * k) (λ z. omega arith) (λ z. q (omega arith)))) (h .sorted k p)
+
+  -- one copy more of the item
+  pub counted-push : (i : Item) → counted s m′ i ≡ counted s m i + pick (sameItem i (m .cell c .item)) 1 0
+  unfolding inChain copies held-push push-move
+  counted-push i =
+      let a = sum-but (inChain (m .cell) (h .list) i) (inChain (m′ .cell) (push-move .lists) i) (nodeCount s) n ln un
+      (λ x p q. ap (copies i) (push-move .items-x (2 * x) (λ z. omega arith) (λ z. q (omega arith)))) in
+      let b : inChain (m′ .cell) (push-move .lists) i n ≡ pick (sameItem i (m .cell c .item)) 1 0 + inChain (m .cell) (h .list) i n =
+      ap (copies i) (push-move .items-q) ∙ ap (λ j. pick (sameItem i j) 1 0 + copies i (items (m .cell) (h .list (2 * n)))) kept in
+      omega (arith, counts s m′ own′ held-push i, counts s m own h i, a, b)
+
+-- A pop: the head c of the root's list goes to the front of the free chain.
+module _ (s : Shape) (m m′ : Shared) (own : ℕ → ℕ) (h : Held s m own) (c : ℕ) (root : 1 ≤ nodeCount s) (some : 1 ≤ c)
+    (head : m .node 1 .first ≡ c) (others : (d : ℕ) → (d ≡ c → ⊥) → m′ .cell d ≡ m .cell d) (onto : m′ .cell c .next ≡ m .free)
+    (free : m′ .free ≡ c) (first : m′ .node 1 .first ≡ m .cell c .next)
+    (elsewhere : (x : ℕ) → (x ≡ 1 → ⊥) → m′ .node x .first ≡ m .node x .first) where
+  pop-move : Moved (m .cell) (m′ .cell) (heads (m′ .free) (m′ .node) own) (h .list) 2 0 c
+  pop-move =
+      move (m .cell) (m′ .cell) (h .owner) (h .rank) (heads (m .free) (m .node) own) (heads (m′ .free) (m′ .node) own) (h .list) (h .chains)
+      2 0 c (λ z. omega arith) some (head-node (m .free) (m .node) own 1 (omega arith) ∙ head) others
+      (onto ∙ sym (head-free (m .free) (m .node) own))
+      (head-node (m′ .free) (m′ .node) own 1 (omega arith) ∙ first) (head-free (m′ .free) (m′ .node) own ∙ free)
+      (λ x a b. head-still (m .free) (m .node) own (m′ .free) (m′ .node) own x (λ z. absurd (b z))
+      (λ y p e. elsewhere y (λ z. a (e ∙ ap (λ k. 2 * k) z))) (λ u e. refl))
+
+  pub held-pop : Held s m′ own
+  held-pop =
+      let mv = pop-move in
+      record {
+        owner = mv .owners;
+        rank = mv .ranks;
+        list = mv .lists;
+        chains = mv .chained;
+        sorted = λ k p. go mv k p (ℕ-discrete k 1);
+        total =
+            let a = sum-but (λ k. length (h .list (2 * k))) (λ k. length (mv .lists (2 * k))) (nodeCount s) 1 (omega arith) root (λ x p q. mv .length-x (2 * x) (λ z. q (omega arith)) (λ z. omega arith)) in
+            let b = sum-same (λ u. length (h .list (2 * u + 1))) (λ u. length (mv .lists (2 * u + 1))) (s .threads) (λ k l u. mv .length-x (2 * k + 1) (λ z. omega arith) (λ z. omega arith)) in
+            omega (arith, a, b, mv .length-q, mv .length-o, h .total);
+      }
+    where
+      go : (mv : Moved (m .cell) (m′ .cell) (heads (m′ .free) (m′ .node) own) (h .list) 2 0 c) (k : ℕ) → 1 ≤ k → Dec (k ≡ 1)
+          → Sorted (items (m′ .cell) (mv .lists (2 * k)))
+      go mv k p (yes e) =
+          subst (λ y. Sorted (items (m′ .cell) (mv .lists (2 * y)))) (sym e)
+          (subst Sorted (mv .items-o) (h .sorted 1 (omega arith)) .2)
+      go mv k p (no q) = subst Sorted (sym (mv .items-x (2 * k) (λ z. q (omega arith)) (λ z. omega arith))) (h .sorted k p)
+
+  -- one copy less of the item
+  pub counted-pop : (i : Item) → counted s m i ≡ counted s m′ i + pick (sameItem i (m .cell c .item)) 1 0
+  unfolding inChain copies held-pop pop-move
+  counted-pop i =
+      let a = sum-but (inChain (m .cell) (h .list) i) (inChain (m′ .cell) (pop-move .lists) i) (nodeCount s) 1 (omega arith) root
+      (λ x p q. ap (copies i) (pop-move .items-x (2 * x) (λ z. q (omega arith)) (λ z. omega arith))) in
+      let b : inChain (m .cell) (h .list) i 1 ≡ pick (sameItem i (m .cell c .item)) 1 0 + inChain (m′ .cell) (pop-move .lists) i 1 =
+      ap (copies i) (pop-move .items-o) in
+      omega (arith, counts s m′ own held-pop i, counts s m own h i, a, b)
+
+-- An exchange of the lists of nodes n and k.
+module _ (s : Shape) (m m′ : Shared) (own : ℕ → ℕ) (h : Held s m own) (n k : ℕ) (ln : 1 ≤ n) (un : n ≤ nodeCount s) (lk : 1 ≤ k)
+    (uk : k ≤ nodeCount s) (apart : n ≡ k → ⊥) (cells : m′ .cell ≡ m .cell) (free : m′ .free ≡ m .free)
+    (to-n : m′ .node n .first ≡ m .node k .first) (to-k : m′ .node k .first ≡ m .node n .first)
+    (elsewhere : (x : ℕ) → (x ≡ n → ⊥) → (x ≡ k → ⊥) → m′ .node x .first ≡ m .node x .first) where
+  exchange-lists : Exchanged (m .cell) (heads (m′ .free) (m′ .node) own) (h .list) (2 * n) (2 * k)
+  exchange-lists =
+      exchange (m .cell) (h .owner) (h .rank) (heads (m .free) (m .node) own) (heads (m′ .free) (m′ .node) own) (h .list) (h .chains)
+      (2 * n) (2 * k) (λ z. apart (omega arith))
+      (head-node (m′ .free) (m′ .node) own n ln ∙ to-n ∙ sym (head-node (m .free) (m .node) own k lk))
+      (head-node (m′ .free) (m′ .node) own k lk ∙ to-k ∙ sym (head-node (m .free) (m .node) own n ln))
+      (λ x a b. head-still (m .free) (m .node) own (m′ .free) (m′ .node) own x (λ z. free)
+      (λ y p e. elsewhere y (λ z. a (e ∙ ap (λ j. 2 * j) z)) (λ z. b (e ∙ ap (λ j. 2 * j) z))) (λ u e. refl))
+
+  list-x : (x : ℕ) → (x ≡ n → ⊥) → (x ≡ k → ⊥) → exchange-lists .lists (2 * x) ≡ h .list (2 * x)
+  list-x x p q = exchange-lists .list-x (2 * x) (λ z. p (omega arith)) (λ z. q (omega arith))
+
+  pub held-exchange : Held s m′ own
+  held-exchange =
+      let ex = exchange-lists in
+      record {
+        owner = ex .owners;
+        rank = ex .ranks;
+        list = ex .lists;
+        chains = λ o.
+            subst (λ cell. Chain cell (ex .owners) (ex .ranks) o (heads (m′ .free) (m′ .node) own o) (ex .lists o)) (sym cells) (ex .chained o);
+        sorted = λ x p. subst (λ cell. Sorted (items cell (ex .lists (2 * x)))) (sym cells) (go x p (ℕ-discrete x n) (ℕ-discrete x k));
+        total =
+            let a = sum-exchange (λ x. length (h .list (2 * x))) (λ x. length (ex .lists (2 * x))) (nodeCount s) n k ln un lk uk apart
+            (ap length (ex .list-o)) (ap length (ex .list-q)) (λ x p q. ap length (list-x x p q)) in
+            let b = sum-same (λ u. length (h .list (2 * u + 1))) (λ u. length (ex .lists (2 * u + 1))) (s .threads)
+            (λ u l q. ap length (ex .list-x (2 * u + 1) (λ z. omega arith) (λ z. omega arith))) in
+            let z : length (ex .lists 0) ≡ length (h .list 0) = ap length (ex .list-x 0 (λ z. omega arith) (λ z. omega arith)) in
+            omega (arith, a, b, z, h .total);
+      }
+    where
+      go : (x : ℕ) → 1 ≤ x → Dec (x ≡ n) → Dec (x ≡ k) → Sorted (items (m .cell) (exchange-lists .lists (2 * x)))
+      go x p (yes e) d =
+          subst (λ y. Sorted (items (m .cell) (exchange-lists .lists (2 * y)))) (sym e)
+          (subst (λ l. Sorted (items (m .cell) l)) (sym (exchange-lists .list-o)) (h .sorted k lk))
+      go x p (no q) (yes e) =
+          subst (λ y. Sorted (items (m .cell) (exchange-lists .lists (2 * y)))) (sym e)
+          (subst (λ l. Sorted (items (m .cell) l)) (sym (exchange-lists .list-q)) (h .sorted n ln))
+      go x p (no q) (no r) = subst (λ l. Sorted (items (m .cell) l)) (sym (list-x x q r)) (h .sorted x p)
+
+  pub counted-exchange : (i : Item) → counted s m′ i ≡ counted s m i
+  unfolding inChain sum held-exchange exchange-lists
+  counted-exchange i =
+      counts s m′ own held-exchange i
+      ∙ ap (λ cell. sum (λ x. copies i (items cell (exchange-lists .lists (2 * x)))) (nodeCount s)) cells
+      ∙ sum-exchange (inChain (m .cell) (h .list) i) (inChain (m .cell) (exchange-lists .lists) i) (nodeCount s) n k ln un lk uk apart
+      (ap (λ l. copies i (items (m .cell) l)) (exchange-lists .list-o)) (ap (λ l. copies i (items (m .cell) l)) (exchange-lists .list-q))
+      (λ x p q. ap (λ l. copies i (items (m .cell) l)) (list-x x p q))
+      ∙ sym (counts s m own h i)

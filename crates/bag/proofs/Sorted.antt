@@ -1,0 +1,92 @@
+-- Lists that never fall from head to end, of items below the value of an empty node. The head is least, and a lesser item goes to the
+-- front. Assumes nothing.
+use Prim.Native.Nat.{ℕ, _+_, _≤_}
+use native.Mathlib.Omega.{arith}
+use mathlib.Core.Path.{_≡_, refl, sym, subst}
+use mathlib.Core.Bool.{Bool, true, false, _&&_}
+use mathlib.Core.List.{List, [], _∷_}
+use borrow.Author.Tests.{eqb-true, eq-eqb, ne-eqb}
+use lib.Dec.{eqb}
+use Rattle.region.specs.Pick.{pick}
+use Rattle.region.specs.declared.record.Cell.{Cell}
+use Rattle.region.specs.declared.record.Item.{Item}
+use Rattle.region.proofs.Shapes.{and-left, and-right, and-both}
+use Rattle.access.specs.Order.{itemLe, topItem}
+use Rattle.access.proofs.OrderLaws.{item-refl, item-trans}
+use Rattle.bag.specs.Tree.{sameItem}
+use Rattle.bag.proofs.Chains.{Chain, ends, link, copies, items}
+
+-- a is at most b
+abbrev pub AtMost : Item → Item → Type 0
+AtMost a b = itemLe a b ≡ true
+
+-- below the value of an empty node
+abbrev pub Proper : Item → Type 0
+Proper i = itemLe topItem i ≡ false
+
+abbrev pub AllFrom : Item → List Item → Type 0
+AllFrom v [] = Unit
+AllFrom v (i ∷ is) = AtMost v i × AllFrom v is
+
+abbrev pub Sorted : List Item → Type 0
+Sorted [] = Unit
+Sorted (i ∷ is) = Proper i × AllFrom i is × Sorted is
+
+all-from : (v w : Item) (is : List Item) → AtMost v w → AllFrom w is → AllFrom v is
+all-from v w [] h a = tt
+all-from v w (i ∷ is) h a = (item-trans v w i h (a .0), all-from v w is h (a .1))
+
+-- equal items are one
+pub same-item : (i j : Item) → sameItem i j ≡ true → i ≡ j
+unfolding sameItem
+same-item i j e =
+    let k = eqb-true (i .key) (j .key) (and-left (eqb (i .key) (j .key)) (eqb (i .tag) (j .tag)) e) in
+    let t = eqb-true (i .tag) (j .tag) (and-right (eqb (i .key) (j .key)) (eqb (i .tag) (j .tag)) e) in
+    λ x. record { key = k x; tag = t x }
+
+pub item-same : (i : Item) → sameItem i i ≡ true
+unfolding sameItem
+item-same i = and-both (eq-eqb (i .key) (i .key) refl) (eq-eqb (i .tag) (i .tag) refl)
+
+from-all : (v j : Item) (is : List Item) → AllFrom v is → 1 ≤ copies j is → AtMost v j
+unfolding copies pick
+from-all v j [] a h = absurd (omega arith)
+from-all v j (i ∷ is) a h = go (sameItem j i) refl h (from-all v j is (a .1))
+  where
+    go : (q : Bool) → sameItem j i ≡ q → 1 ≤ pick q 1 0 + copies j is → (1 ≤ copies j is → AtMost v j) → AtMost v j
+    go true e k r = subst (AtMost v) (sym (same-item j i e)) (a .0)
+    go false e k r = r (omega arith)
+
+-- the value of a list that starts at cell c
+abbrev pub valueAt : (ℕ → Cell) → ℕ → Item
+valueAt cell c = pick (eqb c 0) topItem (cell c .item)
+
+module _ (cell : ℕ → Cell) (own rank : ℕ → ℕ) (o : ℕ) where
+  -- what is at most the head is at most every item
+  pub from-head : (c : ℕ) (cs : List ℕ) → Chain cell own rank o c cs → Sorted (items cell cs) → (v : Item) → AtMost v (valueAt cell c)
+      → AllFrom v (items cell cs)
+  unfolding items pick
+  from-head c cs ends h v l = tt
+  from-head c cs (link d {cs = ds} p eo er k) h v l =
+      let m : AtMost v (cell d .item) = subst (λ q. AtMost v (pick q topItem (cell d .item))) (ne-eqb d 0 (λ z. omega arith)) l in
+      (m, all-from v (cell d .item) (items cell ds) m (h .1))
+
+  -- the head is at most every item of the list
+  pub head-least : (c : ℕ) (cs : List ℕ) → Chain cell own rank o c cs → Sorted (items cell cs) → (j : Item) → 1 ≤ copies j (items cell cs)
+      → AtMost (valueAt cell c) j
+  head-least c cs k h j l =
+      from-all (valueAt cell c) j (items cell cs) (from-head c cs k h (valueAt cell c) (item-refl (valueAt cell c))) l
+
+  -- a list that holds anything has a proper head
+  pub head-proper : (c : ℕ) (cs : List ℕ) → Chain cell own rank o c cs → Sorted (items cell cs) → (j : Item) → 1 ≤ copies j (items cell cs)
+      → Proper (valueAt cell c)
+  unfolding items copies pick
+  head-proper c cs ends h j l = absurd (omega arith)
+  head-proper c cs (link d {cs = ds} p eo er k) h j l =
+      subst (λ q. Proper (pick q topItem (cell d .item))) (sym (ne-eqb d 0 (λ z. omega arith))) (h .0)
+
+  -- the head is counted
+  pub head-counted : (c : ℕ) (cs : List ℕ) → Chain cell own rank o c cs → 1 ≤ c → 1 ≤ copies (cell c .item) (items cell cs)
+  unfolding items copies pick
+  head-counted c cs ends l = absurd (omega arith)
+  head-counted c cs (link d {cs = ds} p eo er k) l = rw (item-same (cell d .item)) (omega arith)
