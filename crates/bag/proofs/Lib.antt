@@ -4,6 +4,7 @@ pub mod CaseJ
 pub mod Cells
 pub mod Chains
 pub mod Counts
+pub mod Effects
 pub mod Held
 pub mod Order
 pub mod Sorted

@@ -56,7 +56,7 @@ module _ {Value : Type 0} (_≼_ : Value → Value → Type 0) (≼-refl : (v : 
 
   -- the same functions but at n
   abbrev pub But : {A : Type 0} → (ℕ → A) → (ℕ → A) → ℕ → Type 0
-  But f g n = (x : ℕ) → (x ≡ n → ⊥) → g x ≡ f x
+  But f g n = (x : ℕ) → 1 ≤ x → (x ≡ n → ⊥) → g x ≡ f x
 
   module _ (val val′ : ℕ → Value) (dirty dirty′ : ℕ → ℕ) (ord : Ordered val dirty) where
     -- A put's value at n: at most n's, and at least its parent's where it has one. The marks stay.
@@ -71,13 +71,13 @@ module _ {Value : Type 0} (_≼_ : Value → Value → Type 0) (≼-refl : (v : 
         go (yes ea) (yes ex) = subst (λ u. val′ u ≼ val′ x) (sym (ea ∙ sym ex)) (≼-refl (val′ x))
         go (yes ea) (no nx) =
             subst (λ u. u ≼ val′ x) (sym (ap val′ ea ∙ ev))
-            (subst (λ u. v ≼ u) (sym (b x nx)) (≼-trans v (val n) (val x) le (subst (λ u. val u ≼ val x) ea (ord a x p h clean))))
+            (subst (λ u. v ≼ u) (sym (b x (omega (arith, p, above-le a x h)) nx)) (≼-trans v (val n) (val x) le (subst (λ u. val u ≼ val x) ea (ord a x p h clean))))
         go (no na) (yes ex) =
             let q = above-parent a n (subst (Above a) ex h) na in
             let g = above-le a (n / 2) q in
             subst (λ u. val′ a ≼ u) (sym (ap val′ ex ∙ ev))
-            (subst (λ u. u ≼ v) (sym (b a na)) (≼-trans (val a) (val (n / 2)) v (ord a (n / 2) p q clean) (par (omega arith))))
-        go (no na) (no nx) = subst₂ (λ u w. u ≼ w) (sym (b a na)) (sym (b x nx)) (ord a x p h clean)
+            (subst (λ u. u ≼ v) (sym (b a p na)) (≼-trans (val a) (val (n / 2)) v (ord a (n / 2) p q clean) (par (omega arith))))
+        go (no na) (no nx) = subst₂ (λ u w. u ≼ w) (sym (b a p na)) (sym (b x (omega (arith, p, above-le a x h)) nx)) (ord a x p h clean)
 
     -- The root's value changes and the root is dirty.
     pub pop-ordered : But val val′ 1 → But dirty dirty′ 1 → dirty′ 1 ≡ 1 → Ordered val′ dirty′
@@ -86,7 +86,7 @@ module _ {Value : Type 0} (_≼_ : Value → Value → Type 0) (≼-refl : (v : 
         go : Dec (a ≡ 1) → Dec (x ≡ 1) → val′ a ≼ val′ x
         go (yes ea) d = absurd (let z = sym (ap dirty′ ea) ∙ c in omega arith)
         go (no na) (yes ex) = absurd (let g = above-le a x h in omega arith)
-        go (no na) (no nx) = subst₂ (λ u w. u ≼ w) (sym (b a na)) (sym (b x nx)) (ord a x p h (sym (bd a na) ∙ c))
+        go (no na) (no nx) = subst₂ (λ u w. u ≼ w) (sym (b a p na)) (sym (b x (omega (arith, p, above-le a x h)) nx)) (ord a x p h (sym (bd a p na) ∙ c))
 
     -- Node n becomes clean: its children are clean and no less.
     pub clean-ordered : (n : ℕ) → 1 ≤ n → ((x : ℕ) → val′ x ≡ val x) → But dirty dirty′ n
@@ -101,7 +101,7 @@ module _ {Value : Type 0} (_≼_ : Value → Value → Type 0) (≼-refl : (v : 
 
         go : Dec (a ≡ n) → val a ≼ val x
         go (yes e) = subst (λ u. val u ≼ val x) (sym e) (under (below-children n x (subst (λ u. Above u x) e h)))
-        go (no na) = ord a x p h (sym (bd a na) ∙ c)
+        go (no na) = ord a x p h (sym (bd a p na) ∙ c)
 
     -- Node n and its child k exchange values; n is clean and k dirty. The child and its sibling j were clean, the child least of the three.
     module _ (n k j : ℕ) (pn : 1 ≤ n) (pk : k / 2 ≡ n) (ck : dirty k ≡ 0) (cj : dirty j ≡ 0)

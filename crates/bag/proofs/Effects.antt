@@ -1,0 +1,509 @@
+-- The mound between turns: cells held, the tree in order, nothing below the present depth. What an effect asks, that it keeps the mound,
+-- and what every other thread may rely on across it. Assumes nothing.
+use Prim.Native.Nat.{ℕ, zero, suc, _+_, _-_, _*_, _/_, _^_, _≤_, _<_}
+use native.Mathlib.Decide.{ℕ-discrete}
+use native.Mathlib.Omega.{arith}
+use mathlib.Core.Path.{_≡_, refl, sym, ap, subst, subst₂, _∙_}
+use mathlib.Core.Logic.{_⊎_, inl, inr}
+use mathlib.Core.Bool.{true, false}
+use borrow.Author.Tests.{ne-eqb}
+use lib.Dec.{eqb}
+use lib.Pow.{pow-mono}
+use Rattle.region.specs.Pick.{pick, upd}
+use Rattle.region.specs.Record.{zeroItem}
+use Rattle.region.specs.Shape.{nodeCount}
+use Rattle.region.specs.Shared.{Shared}
+use Rattle.region.specs.declared.record.Cell.{Cell}
+use Rattle.region.specs.declared.record.Item.{Item}
+use Rattle.region.specs.declared.record.Node.{Node}
+use Rattle.region.specs.declared.record.NodeCopy.{NodeCopy}
+use Rattle.region.specs.declared.shape.Shape.{Shape}
+use Rattle.access.specs.Effect.{effectShared}
+use Rattle.access.specs.Order.{itemLe, topItem, valueOf}
+use Rattle.access.specs.Read.{readNode, updated}
+use Rattle.access.specs.declared.effect.Effect.{Effect}
+use Rattle.access.specs.declared.effect.Effect.the-variants.{Nothing, Grow, Push, Pop, Exchange, Clean}
+use Rattle.access.proofs.OrderLaws.{item-refl, item-trans}
+use Rattle.bag.specs.Tree.{sameItem}
+use Rattle.bag.proofs.Cells.{upd-same, upd-other}
+use Rattle.bag.proofs.Held.{Held, val, counted, first-owner, own-owner, free-owner, held-same, counted-same, held-begin, counted-begin, held-push, counted-push, held-pop, counted-pop, held-exchange, counted-exchange}
+use Rattle.bag.proofs.Order.{Above, Ordered, above-le, push-ordered, pop-ordered, clean-ordered, exchange-ordered}
+use Rattle.bag.proofs.Sorted.{AtMost, Proper, valueAt}
+
+-- a clean node's value is at most that of every node below it
+abbrev pub InOrder : Shared → Type 0
+InOrder m = Ordered AtMost item-refl item-trans (val m) (λ n. m .node n .dirty)
+
+pub record Mound (s : Shape) (m : Shared) (own : ℕ → ℕ) : Type 0 where
+  pub held : Held s m own
+  pub ordered : InOrder m
+  pub deep : (n : ℕ) → 2 ^ m .depth ≤ n → (m .node n .first ≡ 0) × (m .node n .dirty ≡ 0)
+  pub depth-least : 1 ≤ m .depth
+  pub depth-most : m .depth ≤ s .depth
+
+-- c stays clean while its parent's counter stands, and falls at most to the lesser of its value and its parent's
+abbrev pub Falls : Shared → Shared → ℕ → Type 0
+Falls m m′ c =
+    1 ≤ c / 2 → m′ .node (c / 2) .counter ≡ m .node (c / 2) .counter → m .node c .dirty ≡ 0
+    → (m′ .node c .dirty ≡ 0) × ((v : Item) → AtMost v (val m c) → AtMost v (val m (c / 2)) → AtMost v (val m′ c))
+
+-- What every thread may rely on when another moves.
+pub record Rely (m m′ : Shared) : Type 0 where
+  pub depth : m .depth ≤ m′ .depth
+  pub counters : (n : ℕ) → 1 ≤ n → m .node n .counter ≤ m′ .node n .counter
+  -- a node whose counter stands is unchanged, its head cell too
+  pub unchanged : (n : ℕ) → 1 ≤ n → m′ .node n .counter ≡ m .node n .counter → readNode m′ n ≡ readNode m n
+  pub child : (c : ℕ) → Falls m m′ c
+
+read-same : (m m′ : Shared) (x : ℕ) → m′ .node x ≡ m .node x → m′ .cell (m .node x .first) ≡ m .cell (m .node x .first)
+    → readNode m′ x ≡ readNode m x
+unfolding readNode
+read-same m m′ x e h =
+    let k : m′ .cell (m′ .node x .first) ≡ m .cell (m .node x .first) = ap (λ y. m′ .cell (y .first)) e ∙ h in
+    λ i. record { node = e i; head = k i }
+
+node-of-read : (m m′ : Shared) (x : ℕ) → readNode m′ x ≡ readNode m x → m′ .node x ≡ m .node x
+unfolding readNode
+node-of-read m m′ x e = ap (λ q. q .node) e
+
+-- Two nodes at most are touched, and each counts up.
+module _ (m m′ : Shared) (n k : ℕ) (deeper : m .depth ≤ m′ .depth) (up-n : m′ .node n .counter ≡ m .node n .counter + 1)
+    (up-k : m′ .node k .counter ≡ m .node k .counter + 1)
+    (others : (x : ℕ) → 1 ≤ x → (x ≡ n → ⊥) → (x ≡ k → ⊥) → readNode m′ x ≡ readNode m x)
+    (falls-n : Falls m m′ n) (falls-k : Falls m m′ k) where
+  counter-up : (x : ℕ) → 1 ≤ x → Dec (x ≡ n) → Dec (x ≡ k) → m .node x .counter ≤ m′ .node x .counter
+  counter-up x p (yes e) d =
+      subst (λ y. m .node y .counter ≤ m′ .node y .counter) (sym e) (omega (arith, up-n))
+  counter-up x p (no a) (yes e) =
+      subst (λ y. m .node y .counter ≤ m′ .node y .counter) (sym e) (omega (arith, up-k))
+  counter-up x p (no a) (no b) = let e = ap (λ y. y .counter) (node-of-read m m′ x (others x p a b)) in omega arith
+
+  same-read : (x : ℕ) → 1 ≤ x → m′ .node x .counter ≡ m .node x .counter → Dec (x ≡ n) → Dec (x ≡ k) → readNode m′ x ≡ readNode m x
+  same-read x p e (yes a) d =
+      absurd (let z = subst (λ y. m′ .node y .counter ≡ m .node y .counter) a e in omega (arith, z, up-n))
+  same-read x p e (no a) (yes b) =
+      absurd (let z = subst (λ y. m′ .node y .counter ≡ m .node y .counter) b e in omega (arith, z, up-k))
+  same-read x p e (no a) (no b) = others x p a b
+
+  child-falls : (c : ℕ) → Dec (c ≡ n) → Dec (c ≡ k) → Falls m m′ c
+  child-falls c (yes a) d = subst (Falls m m′) (sym a) falls-n
+  child-falls c (no a) (yes b) = subst (Falls m m′) (sym b) falls-k
+  child-falls c (no a) (no b) = λ p e z.
+      let r = others c (omega arith) a b in
+      (ap (λ y. y .dirty) (node-of-read m m′ c r) ∙ z, λ v h g. subst (AtMost v) (sym (ap valueOf r)) h)
+
+  pub relies : Rely m m′
+  relies =
+      record {
+        depth = deeper;
+        counters = λ x p. counter-up x p (ℕ-discrete x n) (ℕ-discrete x k);
+        unchanged = λ x p e. same-read x p e (ℕ-discrete x n) (ℕ-discrete x k);
+        child = λ c. child-falls c (ℕ-discrete c n) (ℕ-discrete c k);
+      }
+
+-- every node reads as before
+pub rely-same : (m m′ : Shared) → m .depth ≤ m′ .depth → ((x : ℕ) → 1 ≤ x → readNode m′ x ≡ readNode m x) → Rely m m′
+rely-same m m′ d h =
+    record {
+      depth = d;
+      counters = λ x p. let e = ap (λ y. y .counter) (node-of-read m m′ x (h x p)) in omega arith;
+      unchanged = λ x p e. h x p;
+      child = λ c p e z.
+          let r = h c (omega arith) in
+          (ap (λ y. y .dirty) (node-of-read m m′ c r) ∙ z, λ v a b. subst (AtMost v) (sym (ap valueOf r)) a);
+    }
+
+-- What each effect asks.
+pub record PushAsks (m : Shared) (own : ℕ → ℕ) (t n : ℕ) (v : Node) (c x : ℕ) : Type 0 where
+  pub some : 1 ≤ n
+  pub few : n < 2 ^ m .depth
+  pub mine : own t ≡ c
+  pub cell : 1 ≤ c
+  pub ended : m .cell c .next ≡ 0
+  pub proper : Proper (m .cell c .item)
+  pub least : AtMost (m .cell c .item) (val m n)
+  pub parent : 2 ≤ n → AtMost (val m (n / 2)) (m .cell c .item)
+  pub value : v ≡ updated (m .node n) c (m .node n .dirty)
+  pub onto : x ≡ m .node n .first
+
+pub record PopAsks (m : Shared) (v : Node) (c : ℕ) : Type 0 where
+  pub clean : m .node 1 .dirty ≡ 0
+  pub head : m .node 1 .first ≡ c
+  pub cell : 1 ≤ c
+  pub value : v ≡ updated (m .node 1) (m .cell c .next) 1
+
+pub record ExchangeAsks (m : Shared) (n : ℕ) (v : Node) (k : ℕ) (w : Node) (j : ℕ) : Type 0 where
+  pub some : 1 ≤ n
+  pub few : k < 2 ^ m .depth
+  pub child : k / 2 ≡ n
+  pub kids : (x : ℕ) → Above n x → (n ≡ x) ⊎ (Above k x ⊎ Above j x)
+  pub sibling : 1 ≤ j
+  pub dirty : 1 ≤ m .node n .dirty
+  pub clean : m .node k .dirty ≡ 0
+  pub clean-sibling : m .node j .dirty ≡ 0
+  pub less : AtMost (val m k) (val m n)
+  pub least : AtMost (val m k) (val m j)
+  pub value : v ≡ updated (m .node n) (m .node k .first) 0
+  pub value-child : w ≡ updated (m .node k) (m .node n .first) 1
+
+pub record CleanAsks (m : Shared) (n : ℕ) (v : Node) : Type 0 where
+  pub some : 1 ≤ n
+  pub few : n < 2 ^ m .depth
+  pub dirty : 1 ≤ m .node n .dirty
+  pub clean-left : m .node (2 * n) .dirty ≡ 0
+  pub clean-right : m .node (2 * n + 1) .dirty ≡ 0
+  pub least-left : AtMost (val m n) (val m (2 * n))
+  pub least-right : AtMost (val m n) (val m (2 * n + 1))
+  pub value : v ≡ updated (m .node n) (m .node n .first) 0
+
+-- nodes no deeper than the present depth are in the tree
+pub in-tree : (s : Shape) (m : Shared) (own : ℕ → ℕ) → Mound s m own → (n : ℕ) → n < 2 ^ m .depth → n ≤ nodeCount s
+in-tree s m own g n h = omega (arith, pow-mono {i = m .depth} {j = s .depth} (g .depth-most))
+
+root-there : (s : Shape) (m : Shared) (own : ℕ → ℕ) → Mound s m own → 1 < 2 ^ m .depth
+root-there s m own g = omega (arith, pow-mono {i = 1} {j = m .depth} (g .depth-least))
+
+value-there : (cell : ℕ → Cell) (c : ℕ) (i : Item) → 1 ≤ c → cell c .item ≡ i → valueAt cell c ≡ i
+unfolding pick
+value-there cell c i p e = rw (ne-eqb c 0 (λ z. omega arith)) e
+
+-- Growing.
+module _ (s : Shape) (m : Shared) (own : ℕ → ℕ) (g : Mound s m own) (d : ℕ) (next : d ≡ m .depth + 1) (few : d ≤ s .depth) where
+  pub grow-keeps : Mound s (effectShared m (Grow d)) own
+  unfolding effectShared readNode
+  grow-keeps =
+      record {
+        held = held-same s m _ own (g .held) refl refl (λ n. refl);
+        ordered = g .ordered;
+        deep = λ n h. g .deep n (omega (arith, h, pow-mono {i = m .depth} {j = d} (omega arith)));
+        depth-least = omega arith;
+        depth-most = few;
+      }
+
+  pub grow-relies : Rely m (effectShared m (Grow d))
+  unfolding effectShared readNode
+  grow-relies = rely-same m _ (omega arith) (λ x p. refl)
+
+  pub grow-counts : (i : Item) → counted s (effectShared m (Grow d)) i ≡ counted s m i
+  unfolding effectShared
+  grow-counts i = counted-same s m _ own (g .held) refl refl (λ n. refl) i
+
+-- Pushing.
+module _ (s : Shape) (m : Shared) (own own′ : ℕ → ℕ) (g : Mound s m own) (t n : ℕ) (v : Node) (c x : ℕ) (lt : 1 ≤ t) (ut : t ≤ s .threads)
+    (a : PushAsks m own t n v c x) (gone : own′ t ≡ 0) (still : (u : ℕ) → (u ≡ t → ⊥) → own′ u ≡ own u) where
+  abbrev pushed : Shared
+  pushed = effectShared m (Push n v c x)
+
+  push-others : (y : ℕ) → 1 ≤ y → (y ≡ n → ⊥) → readNode pushed y ≡ readNode m y
+  unfolding effectShared
+  push-others y p ne = read-same m pushed y (upd-other (m .node) n y v ne) (upd-other (m .cell) c (m .node y .first) _ apart)
+    where
+      apart : m .node y .first ≡ c → ⊥
+      apart e =
+          let o₁ = first-owner s m own (g .held) y p (omega (arith, e, a .cell)) in
+          let o₂ = own-owner s m own (g .held) t (omega (arith, a .mine, a .cell)) in
+          let k = ap (g .held .owner) (e ∙ sym (a .mine)) in
+          omega (arith, o₁, o₂, k)
+
+  push-node : pushed .node n ≡ v
+  unfolding effectShared
+  push-node = upd-same (m .node) n v
+
+  push-first : pushed .node n .first ≡ c
+  unfolding updated
+  push-first = ap (λ y. y .first) (push-node ∙ a .value)
+
+  push-dirty : (y : ℕ) → pushed .node y .dirty ≡ m .node y .dirty
+  unfolding effectShared updated
+  push-dirty y = go (ℕ-discrete y n)
+    where
+      go : Dec (y ≡ n) → upd (m .node) n v y .dirty ≡ m .node y .dirty
+      go (yes e) = ap (λ z. upd (m .node) n v z .dirty) e ∙ ap (λ z. z .dirty) (upd-same (m .node) n v ∙ a .value) ∙ ap (λ z. m .node z .dirty) (sym e)
+      go (no ne) = ap (λ z. z .dirty) (upd-other (m .node) n y v ne)
+
+  push-item : pushed .cell c .item ≡ m .cell c .item
+  unfolding effectShared
+  push-item = ap (λ z. z .item) (upd-same (m .cell) c _)
+
+  push-value : val pushed n ≡ m .cell c .item
+  unfolding valueOf readNode
+  push-value = ap (valueAt (pushed .cell)) push-first ∙ value-there (pushed .cell) c (m .cell c .item) (a .cell) push-item
+
+  push-held : Held s pushed own′
+  unfolding effectShared updated
+  push-held =
+      held-push s m pushed own own′ (g .held) t n c lt ut (a .some) (in-tree s m own g n (a .few)) (a .cell) (a .mine) (a .ended)
+      (λ d ne. upd-other (m .cell) c d _ ne) push-item (ap (λ z. z .next) (upd-same (m .cell) c _) ∙ a .onto) refl push-first
+      (λ y ne. ap (λ z. z .first) (upd-other (m .node) n y v ne)) gone still (a .proper) (a .least)
+
+  pub push-keeps : Mound s pushed own′
+  unfolding effectShared
+  push-keeps =
+      record {
+        held = push-held;
+        ordered =
+            push-ordered AtMost item-refl item-trans (val m) (val pushed) (λ y. m .node y .dirty) (λ y. pushed .node y .dirty) (g .ordered) n
+            (m .cell c .item) (λ y p ne. ap valueOf (push-others y p ne)) push-value push-dirty (a .least) (a .parent);
+        deep = λ y h.
+            let e = upd-other (m .node) n y v (λ z. omega (arith, h, z, a .few)) in
+            (ap (λ z. z .first) e ∙ g .deep y h .0, ap (λ z. z .dirty) e ∙ g .deep y h .1);
+        depth-least = g .depth-least;
+        depth-most = g .depth-most;
+      }
+
+  push-falls : Falls m pushed n
+  push-falls p e z =
+      (push-dirty n ∙ z, λ w h f. subst (AtMost w) (sym push-value) (item-trans w (val m (n / 2)) (m .cell c .item) f (a .parent (omega arith))))
+
+  push-depth : m .depth ≡ pushed .depth
+  unfolding effectShared
+  push-depth = refl
+
+  pub push-relies : Rely m pushed
+  unfolding updated
+  push-relies =
+      let up : pushed .node n .counter ≡ m .node n .counter + 1 = ap (λ y. y .counter) (push-node ∙ a .value) in
+      relies m pushed n n (omega (arith, push-depth)) up up (λ y p ne _. push-others y p ne) push-falls push-falls
+
+  pub push-counts : (i : Item) → counted s pushed i ≡ counted s m i + pick (sameItem i (m .cell c .item)) 1 0
+  unfolding effectShared updated
+  push-counts i =
+      counted-push s m pushed own own′ (g .held) t n c lt ut (a .some) (in-tree s m own g n (a .few)) (a .cell) (a .mine) (a .ended)
+      (λ d ne. upd-other (m .cell) c d _ ne) push-item (ap (λ z. z .next) (upd-same (m .cell) c _) ∙ a .onto) refl push-first
+      (λ y ne. ap (λ z. z .first) (upd-other (m .node) n y v ne)) gone still (a .proper) (a .least) i
+
+  -- own cells of other threads
+  pub push-own : (d : ℕ) → (d ≡ c → ⊥) → pushed .cell d ≡ m .cell d
+  unfolding effectShared
+  push-own d ne = upd-other (m .cell) c d _ ne
+
+-- Popping.
+module _ (s : Shape) (m : Shared) (own : ℕ → ℕ) (g : Mound s m own) (v : Node) (c : ℕ) (a : PopAsks m v c) where
+  abbrev popped : Shared
+  popped = effectShared m (Pop v c)
+
+  pop-others : (y : ℕ) → 1 ≤ y → (y ≡ 1 → ⊥) → readNode popped y ≡ readNode m y
+  unfolding effectShared
+  pop-others y p ne = read-same m popped y (upd-other (m .node) 1 y v ne) (upd-other (m .cell) c (m .node y .first) _ apart)
+    where
+      apart : m .node y .first ≡ c → ⊥
+      apart e =
+          let o₁ = first-owner s m own (g .held) y p (omega (arith, e, a .cell)) in
+          let o₂ = first-owner s m own (g .held) 1 (omega arith) (omega (arith, a .head, a .cell)) in
+          let k = ap (g .held .owner) (e ∙ sym (a .head)) in
+          ne (omega (arith, o₁, o₂, k))
+
+  pop-node : popped .node 1 ≡ v
+  unfolding effectShared
+  pop-node = upd-same (m .node) 1 v
+
+  pop-held : Held s popped own
+  unfolding effectShared updated
+  pop-held =
+      held-pop s m popped own (g .held) c (in-tree s m own g 1 (root-there s m own g)) (a .cell) (a .head) (λ d ne. upd-other (m .cell) c d _ ne)
+      (ap (λ z. z .next) (upd-same (m .cell) c _)) refl (ap (λ z. z .first) (pop-node ∙ a .value))
+      (λ y ne. ap (λ z. z .first) (upd-other (m .node) 1 y v ne))
+
+  pub pop-keeps : Mound s popped own
+  unfolding effectShared updated
+  pop-keeps =
+      record {
+        held = pop-held;
+        ordered =
+            pop-ordered AtMost item-refl item-trans (val m) (val popped) (λ y. m .node y .dirty) (λ y. popped .node y .dirty) (g .ordered)
+            (λ y p ne. ap valueOf (pop-others y p ne)) (λ y p ne. ap (λ z. z .dirty) (upd-other (m .node) 1 y v ne))
+            (ap (λ z. z .dirty) (pop-node ∙ a .value));
+        deep = λ y h.
+            let e = upd-other (m .node) 1 y v (λ z. omega (arith, h, z, root-there s m own g)) in
+            (ap (λ z. z .first) e ∙ g .deep y h .0, ap (λ z. z .dirty) e ∙ g .deep y h .1);
+        depth-least = g .depth-least;
+        depth-most = g .depth-most;
+      }
+
+  pub pop-relies : Rely m popped
+  unfolding effectShared updated
+  pop-relies =
+      let up : popped .node 1 .counter ≡ m .node 1 .counter + 1 = ap (λ y. y .counter) (pop-node ∙ a .value) in
+      relies m popped 1 1 (omega arith) up up (λ y p ne _. pop-others y p ne) (λ p e z. absurd (omega arith)) (λ p e z. absurd (omega arith))
+
+  pub pop-counts : (i : Item) → counted s m i ≡ counted s popped i + pick (sameItem i (m .cell c .item)) 1 0
+  unfolding effectShared updated
+  pop-counts i =
+      counted-pop s m popped own (g .held) c (in-tree s m own g 1 (root-there s m own g)) (a .cell) (a .head) (λ d ne. upd-other (m .cell) c d _ ne)
+      (ap (λ z. z .next) (upd-same (m .cell) c _)) refl (ap (λ z. z .first) (pop-node ∙ a .value))
+      (λ y ne. ap (λ z. z .first) (upd-other (m .node) 1 y v ne)) i
+
+  pub pop-own : (t : ℕ) → 1 ≤ own t → popped .cell (own t) ≡ m .cell (own t)
+  unfolding effectShared
+  pop-own t l = upd-other (m .cell) c (own t) _ apart
+    where
+      apart : own t ≡ c → ⊥
+      apart e =
+          let o₁ = own-owner s m own (g .held) t l in
+          let o₂ = first-owner s m own (g .held) 1 (omega arith) (omega (arith, a .head, a .cell)) in
+          let k = ap (g .held .owner) (e ∙ sym (a .head)) in
+          omega (arith, o₁, o₂, k)
+
+-- Exchanging the lists of node n and its child k, whose sibling is j.
+module _ (s : Shape) (m : Shared) (own : ℕ → ℕ) (g : Mound s m own) (n : ℕ) (v : Node) (k : ℕ) (w : Node) (j : ℕ)
+    (a : ExchangeAsks m n v k w j) where
+  abbrev swapped : Shared
+  swapped = effectShared m (Exchange n v k w)
+
+  apart : n ≡ k → ⊥
+  apart e = omega (arith, e, a .child, a .some)
+
+  at-k : swapped .node k ≡ updated (m .node k) (m .node n .first) 1
+  unfolding effectShared
+  at-k = upd-same (upd (m .node) n v) k w ∙ a .value-child
+
+  at-n : swapped .node n ≡ updated (m .node n) (m .node k .first) 0
+  unfolding effectShared
+  at-n = upd-other (upd (m .node) n v) k n w apart ∙ upd-same (m .node) n v ∙ a .value
+
+  at-x : (x : ℕ) → (x ≡ n → ⊥) → (x ≡ k → ⊥) → swapped .node x ≡ m .node x
+  unfolding effectShared
+  at-x x p q = upd-other (upd (m .node) n v) k x w q ∙ upd-other (m .node) n x v p
+
+  same-cells : swapped .cell ≡ m .cell
+  unfolding effectShared
+  same-cells = refl
+
+  value-by : (x y : ℕ) → swapped .node x .first ≡ m .node y .first → val swapped x ≡ val m y
+  unfolding valueOf readNode effectShared
+  value-by x y e = ap (valueAt (m .cell)) e
+
+  exchange-held : Held s swapped own
+  unfolding effectShared updated
+  exchange-held =
+      held-exchange s m swapped own (g .held) n k (a .some) (in-tree s m own g n (omega (arith, a .child, a .few))) (omega (arith, a .child, a .some))
+      (in-tree s m own g k (a .few)) apart refl refl (ap (λ z. z .first) at-n) (ap (λ z. z .first) at-k)
+      (λ x p q. ap (λ z. z .first) (at-x x p q))
+
+  pub exchange-keeps : Mound s swapped own
+  unfolding effectShared updated
+  exchange-keeps =
+      record {
+        held = exchange-held;
+        ordered =
+            exchange-ordered AtMost item-refl item-trans (val m) (val swapped) (λ y. m .node y .dirty) (λ y. swapped .node y .dirty) (g .ordered) n k j
+            (a .some) (a .child) (a .clean) (a .clean-sibling) (a .kids) (a .sibling) (a .less) (a .least)
+            (value-by n k (ap (λ z. z .first) at-n)) (value-by k n (ap (λ z. z .first) at-k))
+            (λ x p q. value-by x x (ap (λ z. z .first) (at-x x p q))) (ap (λ z. z .dirty) at-k) (λ x p q. ap (λ z. z .dirty) (at-x x p q));
+        deep = λ y h.
+            let e = at-x y (λ z. omega (arith, h, z, a .few, a .child)) (λ z. omega (arith, h, z, a .few)) in
+            (ap (λ z. z .first) e ∙ g .deep y h .0, ap (λ z. z .dirty) e ∙ g .deep y h .1);
+        depth-least = g .depth-least;
+        depth-most = g .depth-most;
+      }
+
+  pub exchange-relies : Rely m swapped
+  unfolding effectShared updated
+  exchange-relies =
+      let up-n : swapped .node n .counter ≡ m .node n .counter + 1 = ap (λ z. z .counter) at-n in
+      relies m swapped n k (omega arith) up-n (ap (λ z. z .counter) at-k) (λ x p q r. read-same m swapped x (at-x x q r) refl)
+      (λ p e z. absurd (omega (arith, z, a .dirty)))
+      (λ p e z. absurd (let h = subst (λ y. swapped .node y .counter ≡ m .node y .counter) (a .child) e in omega (arith, h, up-n)))
+
+  pub exchange-counts : (i : Item) → counted s swapped i ≡ counted s m i
+  unfolding effectShared updated
+  exchange-counts i =
+      counted-exchange s m swapped own (g .held) n k (a .some) (in-tree s m own g n (omega (arith, a .child, a .few))) (omega (arith, a .child, a .some))
+      (in-tree s m own g k (a .few)) apart refl refl (ap (λ z. z .first) at-n) (ap (λ z. z .first) at-k)
+      (λ x p q. ap (λ z. z .first) (at-x x p q)) i
+
+-- Cleaning.
+module _ (s : Shape) (m : Shared) (own : ℕ → ℕ) (g : Mound s m own) (n : ℕ) (v : Node) (a : CleanAsks m n v) where
+  abbrev cleaned : Shared
+  cleaned = effectShared m (Clean n v)
+
+  clean-node : cleaned .node n ≡ updated (m .node n) (m .node n .first) 0
+  unfolding effectShared
+  clean-node = upd-same (m .node) n v ∙ a .value
+
+  clean-other : (x : ℕ) → (x ≡ n → ⊥) → cleaned .node x ≡ m .node x
+  unfolding effectShared
+  clean-other x p = upd-other (m .node) n x v p
+
+  clean-first : (x : ℕ) → cleaned .node x .first ≡ m .node x .first
+  unfolding updated
+  clean-first x = go (ℕ-discrete x n)
+    where
+      go : Dec (x ≡ n) → cleaned .node x .first ≡ m .node x .first
+      go (yes e) = ap (λ z. cleaned .node z .first) e ∙ ap (λ z. z .first) clean-node ∙ ap (λ z. m .node z .first) (sym e)
+      go (no p) = ap (λ z. z .first) (clean-other x p)
+
+  clean-value : (x : ℕ) → val cleaned x ≡ val m x
+  unfolding valueOf readNode effectShared
+  clean-value x = ap (valueAt (m .cell)) (clean-first x)
+
+  pub clean-keeps : Mound s cleaned own
+  unfolding effectShared
+  clean-keeps =
+      record {
+        held = held-same s m cleaned own (g .held) refl refl clean-first;
+        ordered =
+            clean-ordered AtMost item-refl item-trans (val m) (val cleaned) (λ y. m .node y .dirty) (λ y. cleaned .node y .dirty) (g .ordered) n
+            (a .some) clean-value (λ x p q. ap (λ z. z .dirty) (clean-other x q)) (a .clean-left) (a .clean-right) (a .least-left) (a .least-right);
+        deep = λ y h.
+            let e = clean-other y (λ z. omega (arith, h, z, a .few)) in
+            (ap (λ z. z .first) e ∙ g .deep y h .0, ap (λ z. z .dirty) e ∙ g .deep y h .1);
+        depth-least = g .depth-least;
+        depth-most = g .depth-most;
+      }
+
+  pub clean-relies : Rely m cleaned
+  unfolding effectShared updated
+  clean-relies =
+      let up : cleaned .node n .counter ≡ m .node n .counter + 1 = ap (λ z. z .counter) clean-node in
+      relies m cleaned n n (omega arith) up up (λ x p q r. read-same m cleaned x (clean-other x q) refl)
+      (λ p e z. absurd (omega (arith, z, a .dirty))) (λ p e z. absurd (omega (arith, z, a .dirty)))
+
+  pub clean-counts : (i : Item) → counted s cleaned i ≡ counted s m i
+  unfolding effectShared
+  clean-counts i = counted-same s m cleaned own (g .held) refl refl clean-first i
+
+-- A put begins.
+module _ (s : Shape) (m m′ : Shared) (own own′ : ℕ → ℕ) (g : Mound s m own) (t c : ℕ) (lt : 1 ≤ t) (ut : t ≤ s .threads) (some : 1 ≤ c)
+    (free : m .free ≡ c) (none : own t ≡ 0) (others : (d : ℕ) → (d ≡ c → ⊥) → m′ .cell d ≡ m .cell d) (ended : m′ .cell c .next ≡ 0)
+    (left : m′ .free ≡ m .cell c .next) (nodes : m′ .node ≡ m .node) (depth : m′ .depth ≡ m .depth) (now : own′ t ≡ c)
+    (still : (u : ℕ) → (u ≡ t → ⊥) → own′ u ≡ own u) where
+  begin-reads : (y : ℕ) → 1 ≤ y → readNode m′ y ≡ readNode m y
+  begin-reads y p = read-same m m′ y (ap (λ f. f y) nodes) (others (m .node y .first) apart-free)
+    where
+      apart-free : m .node y .first ≡ c → ⊥
+      apart-free e =
+          let o₁ = first-owner s m own (g .held) y p (omega (arith, e, some)) in
+          let o₂ = free-owner s m own (g .held) (omega (arith, free, some)) in
+          let k = ap (g .held .owner) (e ∙ sym free) in
+          omega (arith, o₁, o₂, k)
+
+  pub begin-relies : Rely m m′
+  begin-relies = rely-same m m′ (omega (arith, depth)) begin-reads
+
+  pub begin-keeps : Mound s m′ own′
+  begin-keeps =
+      record {
+        held = held-begin s m m′ own own′ (g .held) t c lt ut some free none others ended left nodes now still;
+        ordered = λ a x p h z.
+            subst₂ (λ u w. AtMost u w) (sym (ap valueOf (begin-reads a p))) (sym (ap valueOf (begin-reads x (omega (arith, p, above-le a x h)))))
+            (g .ordered a x p h (ap (λ f. f a .dirty) (sym nodes) ∙ z));
+        deep = λ y h.
+            let d = g .deep y (subst (λ k. 2 ^ k ≤ y) depth h) in
+            (ap (λ f. f y .first) nodes ∙ d .0, ap (λ f. f y .dirty) nodes ∙ d .1);
+        depth-least = omega (arith, depth, g .depth-least);
+        depth-most = omega (arith, depth, g .depth-most);
+      }
+
+  pub begin-counts : (i : Item) → counted s m′ i ≡ counted s m i
+  begin-counts i = counted-begin s m m′ own own′ (g .held) t c lt ut some free none others ended left nodes now still i
+
+  pub begin-own : (u : ℕ) → 1 ≤ own u → m′ .cell (own u) ≡ m .cell (own u)
+  begin-own u l = others (own u) apart-own
+    where
+      apart-own : own u ≡ c → ⊥
+      apart-own e =
+          let o₁ = own-owner s m own (g .held) u l in
+          let o₂ = free-owner s m own (g .held) (omega (arith, free, some)) in
+          let k = ap (g .held .owner) (e ∙ sym free) in
+          omega (arith, o₁, o₂, k)
