@@ -81,7 +81,7 @@ module _ (s : Shape) (r : InRange s) where
   pub cell-fit : (v : Cell) → CellGood (s .cells) v → Fit (cellWords v)
   cell-fit v h = (h .key, (omega (arith, h .tag), (omega (arith, h .next, few-cells), tt)))
 
-  fits-of : (b : List ℕ) → SharedGood s (sharedIn (frameOf s) b) → (e : Effect) → EffectGood s e → EffectFits (frameOf s) b e
+  pub fits-of : (b : List ℕ) → SharedGood s (sharedIn (frameOf s) b) → (e : Effect) → EffectGood s e → EffectFits (frameOf s) b e
   unfolding frameOf sharedIn
   fits-of b g Nothing h = tt
   fits-of b g (Grow d) h = omega (arith, h .1, r .depth-most)
@@ -108,7 +108,7 @@ unfolding frameOf
 thread-elsewhere s j h =
     record { nodes = inr (omega arith); cells = inr (omega arith); depth = λ e. omega arith; free = λ e. omega arith }
 
-frame-cells : (s : Shape) → InRange s → frameOf s .shape .cells < 2 ^ 32
+pub frame-cells : (s : Shape) → InRange s → frameOf s .shape .cells < 2 ^ 32
 unfolding frameOf
 frame-cells s r = few-cells s r
 

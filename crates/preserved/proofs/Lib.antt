@@ -1,5 +1,5 @@
 -- What turns and beginnings preserve.
-mod EffectsGood
-mod PlansGood
+pub mod EffectsGood
+pub mod PlansGood
 pub mod Proved
-mod TreeLevels
+pub mod TreeLevels

@@ -67,7 +67,7 @@ module _ (s : Shape) (r : InRange s) (m : Shared) (sm : SharedGood s m) (t : Thr
   at-place (MendSwap w) h = mendSwap-good s r m sm t gt w h
   at-place (MendClean w) h = mendClean-good s r m sm t gt w h
 
-  decided : PlanGood s (decide s m t c)
+  pub decided : PlanGood s (decide s m t c)
   unfolding decide
   decided = at-place (t .place) (gt .place)
 
@@ -85,7 +85,7 @@ refused-stays f b t v n = refl
 
 -- A turn, of a thread that exists or not.
 module _ (s : Shape) (b : List ℕ) (g : Good s b) (t c : ℕ) where
-  turn-good : Good s (turnBytes (frameOf s) b t c)
+  pub turn-good : Good s (turnBytes (frameOf s) b t c)
   unfolding turnBytes turnPlan frameOf
   turn-good =
       pick-good (λ p. Good s (carriedOut (frameOf s) b t p)) (between 1 t (s .threads))
@@ -112,12 +112,12 @@ in-order true a n h e = (refl, e)
 in-order false a n h e = absurd (h e)
 
 module _ (b : List ℕ) (t : ℕ) where
-  take-thread : takeRefusal b t ≡ done → between 1 t (shapeIn b .threads) ≡ true
+  pub take-thread : takeRefusal b t ≡ done → between 1 t (shapeIn b .threads) ≡ true
   unfolding takeRefusal
   take-thread e =
       in-order (between 1 t (shapeIn b .threads)) _ 3 (λ z. omega arith) (in-order (readable b) _ 7 (λ z. omega arith) e .1) .0
 
-  take-good : Good (shapeIn b) b → Good (shapeIn b) (takeBytes b t)
+  pub take-good : Good (shapeIn b) b → Good (shapeIn b) (takeBytes b t)
   unfolding takeBytes
   take-good g =
       pick-good (Good (shapeIn b)) (eqb (takeRefusal b t) done)
@@ -248,10 +248,10 @@ unfolding upd pick
 other h t u v n = rw (ne-eqb u t n) refl
 
 module _ (s : Shape) (b : List ℕ) (g : Good s b) where
-  within-effect : (e : Effect) → Within (frameOf s) (length (effectBytes (frameOf s) b e))
+  pub within-effect : (e : Effect) → Within (frameOf s) (length (effectBytes (frameOf s) b e))
   within-effect e = subst (Within (frameOf s)) (sym (length-effect (frameOf s) b e)) (good-within s b g)
 
-  effect-threads : (e : Effect) → threadIn (frameOf s) (effectBytes (frameOf s) b e) ≡ threadIn (frameOf s) b
+  pub effect-threads : (e : Effect) → threadIn (frameOf s) (effectBytes (frameOf s) b e) ≡ threadIn (frameOf s) b
   unfolding frameOf
   effect-threads e =
       threads-kept (frameOf s) b (good-within s b g) (effectBytes (frameOf s) b e) λ j l u.

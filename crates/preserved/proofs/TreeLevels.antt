@@ -14,7 +14,7 @@ use Rattle.moundify.specs.Moundify.{marked}
 use Rattle.readable.proofs.Stores.{WaitsAbove}
 
 -- a number between 2^(j−1) and 2^j has level j
-level-unique : (x j : ℕ) → 1 ≤ j → 2 ^ (j - 1) ≤ x → x < 2 ^ j → x < 2 ^ 32 → level x ≡ j
+pub level-unique : (x j : ℕ) → 1 ≤ j → 2 ^ (j - 1) ≤ x → x < 2 ^ j → x < 2 ^ 32 → level x ≡ j
 level-unique x j p lo hi fits = go (decLt (level x) j) (decLt j (level x))
   where
     some : 1 ≤ x
@@ -70,10 +70,10 @@ level-some (suc k) j a = omega arith
 
 -- the ancestor at the deepest waiting level, with that level's mark cleared
 module _ (n w : ℕ) (few : n < 2 ^ 32) (nw : w ≡ 0 → ⊥) (h : WaitsAbove n w) where
-  fits : w < 2 ^ 32
+  pub fits : w < 2 ^ 32
   fits = omega (arith, h, pow-mono {i = level n - 1} {j = 31} (omega (arith, level-most n)))
 
-  above : level w < level n
+  pub above : level w < level n
   above = go (decLt (level w) (level n))
     where
       go : Dec (level w < level n) → level w < level n

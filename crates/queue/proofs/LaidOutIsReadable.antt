@@ -25,26 +25,26 @@ module _ (s : Shape) (ps b : List ℕ) (e : layoutRefusal s ps (length b) ≡ do
   r : InRange s
   r = laid-shape s ps b e
 
-  laid : List ℕ
+  abbrev laid : List ℕ
   laid = layoutBytes s ps b
 
   -- the words of each part
-  header : (k : ℕ) → k < 6 → word laid k ≡ getD (s .depth ∷ s .cells ∷ s .threads ∷ s .threshold ∷ 1 ∷ 1 ∷ []) k 0
-  unfolding laid laidWord pick regionWords
+  pub header : (k : ℕ) → k < 6 → word laid k ≡ getD (s .depth ∷ s .cells ∷ s .threads ∷ s .threshold ∷ 1 ∷ 1 ∷ []) k 0
+  unfolding laidWord pick regionWords
   header k h = laid-word s ps b e k (omega arith) ∙ rw (lt-ltb k 6 h) refl
 
-  node-word : (k : ℕ) → 6 ≤ k → k < frameOf s .cells → word laid k ≡ 0
-  unfolding laid laidWord pick regionWords frameOf
+  pub node-word : (k : ℕ) → 6 ≤ k → k < frameOf s .cells → word laid k ≡ 0
+  unfolding laidWord pick regionWords frameOf
   node-word k l u = laid-word s ps b e k (omega arith) ∙ rw (le-ltb k 6 l, lt-ltb k (frameOf s .cells) u) refl
 
-  cell-word : (k : ℕ) → frameOf s .cells ≤ k → k < frameOf s .threads → word laid k ≡ cellWord (s .cells) (k - frameOf s .cells)
-  unfolding laid laidWord pick regionWords frameOf
+  pub cell-word : (k : ℕ) → frameOf s .cells ≤ k → k < frameOf s .threads → word laid k ≡ cellWord (s .cells) (k - frameOf s .cells)
+  unfolding laidWord pick regionWords frameOf
   cell-word k l u =
       laid-word s ps b e k (omega arith)
       ∙ rw (le-ltb k 6 (omega arith), le-ltb k (frameOf s .cells) l, lt-ltb k (frameOf s .threads) u) refl
 
-  thread-word : (k : ℕ) → frameOf s .threads ≤ k → k < regionWords s → word laid k ≡ threadWord ps (k - frameOf s .threads)
-  unfolding laid laidWord pick frameOf
+  pub thread-word : (k : ℕ) → frameOf s .threads ≤ k → k < regionWords s → word laid k ≡ threadWord ps (k - frameOf s .threads)
+  unfolding laidWord pick frameOf
   thread-word k l u =
       laid-word s ps b e k u
       ∙ rw
@@ -122,7 +122,7 @@ module _ (s : Shape) (ps b : List ℕ) (e : layoutRefusal s ps (length b) ≡ do
       nodes-pass)
       cells-pass
 
-  same-shape : shapeIn laid ≡ s
+  pub same-shape : shapeIn laid ≡ s
   same-shape = λ i. record {
     depth = header 0 (omega arith) i;
     cells = header 1 (omega arith) i;
@@ -131,7 +131,7 @@ module _ (s : Shape) (ps b : List ℕ) (e : layoutRefusal s ps (length b) ≡ do
   }
 
   laid-readable : readable laid ≡ true
-  unfolding readable fieldsReadable laid
+  unfolding readable fieldsReadable
   laid-readable =
       subst⁻¹
       (λ x. shapeFits x && eqb (length laid) (4 * regionWords x) && fieldsReadable x laid ≡ true)
@@ -141,5 +141,4 @@ module _ (s : Shape) (ps b : List ℕ) (e : layoutRefusal s ps (length b) ≡ do
       (and-both tree-pass threads-pass))
 
 pub laid-out-is-readable : LaidOutIsReadable
-unfolding laid
 laid-out-is-readable = laid-readable
