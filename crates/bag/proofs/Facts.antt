@@ -3,7 +3,7 @@
 use Prim.Native.Nat.{ℕ, _+_, _*_, _/_, _^_, _≤_, _<_}
 use native.Mathlib.Omega.{arith}
 use mathlib.Core.Path.{_≡_, refl, sym, ap, subst, _∙_}
-use mathlib.Core.Bool.{Bool}
+use mathlib.Core.Bool.{true, false}
 use lib.Dec.{eqb}
 use lib.Pow.{pow-mono}
 use Rattle.region.specs.Level.{level}
@@ -14,9 +14,10 @@ use Rattle.region.specs.declared.place.Place.the-variants.{Idle, ReadDepth, Rea
 use Rattle.region.specs.declared.record.Item.{Item}
 use Rattle.region.specs.declared.record.NodeCopy.{NodeCopy}
 use Rattle.region.specs.declared.shape.Shape.{Shape}
+use Rattle.region.specs.declared.thread.Copies.{Copies}
 use Rattle.region.specs.declared.thread.Search.{Search}
 use Rattle.region.specs.declared.thread.Thread.{Thread}
-use Rattle.access.specs.Order.{valueOf}
+use Rattle.access.specs.Order.{itemLe, valueOf}
 use Rattle.access.specs.Read.{readNode}
 use Rattle.bag.specs.Ledger.{Operation, none, putting, taking, holding}
 use Rattle.bag.proofs.Effects.{Rely}
@@ -40,111 +41,116 @@ AnyValue v = Unit
 abbrev pub UpTo : NodeCopy → Item → Type 0
 UpTo k v = AtMost v (valueOf k)
 
--- a put that has not decided
-pub record Putting (m : Shared) (t : Thread) (op : Operation) : Type 0 where
-  pub operation : op ≡ putting (t .item)
-  pub permission : 1 ≤ t .permission
-  pub own : 1 ≤ t .own
-  pub item : m .cell (t .own) .item ≡ t .item
-  pub ended : m .cell (t .own) .next ≡ 0
-  pub proper : Proper (t .item)
+-- The facts name the fields that they speak of, so that a step that leaves these leaves the fact.
 
--- a take that has not decided and is not mending
-pub record Taking (t : Thread) (op : Operation) : Type 0 where
-  pub operation : op ≡ taking
-  pub permission : 1 ≤ t .permission
-  pub own : t .own ≡ 0
+-- a put of item i that has not decided; `own` is its cell
+pub record Putting (m : Shared) (permission own : ℕ) (i : Item) (op : Operation) : Type 0 where
+  pub operation : op ≡ putting i
+  pub permitted : 1 ≤ permission
+  pub some : 1 ≤ own
+  pub item : m .cell own .item ≡ i
+  pub ended : m .cell own .next ≡ 0
+  pub proper : Proper i
+
+-- a take that has no cell, and is at this point
+pub record Taking (permission own : ℕ) (at op : Operation) : Type 0 where
+  pub operation : op ≡ at
+  pub permitted : 1 ≤ permission
+  pub none : own ≡ 0
 
 -- the operation of a thread that mends: by after
-abbrev pub mendingFor : Thread → Operation
-mendingFor t = pick (eqb (t .after) 0) taking (holding (t .result))
+abbrev pub mendingFor : ℕ → Item → Operation
+mendingFor after result = pick (eqb after 0) taking (holding result)
 
-pub record Mending (m : Shared) (t : Thread) (op : Operation) : Type 0 where
-  pub operation : op ≡ mendingFor t
-  pub permission : 1 ≤ t .permission
-  pub own : t .own ≡ 0
-  pub some : 1 ≤ t .node
-  pub few : t .node < 2 ^ m .depth
+-- node n exists and is no deeper than the present depth
+abbrev pub InTree : Shared → ℕ → Type 0
+InTree m n = (1 ≤ n) × (n < 2 ^ m .depth)
 
 -- a level that was read
-abbrev pub LevelRead : Shared → Thread → Type 0
-LevelRead m t = (1 ≤ t .depth) × (t .depth ≤ m .depth)
+abbrev pub LevelRead : Shared → ℕ → Type 0
+LevelRead m d = (1 ≤ d) × (d ≤ m .depth)
 
 -- the search above a leaf of the tree
 pub record Searching (m : Shared) (x : Search) : Type 0 where
   pub lo : 1 ≤ x .lo
   pub below : x .lo < x .hi
   pub hi : x .hi ≤ level (x .leaf)
-  pub leaf : 1 ≤ x .leaf
-  pub few : x .leaf < 2 ^ m .depth
+  pub leaf : InTree m (x .leaf)
 
--- the node that a put aims at, read as no less than its item
-pub record Target (m : Shared) (t : Thread) (n : ℕ) : Type 0 where
-  pub sound : Sound m n (t .copies .first)
-  pub least : AtMost (t .item) (valueOf (t .copies .first))
+-- node n, which a put of i aims at, read as no less than i
+pub record Target (m : Shared) (n : ℕ) (i : Item) (q : NodeCopy) : Type 0 where
+  pub sound : Sound m n q
+  pub least : AtMost i (valueOf q)
 
-pub record Below (m : Shared) (t : Thread) : Type 0 where
-  pub target : Target m t (t .node)
-  pub some : 2 ≤ t .node
-  pub few : t .node < 2 ^ m .depth
+-- its parent, read as no greater
+pub record Parent (m : Shared) (n : ℕ) (i : Item) (q : NodeCopy) : Type 0 where
+  pub sound : Sound m (n / 2) q
+  pub most : AtMost (valueOf q) i
 
-pub record Parent (m : Shared) (t : Thread) : Type 0 where
-  pub sound : Sound m (t .node / 2) (t .copies .second)
-  pub most : AtMost (valueOf (t .copies .second)) (t .item)
+-- the root, read as clean and not empty
+pub record RootRead (m : Shared) (q : NodeCopy) : Type 0 where
+  pub sound : Sound m 1 q
+  pub clean : q .node .dirty ≡ 0
+  pub some : 1 ≤ q .node .first
 
-pub record RootRead (m : Shared) (t : Thread) : Type 0 where
-  pub sound : Sound m 1 (t .copies .first)
-  pub clean : t .copies .first .node .dirty ≡ 0
-  pub some : 1 ≤ t .copies .first .node .first
+-- the node that is mended, read as dirty; `Inner`: its children are in the tree
+pub record Dirty (m : Shared) (n : ℕ) (q : NodeCopy) : Type 0 where
+  pub sound : Sound m n q
+  pub dirty : 1 ≤ q .node .dirty
 
--- the node that is mended, read as dirty, with its children in the tree
-pub record Dirty (m : Shared) (t : Thread) : Type 0 where
-  pub sound : Sound m (t .node) (t .copies .first)
-  pub dirty : 1 ≤ t .copies .first .node .dirty
+abbrev pub Inner : Shared → ℕ → NodeCopy → Type 0
+Inner m n q = Dirty m n q × (2 * n + 1 < 2 ^ m .depth)
 
-abbrev pub Inner : Shared → Thread → Type 0
-Inner m t = Dirty m t × (2 * t .node + 1 < 2 ^ m .depth)
-
--- a child's copy, and what holds where it was read clean
-pub record ChildRead (m : Shared) (t : Thread) (c : ℕ) (k : NodeCopy) : Type 0 where
+-- copy k of child c of node n, and what holds where it was read clean
+pub record ChildRead (m : Shared) (n : ℕ) (q : NodeCopy) (c : ℕ) (k : NodeCopy) : Type 0 where
   pub sound : Sound m c k
-  pub child : k .node .dirty ≡ 0 → Child m (t .node) (t .copies .first) c (UpTo k)
+  pub child : k .node .dirty ≡ 0 → Child m n q c (UpTo k)
 
 -- both children read clean, the lesser of them less than the node
-pub record Swappable (m : Shared) (t : Thread) : Type 0 where
-  pub left : ChildRead m t (2 * t .node) (t .copies .second)
-  pub right : ChildRead m t (2 * t .node + 1) (t .copies .third)
-  pub clean-left : t .copies .second .node .dirty ≡ 0
-  pub clean-right : t .copies .third .node .dirty ≡ 0
-  pub less-left : AtMost (valueOf (t .copies .second)) (valueOf (t .copies .third))
-      → AtMost (valueOf (t .copies .second)) (valueOf (t .copies .first))
-  pub less-right : (AtMost (valueOf (t .copies .second)) (valueOf (t .copies .third)) → ⊥)
-      → AtMost (valueOf (t .copies .third)) (valueOf (t .copies .first))
+pub record Swappable (m : Shared) (n : ℕ) (c : Copies) : Type 0 where
+  pub left : ChildRead m n (c .first) (2 * n) (c .second)
+  pub right : ChildRead m n (c .first) (2 * n + 1) (c .third)
+  pub clean-left : c .second .node .dirty ≡ 0
+  pub clean-right : c .third .node .dirty ≡ 0
+  pub less-left : itemLe (valueOf (c .second)) (valueOf (c .third)) ≡ true → AtMost (valueOf (c .second)) (valueOf (c .first))
+  pub less-right : itemLe (valueOf (c .second)) (valueOf (c .third)) ≡ false → AtMost (valueOf (c .third)) (valueOf (c .first))
 
 -- while the node is as in its copy, its children are clean and no less
-pub record Mended (m : Shared) (t : Thread) : Type 0 where
-  pub left : Child m (t .node) (t .copies .first) (2 * t .node) AnyValue
-  pub right : Child m (t .node) (t .copies .first) (2 * t .node + 1) AnyValue
+pub record Mended (m : Shared) (n : ℕ) (q : NodeCopy) : Type 0 where
+  pub left : Child m n q (2 * n) AnyValue
+  pub right : Child m n q (2 * n + 1) AnyValue
+
+abbrev pub Puts : Shared → Thread → Operation → Type 0
+Puts m t op = Putting m (t .permission) (t .own) (t .item) op
+
+abbrev pub Takes : Thread → Operation → Operation → Type 0
+Takes t at op = Taking (t .permission) (t .own) at op
+
+abbrev pub Mends : Shared → Thread → Operation → Type 0
+Mends m t op = Takes t (mendingFor (t .after) (t .result)) op × InTree m (t .node)
 
 -- what holds at each place
 abbrev pub At : Shape → Shared → Thread → Operation → Place → Type 0
 At s m t op Idle = (op ≡ none) × (t .own ≡ 0)
-At s m t op ReadDepth = Putting m t op
-At s m t op ReadLeaf = Putting m t op × LevelRead m t
-At s m t op ReadAncestor = Putting m t op × Searching m (t .search)
-At s m t op GrowDepth = Putting m t op × LevelRead m t × (t .depth < s .depth)
-At s m t op ReadTarget = Putting m t op × (1 ≤ t .node) × (t .node < 2 ^ m .depth)
-At s m t op InsertAtRoot = Putting m t op × Target m t 1
-At s m t op ReadParent = Putting m t op × Below m t
-At s m t op InsertBelow = Putting m t op × Below m t × Parent m t
-At s m t op ReadRoot = Taking t op
-At s m t op RemoveHead = Taking t op × RootRead m t
-At s m t op (MendReadNode w) = Mending m t op
-At s m t op (MendReadDepth w) = Mending m t op × Sound m (t .node) (t .copies .first)
-At s m t op (MendReadLeft w) = Mending m t op × Inner m t
-At s m t op (MendReadRight w) = Mending m t op × Inner m t × ChildRead m t (2 * t .node) (t .copies .second)
-At s m t op (MendSwap w) = Mending m t op × Inner m t × Swappable m t
-At s m t op (MendClean w) = Mending m t op × Dirty m t × Mended m t
+At s m t op ReadDepth = Puts m t op
+At s m t op ReadLeaf = Puts m t op × LevelRead m (t .depth)
+At s m t op ReadAncestor = Puts m t op × Searching m (t .search)
+At s m t op GrowDepth = Puts m t op × LevelRead m (t .depth) × (t .depth < s .depth)
+At s m t op ReadTarget = Puts m t op × InTree m (t .node)
+At s m t op InsertAtRoot = Puts m t op × Target m 1 (t .item) (t .copies .first)
+At s m t op ReadParent = Puts m t op × InTree m (t .node) × (2 ≤ t .node) × Target m (t .node) (t .item) (t .copies .first)
+At s m t op InsertBelow =
+    Puts m t op × InTree m (t .node) × (2 ≤ t .node) × Target m (t .node) (t .item) (t .copies .first)
+    × Parent m (t .node) (t .item) (t .copies .second)
+At s m t op ReadRoot = Takes t taking op
+At s m t op RemoveHead = Takes t taking op × RootRead m (t .copies .first)
+At s m t op (MendReadNode w) = Mends m t op
+At s m t op (MendReadDepth w) = Mends m t op × Sound m (t .node) (t .copies .first)
+At s m t op (MendReadLeft w) = Mends m t op × Inner m (t .node) (t .copies .first)
+At s m t op (MendReadRight w) =
+    Mends m t op × Inner m (t .node) (t .copies .first) × ChildRead m (t .node) (t .copies .first) (2 * t .node) (t .copies .second)
+At s m t op (MendSwap w) = Mends m t op × Inner m (t .node) (t .copies .first) × Swappable m (t .node) (t .copies)
+At s m t op (MendClean w) = Mends m t op × Dirty m (t .node) (t .copies .first) × Mended m (t .node) (t .copies .first)
 
 pub sound-read : (m : Shared) (n : ℕ) → Sound m n (readNode m n)
 unfolding readNode
@@ -182,112 +188,102 @@ module _ (m m′ : Shared) (r : Rely m m′) where
             now .1 v (old .1 v g l′) (subst (λ y. AtMost v (val m y)) (sym ec) l′),
       )
 
+  in-tree-stays : (n : ℕ) → InTree m n → InTree m′ n
+  in-tree-stays n h = (h .0, deeper n (h .1))
+
+  level-stays : (d : ℕ) → LevelRead m d → LevelRead m′ d
+  level-stays d h = (h .0, omega (arith, h .1, r .depth))
+
+  target-stays : (n : ℕ) (i : Item) (q : NodeCopy) → 1 ≤ n → Target m n i q → Target m′ n i q
+  target-stays n i q p h = record { sound = sound-stays n q p (h .sound); least = h .least }
+
+  dirty-stays : (n : ℕ) (q : NodeCopy) → 1 ≤ n → Dirty m n q → Dirty m′ n q
+  dirty-stays n q p h = record { sound = sound-stays n q p (h .sound); dirty = h .dirty }
+
+  inner-stays : (n : ℕ) (q : NodeCopy) → 1 ≤ n → Inner m n q → Inner m′ n q
+  inner-stays n q p h = (dirty-stays n q p (h .0), deeper (2 * n + 1) (h .1))
+
+  child-read-stays : (n : ℕ) (q : NodeCopy) (c : ℕ) (k : NodeCopy) → 1 ≤ n → c / 2 ≡ n → Sound m n q → ChildRead m n q c k → ChildRead m′ n q c k
+  child-read-stays n q c k p ec h g =
+      record { sound = sound-stays c k (omega arith) (g .sound); child = λ z. child-stays n q c (UpTo k) p ec h (g .child z) }
+
+  swappable-stays : (n : ℕ) (c : Copies) → 1 ≤ n → Sound m n (c .first) → Swappable m n c → Swappable m′ n c
+  swappable-stays n c p h g =
+      record {
+        left = child-read-stays n (c .first) (2 * n) (c .second) p (omega arith) h (g .left);
+        right = child-read-stays n (c .first) (2 * n + 1) (c .third) p (omega arith) h (g .right);
+        clean-left = g .clean-left;
+        clean-right = g .clean-right;
+        less-left = g .less-left;
+        less-right = g .less-right;
+      }
+
+  mended-stays : (n : ℕ) (q : NodeCopy) → 1 ≤ n → Sound m n q → Mended m n q → Mended m′ n q
+  mended-stays n q p h g =
+      record {
+        left = child-stays n q (2 * n) AnyValue p (omega arith) h (g .left);
+        right = child-stays n q (2 * n + 1) AnyValue p (omega arith) h (g .right);
+      }
+
   module _ (t : Thread) (op : Operation) (kept : 1 ≤ t .own → m′ .cell (t .own) ≡ m .cell (t .own)) where
-    putting-stays : Putting m t op → Putting m′ t op
-    putting-stays h =
+    puts-stay : Puts m t op → Puts m′ t op
+    puts-stay h =
         record {
           operation = h .operation;
-          permission = h .permission;
-          own = h .own;
-          item = ap (λ c. c .item) (kept (h .own)) ∙ h .item;
-          ended = ap (λ c. c .next) (kept (h .own)) ∙ h .ended;
+          permitted = h .permitted;
+          some = h .some;
+          item = ap (λ c. c .item) (kept (h .some)) ∙ h .item;
+          ended = ap (λ c. c .next) (kept (h .some)) ∙ h .ended;
           proper = h .proper;
         }
 
-    mending-stays : Mending m t op → Mending m′ t op
-    mending-stays h =
-        record { operation = h .operation; permission = h .permission; own = h .own; some = h .some; few = deeper (t .node) (h .few) }
-
-    level-stays : LevelRead m t → LevelRead m′ t
-    level-stays h = (h .0, omega (arith, h .1, r .depth))
-
-    target-stays : (n : ℕ) → 1 ≤ n → Target m t n → Target m′ t n
-    target-stays n p h = record { sound = sound-stays n (t .copies .first) p (h .sound); least = h .least }
-
-    below-stays : Below m t → Below m′ t
-    below-stays h =
-        record {
-          target = target-stays (t .node) (omega (arith, h .some)) (h .target);
-          some = h .some;
-          few = deeper (t .node) (h .few);
-        }
-
-    dirty-stays : 1 ≤ t .node → Dirty m t → Dirty m′ t
-    dirty-stays p h = record { sound = sound-stays (t .node) (t .copies .first) p (h .sound); dirty = h .dirty }
-
-    inner-stays : 1 ≤ t .node → Inner m t → Inner m′ t
-    inner-stays p h = (dirty-stays p (h .0), deeper (2 * t .node + 1) (h .1))
-
-    child-read-stays : (c : ℕ) (k : NodeCopy) → 1 ≤ t .node → c / 2 ≡ t .node → Sound m (t .node) (t .copies .first) → ChildRead m t c k
-        → ChildRead m′ t c k
-    child-read-stays c k p ec h g =
-        record {
-          sound = sound-stays c k (omega arith) (g .sound);
-          child = λ z. child-stays (t .node) (t .copies .first) c (UpTo k) p ec h (g .child z);
-        }
-
-    left-child : (2 * t .node) / 2 ≡ t .node
-    left-child = omega arith
-
-    right-child : (2 * t .node + 1) / 2 ≡ t .node
-    right-child = omega arith
+    mends-stay : Mends m t op → Mends m′ t op
+    mends-stay h = (h .0, in-tree-stays (t .node) (h .1))
 
     pub stays : (s : Shape) (p : Place) → At s m t op p → At s m′ t op p
     stays s Idle h = h
-    stays s ReadDepth h = putting-stays h
-    stays s ReadLeaf h = (putting-stays (h .0), level-stays (h .1))
+    stays s ReadDepth h = puts-stay h
+    stays s ReadLeaf h = (puts-stay (h .0), level-stays (t .depth) (h .1))
     stays s ReadAncestor h = (
-      putting-stays (h .0),
-      record {
-        lo = h .1 .lo;
-        below = h .1 .below;
-        hi = h .1 .hi;
-        leaf = h .1 .leaf;
-        few = deeper (t .search .leaf) (h .1 .few);
-      },
+      puts-stay (h .0),
+      record { lo = h .1 .lo; below = h .1 .below; hi = h .1 .hi; leaf = in-tree-stays (t .search .leaf) (h .1 .leaf) },
     )
-    stays s GrowDepth h = (putting-stays (h .0), level-stays (h .1), h .2)
-    stays s ReadTarget h = (putting-stays (h .0), h .1, deeper (t .node) (h .2))
-    stays s InsertAtRoot h = (putting-stays (h .0), target-stays 1 (omega arith) (h .1))
-    stays s ReadParent h = (putting-stays (h .0), below-stays (h .1))
+    stays s GrowDepth h = (puts-stay (h .0), level-stays (t .depth) (h .1), h .2)
+    stays s ReadTarget h = (puts-stay (h .0), in-tree-stays (t .node) (h .1))
+    stays s InsertAtRoot h = (puts-stay (h .0), target-stays 1 (t .item) (t .copies .first) (omega arith) (h .1))
+    stays s ReadParent h = (
+      puts-stay (h .0),
+      in-tree-stays (t .node) (h .1),
+      h .2,
+      target-stays (t .node) (t .item) (t .copies .first) (h .1 .0) (h .3),
+    )
     stays s InsertBelow h = (
-      putting-stays (h .0),
-      below-stays (h .1),
-      record {
-        sound = sound-stays (t .node / 2) (t .copies .second) (omega (arith, h .1 .some)) (h .2 .sound);
-        most = h .2 .most;
-      },
+      puts-stay (h .0),
+      in-tree-stays (t .node) (h .1),
+      h .2,
+      target-stays (t .node) (t .item) (t .copies .first) (h .1 .0) (h .3),
+      record { sound = sound-stays (t .node / 2) (t .copies .second) (omega (arith, h .2)) (h .4 .sound); most = h .4 .most },
     )
     stays s ReadRoot h = h
     stays s RemoveHead h = (
       h .0,
       record { sound = sound-stays 1 (t .copies .first) (omega arith) (h .1 .sound); clean = h .1 .clean; some = h .1 .some },
     )
-    stays s (MendReadNode w) h = mending-stays h
-    stays s (MendReadDepth w) h = (mending-stays (h .0), sound-stays (t .node) (t .copies .first) (h .0 .some) (h .1))
-    stays s (MendReadLeft w) h = (mending-stays (h .0), inner-stays (h .0 .some) (h .1))
+    stays s (MendReadNode w) h = mends-stay h
+    stays s (MendReadDepth w) h = (mends-stay (h .0), sound-stays (t .node) (t .copies .first) (h .0 .1 .0) (h .1))
+    stays s (MendReadLeft w) h = (mends-stay (h .0), inner-stays (t .node) (t .copies .first) (h .0 .1 .0) (h .1))
     stays s (MendReadRight w) h = (
-      mending-stays (h .0),
-      inner-stays (h .0 .some) (h .1),
-      child-read-stays (2 * t .node) (t .copies .second) (h .0 .some) left-child (h .1 .0 .sound) (h .2),
+      mends-stay (h .0),
+      inner-stays (t .node) (t .copies .first) (h .0 .1 .0) (h .1),
+      child-read-stays (t .node) (t .copies .first) (2 * t .node) (t .copies .second) (h .0 .1 .0) (omega arith) (h .1 .0 .sound) (h .2),
     )
     stays s (MendSwap w) h = (
-      mending-stays (h .0),
-      inner-stays (h .0 .some) (h .1),
-      record {
-        left = child-read-stays (2 * t .node) (t .copies .second) (h .0 .some) left-child (h .1 .0 .sound) (h .2 .left);
-        right = child-read-stays (2 * t .node + 1) (t .copies .third) (h .0 .some) right-child (h .1 .0 .sound) (h .2 .right);
-        clean-left = h .2 .clean-left;
-        clean-right = h .2 .clean-right;
-        less-left = h .2 .less-left;
-        less-right = h .2 .less-right;
-      },
+      mends-stay (h .0),
+      inner-stays (t .node) (t .copies .first) (h .0 .1 .0) (h .1),
+      swappable-stays (t .node) (t .copies) (h .0 .1 .0) (h .1 .0 .sound) (h .2),
     )
     stays s (MendClean w) h = (
-      mending-stays (h .0),
-      dirty-stays (h .0 .some) (h .1),
-      record {
-        left = child-stays (t .node) (t .copies .first) (2 * t .node) AnyValue (h .0 .some) left-child (h .1 .sound) (h .2 .left);
-        right = child-stays (t .node) (t .copies .first) (2 * t .node + 1) AnyValue (h .0 .some) right-child (h .1 .sound) (h .2 .right);
-      },
+      mends-stay (h .0),
+      dirty-stays (t .node) (t .copies .first) (h .0 .1 .0) (h .1),
+      mended-stays (t .node) (t .copies .first) (h .0 .1 .0) (h .1 .sound) (h .2),
     )

@@ -22,7 +22,7 @@ use Rattle.bag.specs.Tree.{inNodes, sameItem}
 use Rattle.bag.proofs.Cells.{Chains, Moved, Exchanged, move, exchange, upd-same, upd-other, first-link, starts}
 use Rattle.bag.proofs.Chains.{Chain, copies, items}
 use Rattle.bag.proofs.Counts.{inChain, tree-counts}
-use Rattle.bag.proofs.Sorted.{AtMost, Proper, AllFrom, Sorted, valueAt, from-head, head-least, head-proper, head-counted}
+use Rattle.bag.proofs.Sorted.{AtMost, Proper, AllFrom, Sorted, valueAt, from-head, head-least, head-proper, head-counted, top-value}
 use Rattle.bag.proofs.Sums.{sum, sum-same, sum-has, sum-but, sum-exchange, sum-some}
 
 -- the first cell of each holder: 0 is the free chain, 2n node n, 2t + 1 thread t
@@ -113,6 +113,11 @@ module _ (s : Shape) (m : Shared) (own : ℕ → ℕ) (h : Held s m own) where
         least = head-least (m .cell) (h .owner) (h .rank) (2 * n) (m .node n .first) (h .list (2 * n)) (node-chain n (w .least)) (h .sorted n (w .least)) i (w .some);
         proper = head-proper (m .cell) (h .owner) (h .rank) (2 * n) (m .node n .first) (h .list (2 * n)) (node-chain n (w .least)) (h .sorted n (w .least)) i (w .some);
       }
+
+  -- no value is above that of an empty node
+  pub val-top : (n : ℕ) → 1 ≤ n → AtMost (val m n) topItem
+  unfolding valueOf readNode
+  val-top n p = top-value (m .cell) (h .owner) (h .rank) (2 * n) (m .node n .first) (h .list (2 * n)) (node-chain n p) (h .sorted n p)
 
   -- the head of a node's list is held
   pub head-held : (n : ℕ) → 1 ≤ n → n ≤ nodeCount s → 1 ≤ m .node n .first → 1 ≤ counted s m (m .cell (m .node n .first) .item)

@@ -10,5 +10,6 @@ pub mod Facts
 pub mod Held
 pub mod LaidOut
 pub mod Order
+pub mod Plans
 pub mod Sorted
 pub mod Sums

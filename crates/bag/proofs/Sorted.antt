@@ -12,7 +12,7 @@ use Rattle.region.specs.declared.record.Cell.{Cell}
 use Rattle.region.specs.declared.record.Item.{Item}
 use Rattle.region.proofs.Shapes.{and-left, and-right, and-both}
 use Rattle.access.specs.Order.{itemLe, topItem}
-use Rattle.access.proofs.OrderLaws.{item-refl, item-trans}
+use Rattle.access.proofs.OrderLaws.{item-refl, item-total, item-trans}
 use Rattle.bag.specs.Tree.{sameItem}
 use Rattle.bag.proofs.Chains.{Chain, ends, link, copies, items}
 
@@ -90,3 +90,10 @@ module _ (cell : ℕ → Cell) (own rank : ℕ → ℕ) (o : ℕ) where
   unfolding items copies pick
   head-counted c cs ends l = absurd (omega arith)
   head-counted c cs (link d {cs = ds} p eo er k) l = rw (item-same (cell d .item)) (omega arith)
+
+  -- no value is above that of an empty list
+  pub top-value : (c : ℕ) (cs : List ℕ) → Chain cell own rank o c cs → Sorted (items cell cs) → AtMost (valueAt cell c) topItem
+  unfolding items pick
+  top-value c cs ends h = item-refl topItem
+  top-value c cs (link d {cs = ds} p eo er k) h =
+      subst (λ q. AtMost (pick q topItem (cell d .item)) topItem) (sym (ne-eqb d 0 (λ z. omega arith))) (item-total topItem (cell d .item) (h .0))

@@ -1,0 +1,709 @@
+-- Every plan of a thread in its place: its effect is one that the mound allows, what it tells fits the thread's operation, and the facts of
+-- its next place hold; or the turn is refused 11 for a counter that is spent, and never 7. Assumes nothing.
+use Prim.Native.Nat.{ℕ, _+_, _-_, _*_, _/_, _%_, _^_, _≤_, _<_}
+use native.Mathlib.Decide.{decLt}
+use native.Mathlib.Nat.{div-le-self, le-div-iff-mul-le, mod-lt}
+use native.Mathlib.Omega.{arith}
+use mathlib.Core.Path.{_≡_, refl, sym, ap, subst, _∙_}
+use mathlib.Core.Bool.{Bool, true, false, not, _&&_, _||_, true≢false}
+use mathlib.Core.Logic.{_⊎_, inl, inr}
+use borrow.Author.Tests.{ltb-true, ltb-false, leb-true, leb-false, eqb-true, eqb-false, eq-eqb, ne-eqb, lt-ltb, le-ltb, le-leb, not-true, not-false}
+use lib.Dec.{leb, ltb, eqb}
+use lib.Pow.{pow-mono, pow-pos}
+use Rattle.region.specs.Answer.{unreadable, counterSpent}
+use Rattle.region.specs.Level.{ancestor, level, mark}
+use Rattle.region.specs.Pick.{pick}
+use Rattle.region.specs.Shape.{InRange, between, nodeCount}
+use Rattle.region.specs.Shared.{Shared}
+use Rattle.region.specs.Thread.{goneIdle, mending, returned, atPlace, withDepth, withSearch, withNode, withAfter, withResult, withCopies, withFirst, withSecond, withThird}
+use Rattle.region.specs.declared.answer.Answer.{Answer}
+use Rattle.region.specs.declared.answer.Answer.the-variants.{Moved, Idle as AnswersIdle, Inserted, Took, Empty, Refused}
+use Rattle.region.specs.declared.place.Place.{Place}
+use Rattle.region.specs.declared.place.Place.the-variants.{Idle, ReadDepth, ReadLeaf, ReadAncestor, GrowDepth, ReadTarget, InsertAtRoot, ReadParent, InsertBelow, ReadRoot, RemoveHead, MendReadNode, MendReadDepth, MendReadLeft, MendReadRight, MendSwap, MendClean}
+use Rattle.region.specs.declared.record.Item.{Item}
+use Rattle.region.specs.declared.record.Node.{Node}
+use Rattle.region.specs.declared.record.NodeCopy.{NodeCopy}
+use Rattle.region.specs.declared.shape.Shape.{Shape}
+use Rattle.region.specs.declared.thread.Search.{Search}
+use Rattle.region.specs.declared.thread.Thread.{Thread}
+use Rattle.region.proofs.Levels.{level-holds}
+use Rattle.region.proofs.Shapes.{and-left, and-right, and-both, is-between, sizes}
+use Rattle.access.specs.Order.{itemLe, itemLt, topItem, valueOf}
+use Rattle.access.specs.Plan.{plan, moved, onTo, refused}
+use Rattle.access.specs.Read.{isDirty, isLevel, isNode, isSpent, readNode, sameNode, updated}
+use Rattle.access.specs.declared.effect.Effect.{Effect}
+use Rattle.access.specs.declared.effect.Effect.the-variants.{Nothing, Grow, Push, Pop, Exchange, Clean}
+use Rattle.access.specs.declared.plan.Plan.{Plan}
+use Rattle.access.proofs.OrderLaws.{item-refl, item-total, item-trans}
+use Rattle.insert.specs.Insert.{searching, readDepth, searchOn, leafOf, nextTries, failedPlace, leafFailed, leafRead, readLeaf, ancestorRead, middleLevel, readAncestor, growDepth, targetPlace, readTarget, insertAt, insertAtRoot, readParent, bothSame as nodeAndParent, insertBelow}
+use Rattle.extract.specs.Extract.{rootRead, readRoot, headRemoved, removeHead}
+use Rattle.moundify.specs.Moundify.{returnAnswer, returning, mendReadNode, depthRead, mendReadDepth, mendReadLeft, marked, childLess, childrenRead, mendReadRight, exchangeAt, bothSame, exchangeWith, mendSwap, cleanAt, mendClean}
+use Rattle.machine.specs.Turn.{decide, decideAt}
+use Rattle.readable.proofs.Stores.{PlaceGood, ThreadGood, WaitsAbove}
+use Rattle.preserved.proofs.PlansGood.{pick-good, or-left, or-right}
+use Rattle.preserved.proofs.TreeLevels.{above, fits, level-unique, twice}
+use Rattle.bag.specs.Ledger.{Operation, none, putting, taking, holding}
+use Rattle.bag.proofs.Effects.{Mound, PushAsks, PopAsks, ExchangeAsks, CleanAsks, in-tree}
+use Rattle.bag.proofs.Facts.{At, AnyValue, Child, ChildRead, Dirty, InTree, Inner, LevelRead, Mended, Mends, Parent, Puts, RootRead, Searching, Sound, Swappable, Takes, Target, UpTo, mendingFor, sound-read}
+use Rattle.bag.proofs.Held.{val, val-top}
+use Rattle.bag.proofs.Order.{Above, below-children}
+use Rattle.bag.proofs.Sorted.{AtMost, valueAt}
+
+-- what an effect of thread t asks of the mound
+abbrev pub Allowed : Shape → Shared → (ℕ → ℕ) → ℕ → Effect → Type 0
+Allowed s m own t Nothing = Unit
+Allowed s m own t (Grow d) = (d ≡ m .depth + 1) × (d ≤ s .depth)
+Allowed s m own t (Push n v c x) = PushAsks m own t n v c x
+Allowed s m own t (Pop v c) = PopAsks m v c
+Allowed s m own t (Exchange n v k w) = (j : ℕ) × ExchangeAsks m n v k w j
+Allowed s m own t (Clean n v) = CleanAsks m n v
+
+-- what the effect and the answer make of the thread's operation
+pub data Speaks (m : Shared) (op op′ : Operation) : Effect → Answer → Type 0 where
+  reads : op′ ≡ op → Speaks m op op′ Nothing Moved
+  grows : {d : ℕ} → op′ ≡ op → Speaks m op op′ (Grow d) Moved
+  swaps : {n k : ℕ} {v w : Node} → op′ ≡ op → Speaks m op op′ (Exchange n v k w) Moved
+  cleans : {n : ℕ} {v : Node} → op′ ≡ op → Speaks m op op′ (Clean n v) Moved
+  inserts : {n c x : ℕ} {v : Node} (i : Item) → op ≡ putting i → m .cell c .item ≡ i → op′ ≡ none → Speaks m op op′ (Push n v c x) Inserted
+  removes : {v : Node} {c : ℕ} → op ≡ taking → op′ ≡ holding (m .cell c .item) → Speaks m op op′ (Pop v c) Moved
+  empties : op ≡ taking → op′ ≡ none → m .node 1 .dirty ≡ 0 → m .node 1 .first ≡ 0 → Speaks m op op′ Nothing Empty
+  answers : {i : Item} → op ≡ holding i → op′ ≡ none → Speaks m op op′ Nothing (Took i)
+  cleans-answers : {n : ℕ} {v : Node} {i : Item} → op ≡ holding i → op′ ≡ none → Speaks m op op′ (Clean n v) (Took i)
+
+-- the own cell afterwards: a push takes it, nothing else changes it
+abbrev pub OwnAfter : Effect → ℕ → ℕ → Type 0
+OwnAfter Nothing o o′ = o′ ≡ o
+OwnAfter (Grow d) o o′ = o′ ≡ o
+OwnAfter (Push n v c x) o o′ = o′ ≡ 0
+OwnAfter (Pop v c) o o′ = o′ ≡ o
+OwnAfter (Exchange n v k w) o o′ = o′ ≡ o
+OwnAfter (Clean n v) o o′ = o′ ≡ o
+
+pub data Planned (s : Shape) (m : Shared) (own : ℕ → ℕ) (t : ℕ) (o : ℕ) (op : Operation) (p : Plan) : Type 0 where
+  rests : p .effect ≡ Nothing → p .answer ≡ AnswersIdle → Planned s m own t o op p
+  refuses : p .effect ≡ Nothing → p .answer ≡ Refused counterSpent → Planned s m own t o op p
+  moves : (op′ : Operation) → Allowed s m own t (p .effect) → Speaks m op op′ (p .effect) (p .answer)
+      → OwnAfter (p .effect) o (p .thread .own) → At s m (p .thread) op′ (p .thread .place) → Planned s m own t o op p
+
+-- Comparisons.
+pub same-node : (a b : Node) → sameNode a b ≡ true → a ≡ b
+unfolding sameNode
+same-node a b e =
+    let p = and-left (eqb (a .first) (b .first) && eqb (a .dirty) (b .dirty)) (eqb (a .counter) (b .counter)) e in
+    let f = eqb-true (a .first) (b .first) (and-left (eqb (a .first) (b .first)) (eqb (a .dirty) (b .dirty)) p) in
+    let d = eqb-true (a .dirty) (b .dirty) (and-right (eqb (a .first) (b .first)) (eqb (a .dirty) (b .dirty)) p) in
+    let c = eqb-true (a .counter) (b .counter) (and-right (eqb (a .first) (b .first) && eqb (a .dirty) (b .dirty)) (eqb (a .counter) (b .counter)) e) in
+    λ i. record { first = f i; dirty = d i; counter = c i }
+
+is-dirty : (n : Node) → isDirty n ≡ true → 1 ≤ n .dirty
+unfolding isDirty
+is-dirty n e = let z = eqb-false (n .dirty) 0 (not-true (eqb (n .dirty) 0) e) in omega arith
+
+is-clean : (n : Node) → isDirty n ≡ false → n .dirty ≡ 0
+unfolding isDirty
+is-clean n e = eqb-true (n .dirty) 0 (not-false (eqb (n .dirty) 0) e)
+
+not-less : (a b : Item) → itemLt a b ≡ false → AtMost b a
+unfolding itemLt
+not-less a b e = not-false (itemLe b a) e
+
+less : (a b : Item) → itemLt a b ≡ true → AtMost a b
+unfolding itemLt
+less a b e = item-total b a (not-true (itemLe b a) e)
+
+-- Where n lies.
+ancestor-some : (n j : ℕ) → 1 ≤ n → n < 2 ^ 32 → 1 ≤ j → 1 ≤ ancestor n j
+unfolding ancestor
+ancestor-some n j p few l =
+    let a = level-holds n p few in
+    let b = pow-mono {i = level n - j} {j = level n - 1} (omega arith) in
+    le-div-iff-mul-le (pow-pos (level n - j)) .1 (omega (arith, a .least, b))
+
+ancestor-most : (n j : ℕ) → ancestor n j ≤ n
+unfolding ancestor
+ancestor-most n j = div-le-self n (2 ^ (level n - j))
+
+-- a node above the present depth's level has its children in the tree; at that level they lie deeper
+children-inside : (n d : ℕ) → 1 ≤ n → n < 2 ^ 32 → n < 2 ^ d → (level n ≡ d → ⊥) → 2 * n + 1 < 2 ^ d
+children-inside n d p few h ne = go (decLt d (level n))
+  where
+    at : level n - 1 + 1 ≡ level n
+    at = omega (arith, level-holds n p few .some)
+
+    go : Dec (d < level n) → 2 * n + 1 < 2 ^ d
+    go (yes k) =
+        let b = pow-mono {i = d} {j = level n - 1} (omega arith) in
+        absurd (omega (arith, level-holds n p few .least, b, h))
+    go (no k) =
+        let b = pow-mono {i = level n + 1} {j = d} (omega arith) in
+        let c = twice (level n + 1) (omega arith) in
+        let e : level n + 1 - 1 ≡ level n = omega arith in
+        let c′ = ap (λ j. 2 ^ j) e in
+        omega (arith, level-holds n p few .most, b, c, c′)
+
+children-deeper : (n d : ℕ) → 1 ≤ n → n < 2 ^ 32 → level n ≡ d → 2 ^ d ≤ 2 * n
+children-deeper n d p few e =
+    let a = level-holds n p few in
+    let b = twice (level n) (a .some) in
+    let c = ap (λ j. 2 ^ j) e in
+    omega (arith, a .least, b, c)
+
+-- A thread t in its place, with the record th, on the mound m.
+module _ (s : Shape) (r : InRange s) (m : Shared) (own : ℕ → ℕ) (g : Mound s m own) (t : ℕ) (th : Thread) (mine : own t ≡ th .own)
+    (op : Operation) where
+  abbrev Fits : Plan → Type 0
+  Fits = Planned s m own t (th .own) op
+
+  few-nodes : (n : ℕ) → n < 2 ^ m .depth → n < 2 ^ 32
+  few-nodes n h = omega (arith, in-tree s m own g n h, sizes s (r .depth-most))
+
+  at-place : (u : Thread) (o : Operation) (x : Place) → At s m u o x → At s m (atPlace u x) o x
+  unfolding atPlace
+  at-place u o Idle h = h
+  at-place u o ReadDepth h = h
+  at-place u o ReadLeaf h = h
+  at-place u o ReadAncestor h = h
+  at-place u o GrowDepth h = h
+  at-place u o ReadTarget h = h
+  at-place u o InsertAtRoot h = h
+  at-place u o ReadParent h = h
+  at-place u o InsertBelow h = h
+  at-place u o ReadRoot h = h
+  at-place u o RemoveHead h = h
+  at-place u o (MendReadNode w) h = h
+  at-place u o (MendReadDepth w) h = h
+  at-place u o (MendReadLeft w) h = h
+  at-place u o (MendReadRight w) h = h
+  at-place u o (MendSwap w) h = h
+  at-place u o (MendClean w) h = h
+
+  -- plans of each kind
+  goes-on : (u : Thread) (x : Place) → u .own ≡ th .own → At s m u op x → Fits (onTo u x)
+  unfolding onTo moved plan atPlace
+  goes-on u x e h = moves op tt (reads refl) e (at-place u op x h)
+
+  is-refused : (u : Thread) → Fits (refused u counterSpent)
+  unfolding refused plan
+  is-refused u = refuses refl refl
+
+  mends-on : (u : Thread) (n w : ℕ) → u .own ≡ th .own → Takes u (mendingFor (u .after) (u .result)) op → InTree m n → Fits (moved (mending u n w))
+  unfolding moved plan mending atPlace withNode
+  mends-on u n w e h k = moves op tt (reads refl) e (h, k)
+
+  -- a sound copy that the comparison finds is what a READ finds
+  found : (n : ℕ) (q : NodeCopy) → Sound m n q → sameNode (m .node n) (q .node) ≡ true → readNode m n ≡ q
+  found n q h e = h .same (ap (λ x. x .counter) (same-node (m .node n) (q .node) e))
+
+  found-node : (n : ℕ) (q : NodeCopy) → readNode m n ≡ q → m .node n ≡ q .node
+  unfolding readNode
+  found-node n q e = ap (λ x. x .node) e
+
+  found-head : (n : ℕ) (q : NodeCopy) → readNode m n ≡ q → m .cell (q .node .first) ≡ q .head
+  unfolding readNode
+  found-head n q e = ap (λ x. m .cell (x .node .first)) (sym e) ∙ ap (λ x. x .head) e
+
+  -- I1
+  depth-planned : Puts m th op → Fits (readDepth m th)
+  unfolding readDepth withSearch withDepth
+  depth-planned h = goes-on _ ReadLeaf refl (h, (g .depth-least, omega arith))
+
+  -- the search goes on, or its end names the node
+  search-planned : (u : Thread) → u .own ≡ th .own → Puts m u op → 1 ≤ u .search .lo → u .search .lo ≤ u .search .hi
+      → u .search .hi ≤ level (u .search .leaf) → InTree m (u .search .leaf) → Fits (searchOn th u)
+  unfolding searchOn withNode
+  search-planned u e h l o v k =
+      pick-good Fits (ltb (u .search .lo) (u .search .hi))
+      (λ q. goes-on u ReadAncestor e (h, record { lo = l; below = ltb-true (u .search .lo) (u .search .hi) q; hi = v; leaf = k }))
+      (λ q. pick-good Fits (between 1 (u .search .hi) (level (u .search .leaf)))
+      (λ y. goes-on (withNode u (ancestor (u .search .leaf) (u .search .hi))) ReadTarget e (
+        h,
+        (
+          ancestor-some (u .search .leaf) (u .search .hi) (k .0) (few-nodes (u .search .leaf) (k .1)) (omega arith),
+          omega (arith, ancestor-most (u .search .leaf) (u .search .hi), k .1),
+        ),
+      ))
+      (λ y. absurd (true≢false (sym (is-between 1 (u .search .hi) (level (u .search .leaf)) (omega arith) v) ∙ y))))
+
+  -- I2
+  module _ (h : Puts m th op) (l : LevelRead m (th .depth)) where
+    is-level : isLevel s (th .depth) ≡ true
+    unfolding isLevel
+    is-level = is-between 1 (th .depth) (s .depth) (l .0) (omega (arith, l .1, g .depth-most))
+
+    module _ (choice : ℕ) where
+      leaf-most : leafOf (th .depth) choice < 2 ^ th .depth
+      unfolding leafOf
+      leaf-most = omega (arith, mod-lt choice (pow-pos (th .depth - 1)), twice (th .depth) (l .0))
+
+      leaf-in-tree : InTree m (leafOf (th .depth) choice)
+      unfolding leafOf
+      leaf-in-tree = (
+        omega (arith, pow-pos (th .depth - 1)),
+        omega (arith, leaf-most, pow-mono {i = th .depth} {j = m .depth} (l .1)),
+      )
+
+      leaf-level : level (leafOf (th .depth) choice) ≡ th .depth
+      unfolding leafOf
+      leaf-level =
+          level-unique (leafOf (th .depth) choice) (th .depth) (l .0) (omega arith) leaf-most
+          (few-nodes (leafOf (th .depth) choice) (leaf-in-tree .1))
+
+      leaf-planned : Fits (readLeaf s m th choice)
+      unfolding readLeaf leafRead leafFailed failedPlace withFirst withCopies withSearch
+      leaf-planned =
+          let leaf = leafOf (th .depth) choice in
+          let q = readNode m leaf in
+          pick-good Fits (isLevel s (th .depth))
+          (λ a. pick-good Fits (itemLe (th .item) (valueOf q))
+          (λ b. search-planned (withFirst (withSearch th (searching leaf (th .search .tries) 1 (th .depth))) q) refl h (omega arith) (l .0)
+          (omega (arith, leaf-level)) leaf-in-tree)
+          (λ b. let u = withFirst (withSearch th (searching leaf (nextTries s th) (th .search .lo) (th .search .hi))) q in
+          goes-on u (failedPlace s th) refl
+          (pick-good (At s m u op) (ltb (nextTries s th) (s .threshold)) (λ k. (h, l))
+          (λ k. pick-good (At s m u op) (ltb (th .depth) (s .depth)) (λ d. (h, l, ltb-true (th .depth) (s .depth) d)) (λ d. h)))))
+          (λ a. absurd (true≢false (sym is-level ∙ a)))
+
+    -- I4
+    grow-planned : th .depth < s .depth → Fits (growDepth s m th)
+    unfolding growDepth isLevel plan atPlace
+    grow-planned d =
+        pick-good Fits (isLevel s (th .depth) && isLevel s (th .depth + 1))
+        (λ a. pick-good Fits (eqb (m .depth) (th .depth))
+        (λ e. moves op (ap (λ k. k + 1) (sym (eqb-true (m .depth) (th .depth) e)), omega arith) (grows refl) refl h)
+        (λ e. goes-on th ReadDepth refl h))
+        (λ a. absurd (true≢false (sym (and-both is-level (is-between 1 (th .depth + 1) (s .depth) (omega arith) (omega arith))) ∙ a)))
+
+  -- I3
+  module _ (h : Puts m th op) (x : Searching m (th .search)) where
+    middle : ℕ
+    middle = (th .search .lo + th .search .hi) / 2
+
+    middle-is : middleLevel th ≡ middle
+    unfolding middleLevel pick middle
+    middle-is = rw (lt-ltb (th .search .lo) (th .search .hi) (x .below), le-leb middle (level (th .search .leaf)) (omega (arith, x .below, x .hi))) refl
+
+    ancestor-planned : Fits (readAncestor m th)
+    unfolding readAncestor ancestorRead withFirst withCopies withSearch middle
+    ancestor-planned =
+        pick-good Fits (eqb (middleLevel th) 0) (λ e. absurd (let z = eqb-true (middleLevel th) 0 e in omega (arith, z, middle-is, x .lo, x .below)))
+        (λ e. let q = readNode m (ancestor (th .search .leaf) (middleLevel th)) in
+        let leaf = th .search .leaf in
+        let tries = th .search .tries in
+        pick-good (λ z. Fits (searchOn th (withFirst (withSearch th z) q))) (itemLe (th .item) (valueOf q))
+        (λ a. search-planned (withFirst (withSearch th (searching leaf tries (th .search .lo) (middleLevel th))) q) refl h (x .lo)
+        (omega (arith, middle-is, x .below)) (omega (arith, middle-is, x .below, x .hi)) (x .leaf))
+        (λ a. search-planned (withFirst (withSearch th (searching leaf tries (middleLevel th + 1) (th .search .hi))) q) refl h (omega arith)
+        (omega (arith, middle-is, x .below)) (x .hi) (x .leaf)))
+
+  -- I5
+  target-planned : Puts m th op → InTree m (th .node) → Fits (readTarget m th)
+  unfolding readTarget targetPlace withFirst withCopies
+  target-planned h k =
+      let n = th .node in
+      let q = readNode m n in
+      let u = withFirst th q in
+      pick-good Fits (eqb n 0) (λ e. absurd (let z = eqb-true n 0 e in omega (arith, k .0)))
+      (λ e. goes-on u (targetPlace th q) refl
+      (pick-good (At s m u op) (itemLt (valueOf q) (th .item)) (λ a. h)
+      (λ a. let least = not-less (valueOf q) (th .item) a in
+      pick-good (At s m u op) (eqb n 1)
+      (λ b. (h, record { sound = subst (λ y. Sound m y q) (eqb-true n 1 b) (sound-read m n); least = least }))
+      (λ b. let z = eqb-false n 1 b in (h, k, omega (arith, k .0), record { sound = sound-read m n; least = least })))))
+
+  -- I6 and I8
+  module _ (h : Puts m th op) (n : ℕ) (k : InTree m n) (a : Target m n (th .item) (th .copies .first)) (holds : Bool)
+      (same : holds ≡ true → sameNode (m .node n) (th .copies .first .node) ≡ true)
+      (under : holds ≡ true → 2 ≤ n → AtMost (val m (n / 2)) (th .item)) where
+    insert-planned : Fits (insertAt th n holds)
+    unfolding insertAt plan goneIdle
+    insert-planned =
+        let q = th .copies .first in
+        pick-good Fits holds
+        (λ e. pick-good Fits (isSpent (q .node)) (λ z. is-refused th)
+        (λ z. let f = found n q (a .sound) (same e) in
+        let fn = found-node n q f in
+        moves none
+        (record {
+          some = k .0;
+          few = k .1;
+          mine = mine;
+          cell = h .some;
+          ended = h .ended;
+          proper = subst (λ i. itemLe topItem i ≡ false) (sym (h .item)) (h .proper);
+          least = subst (λ i. AtMost i (val m n)) (sym (h .item)) (subst (AtMost (th .item)) (sym (ap valueOf f)) (a .least));
+          parent = λ l. subst (AtMost (val m (n / 2))) (sym (h .item)) (under e l);
+          value = ap (λ x. updated x (th .own) (x .dirty)) (sym fn);
+          onto = ap (λ x. x .first) (sym fn);
+        })
+        (inserts (th .item) (h .operation) (h .item) refl) refl (refl, refl)))
+        (λ e. goes-on th ReadDepth refl h)
+
+  root-in-tree : InTree m 1
+  root-in-tree = (omega arith, omega (arith, pow-mono {i = 1} {j = m .depth} (g .depth-least)))
+
+  at-root-planned : Puts m th op → Target m 1 (th .item) (th .copies .first) → Fits (insertAtRoot m th)
+  unfolding insertAtRoot
+  at-root-planned h a =
+      pick-good Fits (eqb (th .own) 0) (λ e. absurd (let z = eqb-true (th .own) 0 e in omega (arith, z, h .some)))
+      (λ e. insert-planned h 1 root-in-tree a (sameNode (m .node 1) (th .copies .first .node)) (λ x. x) (λ x l. absurd (omega arith)))
+
+  -- I7
+  parent-planned : Puts m th op → InTree m (th .node) → 2 ≤ th .node → Target m (th .node) (th .item) (th .copies .first) → Fits (readParent m th)
+  unfolding readParent withSecond withCopies
+  parent-planned h k l a =
+      let q = readNode m (th .node / 2) in
+      let u = withSecond th q in
+      pick-good Fits (ltb (th .node) 2) (λ e. absurd (let z = ltb-true (th .node) 2 e in omega arith))
+      (λ e. goes-on u _ refl
+      (pick-good (At s m u op) (itemLt (th .item) (valueOf q)) (λ b. h)
+      (λ b. (h, k, l, a, record { sound = sound-read m (th .node / 2); most = not-less (th .item) (valueOf q) b }))))
+
+  below-planned : Puts m th op → InTree m (th .node) → 2 ≤ th .node → Target m (th .node) (th .item) (th .copies .first)
+      → Parent m (th .node) (th .item) (th .copies .second) → Fits (insertBelow m th)
+  unfolding insertBelow nodeAndParent
+  below-planned h k l a b =
+      let x = sameNode (m .node (th .node)) (th .copies .first .node) in
+      let y = sameNode (m .node (th .node / 2)) (th .copies .second .node) in
+      pick-good Fits (ltb (th .node) 2 || eqb (th .own) 0)
+      (λ e. absurd (true≢false (sym e ∙ neither (ltb (th .node) 2) (eqb (th .own) 0) (le-ltb (th .node) 2 l) (ne-eqb (th .own) 0 (λ z. omega (arith, z, h .some))))))
+      (λ e. insert-planned h (th .node) k a (x && y) (λ z. and-left x y z)
+      (λ z w. subst (λ i. AtMost i (th .item)) (sym (ap valueOf (found (th .node / 2) (th .copies .second) (b .sound) (and-right x y z)))) (b .most)))
+    where
+      neither : (p q : Bool) → p ≡ false → q ≡ false → p || q ≡ false
+      neither true q e z = e
+      neither false q e z = z
+
+  -- E1
+  root-planned : Takes th taking op → Fits (readRoot m th)
+  unfolding readRoot rootRead withFirst withCopies withAfter plan goneIdle readNode pick
+  root-planned h =
+      let q = readNode m 1 in
+      pick-good Fits (isDirty (q .node))
+      (λ e. mends-on (withAfter (withFirst th q) 0) 1 0 refl h root-in-tree)
+      (λ e. pick-good Fits (eqb (q .node .first) 0)
+      (λ z. moves none tt (empties (h .operation) refl (is-clean (q .node) e) (eqb-true (q .node .first) 0 z)) (sym (h .none)) (refl, refl))
+      (λ z. let ne = eqb-false (q .node .first) 0 z in
+      goes-on (withFirst th q) RemoveHead refl (h, record { sound = sound-read m 1; clean = is-clean (q .node) e; some = omega arith })))
+
+  -- E2
+  head-planned : Takes th taking op → RootRead m (th .copies .first) → Fits (removeHead m th)
+  unfolding removeHead headRemoved plan mending atPlace withNode withAfter withResult pick
+  head-planned h a =
+      let q = th .copies .first in
+      pick-good Fits (eqb (q .node .first) 0) (λ e. absurd (let z = eqb-true (q .node .first) 0 e in omega (arith, z, a .some)))
+      (λ e. pick-good Fits (sameNode (m .node 1) (q .node))
+      (λ y. pick-good Fits (isSpent (q .node)) (λ z. is-refused th)
+      (λ z. let f = found 1 q (a .sound) y in
+      let fn = found-node 1 q f in
+      let fh = found-head 1 q f in
+      moves (holding (q .head .item))
+      (record {
+        clean = ap (λ x. x .dirty) fn ∙ a .clean;
+        head = ap (λ x. x .first) fn;
+        cell = a .some;
+        value = ap (λ x. updated x (q .head .next) 1) (sym fn) ∙ ap (λ c. updated (m .node 1) (c .next) 1) (sym fh);
+      })
+      (removes (h .operation) (ap (λ c. holding (c .item)) (sym fh))) refl
+      (record { operation = refl; permitted = h .permitted; none = h .none }, root-in-tree)))
+      (λ y. goes-on th ReadRoot refl h))
+
+  -- Mending, with the waiting levels w above the node's.
+  module _ (w : ℕ) (hw : WaitsAbove (th .node) w) where
+    -- a return, after no effect or a cleaning
+    return-planned : (e : Effect) (u : Thread) → u .own ≡ th .own → u .node ≡ th .node → Mends m u op → Allowed s m own t e
+        → ((o : ℕ) → o ≡ th .own → OwnAfter e (th .own) o) → ((o : Operation) → o ≡ op → Speaks m op o e Moved)
+        → ((i : Item) → op ≡ holding i → Speaks m op none e (Took i)) → Fits (returning e u w)
+    unfolding returning returned returnAnswer plan mending atPlace withNode goneIdle pick
+    return-planned e u eo en h al ow quiet tell = go (eqb w 0) refl (eqb (u .after) 0) refl
+      where
+        waits : WaitsAbove (u .node) w
+        waits = subst (λ k. WaitsAbove k w) (sym en) hw
+
+        few : u .node < 2 ^ 32
+        few = few-nodes (u .node) (h .1 .1)
+
+        for : (a : Bool) → eqb (u .after) 0 ≡ a → op ≡ pick a taking (holding (u .result))
+        for a ea = h .0 .operation ∙ ap (λ x. pick x taking (holding (u .result))) ea
+
+        go : (q : Bool) → eqb w 0 ≡ q → (a : Bool) → eqb (u .after) 0 ≡ a
+            → Fits (plan e (pick q (pick a (atPlace u ReadRoot) (goneIdle u)) (mending u (ancestor (u .node) (level w)) (w - mark (level w))))
+            (pick (q && not a) (Took (u .result)) Moved))
+        go true eq true ea =
+            moves op al (quiet op refl) (ow (u .own) eo)
+            (record { operation = for true ea; permitted = h .0 .permitted; none = h .0 .none })
+        go true eq false ea = moves none al (tell (u .result) (for false ea)) (ow 0 (sym (sym eo ∙ h .0 .none))) (refl, refl)
+        go false eq a ea =
+            let nw = eqb-false w 0 eq in
+            let l = level-holds w (omega arith) (fits (u .node) w few nw waits) .some in
+            moves op al (quiet op refl) (ow (u .own) eo) (
+              h .0,
+              (
+                ancestor-some (u .node) (level w) (h .1 .0) few l,
+                omega (arith, ancestor-most (u .node) (level w), h .1 .1),
+              ),
+            )
+
+    -- M1
+    node-planned : Mends m th op → Fits (mendReadNode m th w)
+    unfolding mendReadNode withFirst withCopies
+    node-planned h =
+        pick-good Fits (eqb (th .node) 0) (λ e. absurd (let z = eqb-true (th .node) 0 e in omega (arith, z, h .1 .0)))
+        (λ e. goes-on (withFirst th (readNode m (th .node))) (MendReadDepth w) refl (h, sound-read m (th .node)))
+
+    -- M2: where n's level is the depth, its children lie deeper, so they are empty and clean
+    deep-child : (c : ℕ) → 2 ^ m .depth ≤ c → 1 ≤ th .node → Child m (th .node) (th .copies .first) c AnyValue
+    unfolding valueOf readNode pick
+    deep-child c d p e =
+        let z = g .deep c d in (
+          z .1,
+          λ v k l.
+              subst (AtMost v) (sym (ap (valueAt (m .cell)) (z .0)))
+              (item-trans v (val m (th .node)) topItem l (val-top s m own (g .held) (th .node) p)),
+        )
+
+    mend-depth-planned : Mends m th op → Sound m (th .node) (th .copies .first) → Fits (mendReadDepth m th w)
+    unfolding mendReadDepth depthRead withDepth
+    mend-depth-planned h a =
+        let n = th .node in
+        let q = th .copies .first in
+        let u = withDepth th (m .depth) in
+        let few = few-nodes n (h .1 .1) in
+        pick-good Fits (eqb n 0) (λ e. absurd (let z = eqb-true n 0 e in omega (arith, z, h .1 .0)))
+        (λ e. pick-good Fits (isDirty (q .node))
+        (λ d. let di : Dirty m n q = record { sound = a; dirty = is-dirty (q .node) d } in
+        pick-good Fits (eqb (level n) (m .depth))
+        (λ y. let deep = children-deeper n (m .depth) (h .1 .0) few (eqb-true (level n) (m .depth) y) in
+        goes-on u (MendClean w) refl (
+          h,
+          di,
+          record { left = deep-child (2 * n) deep (h .1 .0); right = deep-child (2 * n + 1) (omega (arith, deep)) (h .1 .0) },
+        ))
+        (λ y. goes-on u (MendReadLeft w) refl
+        (h, (di, children-inside n (m .depth) (h .1 .0) few (h .1 .1) (eqb-false (level n) (m .depth) y)))))
+        (λ d. return-planned Nothing u refl refl h tt (λ o z. z) (λ o z. reads z) (λ i z. answers z refl)))
+
+    -- M3
+    child-in-tree : (c : ℕ) → 1 ≤ c → c ≤ 2 * th .node + 1 → Inner m (th .node) (th .copies .first) → isNode s c ≡ true
+    unfolding isNode
+    child-in-tree c p l a = is-between 1 c (nodeCount s) p (in-tree s m own g c (omega (arith, a .1)))
+
+    fresh-child : (n : ℕ) (q : NodeCopy) (c : ℕ) → ChildRead m n q c (readNode m c)
+    unfolding readNode
+    fresh-child n q c = record { sound = sound-read m c; child = λ z e. (z, λ v k l. k) }
+
+    left-planned : Mends m th op → Inner m (th .node) (th .copies .first) → Fits (mendReadLeft s m th w)
+    unfolding mendReadLeft withSecond withCopies
+    left-planned h a =
+        let n = th .node in
+        pick-good Fits (isNode s (2 * n))
+        (λ e. goes-on (withSecond th (readNode m (2 * n))) (MendReadRight w) refl (h, a, fresh-child n (th .copies .first) (2 * n)))
+        (λ e. absurd (true≢false (sym (child-in-tree (2 * n) (omega (arith, h .1 .0)) (omega arith) a) ∙ e)))
+
+    -- M4
+    module _ (u : Thread) (eo : u .own ≡ th .own) (h : Mends m u op) (a : Inner m (u .node) (u .copies .first))
+        (left : ChildRead m (u .node) (u .copies .first) (2 * u .node) (u .copies .second))
+        (right : ChildRead m (u .node) (u .copies .first) (2 * u .node + 1) (u .copies .third)) where
+      abbrev x₁ : Item
+      x₁ = valueOf (u .copies .first)
+
+      abbrev x₂ : Item
+      x₂ = valueOf (u .copies .second)
+
+      abbrev x₃ : Item
+      x₃ = valueOf (u .copies .third)
+
+      -- the test by its three comparisons
+      swaps-by : (p q r : Bool) → (p && not q) || (not p && not r) ≡ true → ((p ≡ true → q ≡ false) × (p ≡ false → r ≡ false))
+      swaps-by true true r e = absurd (true≢false (sym e))
+      swaps-by true false r e = (λ z. refl, λ z. absurd (true≢false z))
+      swaps-by false q true e = absurd (true≢false (sym e))
+      swaps-by false q false e = (λ z. absurd (true≢false (sym z)), λ z. refl)
+
+      stays-by : (p q r : Bool) → (p && not q) || (not p && not r) ≡ false → ((p ≡ true → q ≡ true) × (p ≡ false → r ≡ true))
+      stays-by true true r e = (λ z. refl, λ z. absurd (true≢false z))
+      stays-by true false r e = absurd (true≢false e)
+      stays-by false q true e = (λ z. absurd (true≢false (sym z)), λ z. refl)
+      stays-by false q false e = absurd (true≢false e)
+
+      swappable : u .copies .second .node .dirty ≡ 0 → u .copies .third .node .dirty ≡ 0 → childLess u ≡ true → Swappable m (u .node) (u .copies)
+      unfolding childLess itemLt
+      swappable cl cr e =
+          let b = swaps-by (itemLe x₂ x₃) (itemLe x₁ x₂) (itemLe x₁ x₃) e in
+          record {
+            left = left;
+            right = right;
+            clean-left = cl;
+            clean-right = cr;
+            less-left = λ z. item-total x₁ x₂ (b .0 z);
+            less-right = λ z. item-total x₁ x₃ (b .1 z);
+          }
+
+      -- neither child is less
+      no-less : childLess u ≡ false → AtMost x₁ x₂ × AtMost x₁ x₃
+      unfolding childLess itemLt
+      no-less e = go (itemLe x₂ x₃) refl
+        where
+          b : (itemLe x₂ x₃ ≡ true → itemLe x₁ x₂ ≡ true) × (itemLe x₂ x₃ ≡ false → itemLe x₁ x₃ ≡ true)
+          b = stays-by (itemLe x₂ x₃) (itemLe x₁ x₂) (itemLe x₁ x₃) e
+
+          go : (p : Bool) → itemLe x₂ x₃ ≡ p → AtMost x₁ x₂ × AtMost x₁ x₃
+          go true z = (b .0 z, item-trans x₁ x₂ x₃ (b .0 z) z)
+          go false z = (item-trans x₁ x₃ x₂ (b .1 z) (item-total x₂ x₃ z), b .1 z)
+
+      mended-by : (c : ℕ) (k : NodeCopy) → ChildRead m (u .node) (u .copies .first) c k → k .node .dirty ≡ 0 → AtMost x₁ (valueOf k)
+          → Child m (u .node) (u .copies .first) c AnyValue
+      mended-by c k cr z l e =
+          let now = cr .child z e in
+          let same : val m (u .node) ≡ x₁ = ap valueOf (a .0 .sound .same e) in
+          (now .0, λ v any lv. now .1 v (item-trans v x₁ (valueOf k) (subst (AtMost v) same lv) l) lv)
+
+      children-planned : Fits (childrenRead u w)
+      unfolding childrenRead
+      children-planned =
+          let n = u .node in
+          pick-good Fits (isDirty (u .copies .second .node))
+          (λ d. mends-on u (2 * n) (marked w (level n)) eo (h .0) (omega (arith, h .1 .0), omega (arith, a .1)))
+          (λ d. pick-good Fits (isDirty (u .copies .third .node))
+          (λ f. mends-on u (2 * n + 1) (marked w (level n)) eo (h .0) (omega arith, a .1))
+          (λ f. let cl = is-clean (u .copies .second .node) d in
+          let cr = is-clean (u .copies .third .node) f in
+          pick-good Fits (childLess u)
+          (λ e. goes-on u (MendSwap w) eo (h, a, swappable cl cr e))
+          (λ e. let b = no-less e in
+          goes-on u (MendClean w) eo (
+            h,
+            a .0,
+            record {
+              left = mended-by (2 * n) (u .copies .second) left cl (b .0);
+              right = mended-by (2 * n + 1) (u .copies .third) right cr (b .1);
+            },
+          ))))
+
+    some-child : (c : ℕ) → 1 ≤ th .node → 1 ≤ c → c ≤ 2 * th .node + 1 → Inner m (th .node) (th .copies .first)
+        → not (eqb (th .node) 0) && isNode s c ≡ true
+    some-child c p l u a = and-both (ap not (ne-eqb (th .node) 0 (λ z. omega arith))) (child-in-tree c l u a)
+
+    right-planned : Mends m th op → Inner m (th .node) (th .copies .first)
+        → ChildRead m (th .node) (th .copies .first) (2 * th .node) (th .copies .second) → Fits (mendReadRight s m th w)
+    unfolding mendReadRight withThird withCopies
+    right-planned h a left =
+        let n = th .node in
+        let q = readNode m (2 * n + 1) in
+        pick-good Fits (not (eqb n 0) && isNode s (2 * n + 1))
+        (λ e. children-planned (withThird th q) refl h a left (fresh-child n (th .copies .first) (2 * n + 1)))
+        (λ e. absurd (true≢false (sym (some-child (2 * n + 1) (h .1 .0) (omega arith) (omega arith) a) ∙ e)))
+
+    -- M5
+    module _ (h : Mends m th op) (a : Inner m (th .node) (th .copies .first)) (c j : ℕ) (q k : NodeCopy) (lo : 2 * th .node ≤ c)
+        (hi : c ≤ 2 * th .node + 1) (pj : 1 ≤ j) (kids : (x : ℕ) → Above (th .node) x → (th .node ≡ x) ⊎ (Above c x ⊎ Above j x))
+        (here : ChildRead m (th .node) (th .copies .first) c q) (there : ChildRead m (th .node) (th .copies .first) j k)
+        (clean : q .node .dirty ≡ 0) (clean-other : k .node .dirty ≡ 0) (lesser : AtMost (valueOf q) (valueOf (th .copies .first)))
+        (least : AtMost (valueOf q) (valueOf k)) where
+      exchange-planned : Fits (exchangeWith s m th w c q)
+      unfolding exchangeWith exchangeAt bothSame plan mending atPlace withNode
+      exchange-planned =
+          let n = th .node in
+          let p = th .copies .first in
+          let x = sameNode (m .node n) (p .node) in
+          let y = sameNode (m .node c) (q .node) in
+          pick-good Fits (not (eqb n 0) && isNode s c)
+          (λ e. pick-good Fits (x && y)
+          (λ z. pick-good Fits (isSpent (p .node) || isSpent (q .node)) (λ f. is-refused th)
+          (λ f. let fp = found n p (a .0 .sound) (and-left x y z) in
+          let fq = found c q (here .sound) (and-right x y z) in
+          let np = found-node n p fp in
+          let nq = found-node c q fq in
+          let vp : val m n ≡ valueOf p = ap valueOf fp in
+          let vq : val m c ≡ valueOf q = ap valueOf fq in
+          let sib = there .child clean-other (ap (λ v. v .counter) np) in
+          let ln : AtMost (val m c) (val m n) = subst (AtMost (val m c)) (sym vp) (subst (λ i. AtMost i (valueOf p)) (sym vq) lesser) in
+          moves op (
+            j,
+            record {
+              some = h .1 .0;
+              few = omega (arith, hi, a .1);
+              child = omega (arith, lo, hi);
+              kids = kids;
+              sibling = pj;
+              dirty = subst (λ v. 1 ≤ v .dirty) (sym np) (a .0 .dirty);
+              clean = ap (λ v. v .dirty) nq ∙ clean;
+              clean-sibling = sib .0;
+              less = ln;
+              least = sib .1 (val m c) (subst (λ i. AtMost i (valueOf k)) (sym vq) least) ln;
+              value = ap (λ v. updated v (q .node .first) 0) (sym np) ∙ ap (λ v. updated (m .node n) (v .first) 0) (sym nq);
+              value-child = ap (λ v. updated v (p .node .first) 1) (sym nq) ∙ ap (λ v. updated (m .node c) (v .first) 1) (sym np);
+            },
+          )
+          (swaps refl) refl (h .0, (omega (arith, lo, h .1 .0), omega (arith, hi, a .1)))))
+          (λ z. goes-on th (MendReadNode w) refl h))
+          (λ e. absurd (true≢false (sym (some-child c (h .1 .0) (omega (arith, lo, h .1 .0)) hi a) ∙ e)))
+
+    swap-planned : Mends m th op → Inner m (th .node) (th .copies .first) → Swappable m (th .node) (th .copies) → Fits (mendSwap s m th w)
+    unfolding mendSwap
+    swap-planned h a b =
+        let n = th .node in
+        let l = th .copies .second in
+        let k = th .copies .third in
+        pick-good Fits (itemLe (valueOf l) (valueOf k))
+        (λ e. exchange-planned h a (2 * n) (2 * n + 1) l k (omega arith) (omega arith) (omega arith) (λ x z. below-children n x z) (b .left) (b .right)
+        (b .clean-left) (b .clean-right) (b .less-left e) e)
+        (λ e. exchange-planned h a (2 * n + 1) (2 * n) k l (omega arith) (omega arith) (omega (arith, h .1 .0))
+        (λ x z. turned (below-children n x z)) (b .right) (b .left) (b .clean-right) (b .clean-left) (b .less-right e)
+        (item-total (valueOf l) (valueOf k) e))
+      where
+        turned : {x y z : Type 0} → x ⊎ (y ⊎ z) → x ⊎ (z ⊎ y)
+        turned (inl p) = inl p
+        turned (inr (inl p)) = inr (inr p)
+        turned (inr (inr p)) = inr (inl p)
+
+    -- M6
+    clean-planned : Mends m th op → Dirty m (th .node) (th .copies .first) → Mended m (th .node) (th .copies .first) → Fits (mendClean m th w)
+    unfolding mendClean cleanAt
+    clean-planned h a b =
+        let n = th .node in
+        let q = th .copies .first in
+        pick-good Fits (eqb n 0) (λ e. absurd (let z = eqb-true n 0 e in omega (arith, z, h .1 .0)))
+        (λ e. pick-good Fits (sameNode (m .node n) (q .node))
+        (λ y. pick-good Fits (isSpent (q .node)) (λ z. is-refused th)
+        (λ z. let f = found n q (a .sound) y in
+        let fn = found-node n q f in
+        let l = b .left (ap (λ v. v .counter) fn) in
+        let r′ = b .right (ap (λ v. v .counter) fn) in
+        return-planned (Clean n (updated (q .node) (q .node .first) 0)) th refl refl h
+        (record {
+          some = h .1 .0;
+          few = h .1 .1;
+          dirty = subst (λ v. 1 ≤ v .dirty) (sym fn) (a .dirty);
+          clean-left = l .0;
+          clean-right = r′ .0;
+          least-left = l .1 (val m n) tt (item-refl (val m n));
+          least-right = r′ .1 (val m n) tt (item-refl (val m n));
+          value = ap (λ v. updated v (v .first) 0) (sym fn);
+        })
+        (λ o x. x) (λ o x. cleans x) (λ i x. cleans-answers x refl)))
+        (λ y. goes-on th (MendReadNode w) refl h))
+
+  -- every place
+  place-planned : (choice : ℕ) (p : Place) → PlaceGood s th p → At s m th op p → Fits (decideAt s m th choice p)
+  unfolding plan
+  place-planned choice Idle w h = rests refl refl
+  place-planned choice ReadDepth w h = depth-planned h
+  place-planned choice ReadLeaf w h = leaf-planned (h .0) (h .1) choice
+  place-planned choice ReadAncestor w h = ancestor-planned (h .0) (h .1)
+  place-planned choice GrowDepth w h = grow-planned (h .0) (h .1) (h .2)
+  place-planned choice ReadTarget w h = target-planned (h .0) (h .1)
+  place-planned choice InsertAtRoot w h = at-root-planned (h .0) (h .1)
+  place-planned choice ReadParent w h = parent-planned (h .0) (h .1) (h .2) (h .3)
+  place-planned choice InsertBelow w h = below-planned (h .0) (h .1) (h .2) (h .3) (h .4)
+  place-planned choice ReadRoot w h = root-planned h
+  place-planned choice RemoveHead w h = head-planned (h .0) (h .1)
+  place-planned choice (MendReadNode v) w h = node-planned v w h
+  place-planned choice (MendReadDepth v) w h = mend-depth-planned v w (h .0) (h .1)
+  place-planned choice (MendReadLeft v) w h = left-planned v w (h .0) (h .1)
+  place-planned choice (MendReadRight v) w h = right-planned v w (h .0) (h .1) (h .2)
+  place-planned choice (MendSwap v) w h = swap-planned v w (h .0) (h .1) (h .2)
+  place-planned choice (MendClean v) w h = clean-planned v w (h .0) (h .1) (h .2)
+
+  pub planned : ThreadGood s th → At s m th op (th .place) → (choice : ℕ) → Fits (decide s m th choice)
+  unfolding decide
+  planned gt h choice = place-planned choice (th .place) (gt .place) h
