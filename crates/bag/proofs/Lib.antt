@@ -2,6 +2,7 @@
 -- make of them, and the tree's count as a sum over them.
 pub mod Carried
 pub mod CaseJ
+pub mod Ceiling
 pub mod Cells
 pub mod Chains
 pub mod Counts
@@ -12,4 +13,5 @@ pub mod LaidOut
 pub mod Order
 pub mod Plans
 pub mod Sorted
+pub mod Steps
 pub mod Sums

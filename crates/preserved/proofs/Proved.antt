@@ -101,12 +101,12 @@ pub turn-keeps-shape : TurnKeepsShape
 turn-keeps-shape b e t c = turn-good (shapeIn b) b (good b e) t c .shape
 
 -- Beginning a take.
-begun-take-good : (s : Shape) (t : Thread) → ThreadGood s t → ThreadGood s (begunTake t)
+pub begun-take-good : (s : Shape) (t : Thread) → ThreadGood s t → ThreadGood s (begunTake t)
 unfolding begunTake
 begun-take-good s t g = at-good s t (g .fields) ReadRoot tt
 
 -- what is not refused was a thread's, and a put's an item
-in-order : (q : Bool) (a n : ℕ) → (n ≡ 0 → ⊥) → pick q a n ≡ 0 → (q ≡ true) × (a ≡ 0)
+pub in-order : (q : Bool) (a n : ℕ) → (n ≡ 0 → ⊥) → pick q a n ≡ 0 → (q ≡ true) × (a ≡ 0)
 unfolding pick
 in-order true a n h e = (refl, e)
 in-order false a n h e = absurd (h e)
@@ -170,21 +170,21 @@ module _ (s : Shape) (b : List ℕ) (g : Good s b) where
       }))
       (threads-kept-passing (setCellIn (frameOf s) b c v) (λ j x. word-setCellIn (frameOf s) b w c j v (inr (omega arith))))
 
-begun-put-good : (s : Shape) (t : Thread) → ThreadGood s t → (i : Item) → i .key < 2 ^ 32 → i .tag ≤ 65535 → (own : ℕ) → own ≤ s .cells
+pub begun-put-good : (s : Shape) (t : Thread) → ThreadGood s t → (i : Item) → i .key < 2 ^ 32 → i .tag ≤ 65535 → (own : ℕ) → own ≤ s .cells
     → ThreadGood s (begunPut t i own)
 unfolding begunPut
 begun-put-good s t g i hk ht own h =
     at-good s _ (fields-own s _ (fields-item s t (g .fields) i hk ht) own h) ReadDepth tt
 
-free-few : (s : Shape) (b : List ℕ) → Good s b → word b (frameOf s .free) ≤ s .cells
+pub free-few : (s : Shape) (b : List ℕ) → Good s b → word b (frameOf s .free) ≤ s .cells
 unfolding frameOf
 free-few s b g = g .free-most
 
-next-few : (s : Shape) (b : List ℕ) → Good s b → (c : ℕ) → cellIn (frameOf s) b c .next ≤ s .cells
+pub next-few : (s : Shape) (b : List ℕ) → Good s b → (c : ℕ) → cellIn (frameOf s) b c .next ≤ s .cells
 unfolding sharedIn
 next-few s b g c = good-shared s b g .cell c .next
 
-put-begun-good : (s : Shape) (b : List ℕ) → Good s b → (t : ℕ) → 1 ≤ t → t ≤ s .threads → (i : Item) → i .key < 2 ^ 32 → i .tag ≤ 65535
+pub put-begun-good : (s : Shape) (b : List ℕ) → Good s b → (t : ℕ) → 1 ≤ t → t ≤ s .threads → (i : Item) → i .key < 2 ^ 32 → i .tag ≤ 65535
     → (word b (frameOf s .free) ≡ 0 → ⊥) → Good s (putBegun (frameOf s) b t i)
 unfolding putBegun
 put-begun-good s b g t l u i hk ht nf =
@@ -206,16 +206,16 @@ module _ (b : List ℕ) (t : ℕ) (i : Item) (e : putRefusal b t i ≡ done) whe
   unfolding putRefusal
   put-looked = in-order (readable b) _ 7 (λ z. omega arith) e .1
 
-  put-thread : between 1 t (shapeIn b .threads) ≡ true
+  pub put-thread : between 1 t (shapeIn b .threads) ≡ true
   put-thread = in-order (between 1 t (shapeIn b .threads)) _ 3 (λ z. omega arith) put-looked .0
 
-  put-rest : pick (isItem i) (pick (mayPut (threadIn (frameIn b) b t)) (putBusy (frameIn b) b (threadIn (frameIn b) b t)) 8) 4 ≡ 0
+  pub put-rest : pick (isItem i) (pick (mayPut (threadIn (frameIn b) b t)) (putBusy (frameIn b) b (threadIn (frameIn b) b t)) 8) 4 ≡ 0
   put-rest = in-order (between 1 t (shapeIn b .threads)) _ 3 (λ z. omega arith) put-looked .1
 
-  put-item : isItem i ≡ true
+  pub put-item : isItem i ≡ true
   put-item = in-order (isItem i) _ 4 (λ z. omega arith) put-rest .0
 
-  put-free : word b (frameIn b .free) ≡ 0 → ⊥
+  pub put-free : word b (frameIn b .free) ≡ 0 → ⊥
   unfolding putBusy
   put-free z =
       let m = in-order (isItem i) _ 4 (λ z. omega arith) put-rest .1 in
@@ -223,7 +223,7 @@ module _ (b : List ℕ) (t : ℕ) (i : Item) (e : putRefusal b t i ≡ done) whe
       let n = in-order (isIdle (threadIn (frameIn b) b t)) _ 9 (λ z. omega arith) k .1 in
       none-free (eqb (word b (frameIn b .free)) 0) (eq-eqb (word b (frameIn b .free)) 0 z) n
 
-put-good : (b : List ℕ) → Good (shapeIn b) b → (t : ℕ) (i : Item) → Good (shapeIn b) (putBytes b t i)
+pub put-good : (b : List ℕ) → Good (shapeIn b) b → (t : ℕ) (i : Item) → Good (shapeIn b) (putBytes b t i)
 unfolding putBytes isItem
 put-good b g t i =
     pick-good (Good (shapeIn b)) (eqb (putRefusal b t i) done)

@@ -1,0 +1,289 @@
+-- The invariant of shared memory, threads and ledger together. A turn keeps it and the ledger follows what the turn tells; so do the two
+-- beginnings. Assumes nothing.
+use Prim.Native.Nat.{ℕ, zero, suc, _+_, _-_, _≤_}
+use native.Mathlib.Decide.{ℕ-discrete}
+use native.Mathlib.Omega.{arith}
+use mathlib.Core.Path.{_≡_, refl, sym, ap, subst, fun-ext, _∙_}
+use mathlib.Core.Bool.{Bool, true, false, true≢false}
+use mathlib.Core.List.{List}
+use Rattle.region.specs.Answer.{counterSpent}
+use Rattle.region.specs.Pick.{pick, upd}
+use Rattle.region.specs.Shared.{Shared, sharedIn}
+use Rattle.region.specs.declared.answer.Answer.{Answer}
+use Rattle.region.specs.declared.answer.Answer.the-variants.{Moved, Idle as AnswersIdle, Inserted, Took, Empty, Refused}
+use Rattle.region.specs.declared.frame.Frame.{Frame}
+use Rattle.region.specs.declared.place.Place.{Place}
+use Rattle.region.specs.declared.record.Item.{Item}
+use Rattle.region.specs.declared.record.Node.{Node}
+use Rattle.region.specs.declared.shape.Shape.{Shape}
+use Rattle.region.specs.declared.thread.Thread.{Thread}
+use Rattle.access.specs.Effect.{effectShared}
+use Rattle.access.specs.Order.{itemLe, topItem, valueOf}
+use Rattle.access.specs.Read.{readNode}
+use Rattle.access.specs.declared.effect.Effect.{Effect}
+use Rattle.access.specs.declared.effect.Effect.the-variants.{Nothing, Grow, Push, Pop, Exchange, Clean}
+use Rattle.access.specs.declared.plan.Plan.{Plan}
+use Rattle.access.proofs.OrderLaws.{item-key, item-trans}
+use Rattle.bag.specs.History.{Told, nothing, begunPut, begunTake, decidedPut, decidedTake, decidedEmpty, tookItem, answerTells, effectTells}
+use Rattle.bag.specs.Ledger.{Operation, none, putting, taking, holding, Ledger, Follows, still, put-begins, take-begins, put-decides, take-decides, empty-decides, take-answers, oneMore, oneLess}
+use Rattle.bag.specs.Tree.{sameItem}
+use Rattle.bag.proofs.Cells.{upd-same, upd-other}
+use Rattle.bag.proofs.Effects.{Mound, Rely, in-tree, root-there, value-there, rely-same, grow-keeps, grow-relies, grow-counts, push-keeps, push-relies, push-counts, push-own, pop-keeps, pop-relies, pop-counts, pop-own, exchange-keeps, exchange-relies, exchange-counts, clean-keeps, clean-relies, clean-counts}
+use Rattle.bag.proofs.Facts.{At, stays}
+use Rattle.bag.proofs.Held.{val, counted, held-by, head-held}
+use Rattle.bag.proofs.Order.{root-above}
+use Rattle.bag.proofs.Plans.{Allowed, OwnAfter, Planned, Speaks, rests, refuses, moves, reads, grows, swaps, cleans, inserts, removes, empties, answers, cleans-answers}
+use Rattle.bag.proofs.Sorted.{AtMost, same-item, item-same, valueAt}
+
+-- each thread's own cell
+abbrev pub owns : (ℕ → Thread) → ℕ → ℕ
+owns th t = th t .own
+
+pub record Invariant (s : Shape) (m : Shared) (th : ℕ → Thread) (l : Ledger) : Type 0 where
+  pub mound : Mound s m (owns th)
+  pub at : (t : ℕ) → At s m (th t) (l .operation t) (th t .place)
+  pub bag : (i : Item) → l .bag i ≡ counted s m i
+
+-- the bag's counts
+pub same-item-either : (i j : Item) → sameItem i j ≡ sameItem j i
+same-item-either i j = go (sameItem i j) (sameItem j i) refl refl
+  where
+    go : (p q : Bool) → sameItem i j ≡ p → sameItem j i ≡ q → p ≡ q
+    go true true e f = refl
+    go false false e f = refl
+    go true false e f = absurd (true≢false (sym (subst (λ k. sameItem k i ≡ true) (same-item i j e) (item-same i)) ∙ f))
+    go false true e f = absurd (true≢false (sym (subst (λ k. sameItem k j ≡ true) (same-item j i f) (item-same j)) ∙ e))
+
+one-copy : (j a b : Item) → a ≡ b → pick {A = ℕ} (sameItem j a) 1 0 ≡ pick (sameItem j b) 1 0
+one-copy j a b e = ap (λ k. pick {A = ℕ} (sameItem j k) 1 0) e
+
+one-more : (bag : Item → ℕ) (i j : Item) → oneMore bag i j ≡ bag j + pick (sameItem j i) 1 0
+unfolding oneMore pick
+one-more bag i j = ap (λ q. pick q (bag j + 1) (bag j)) (same-item-either i j) ∙ go (sameItem j i)
+  where
+    go : (q : Bool) → pick q (bag j + 1) (bag j) ≡ bag j + pick q 1 0
+    go true = refl
+    go false = omega arith
+
+one-less : (bag : Item → ℕ) (i j : Item) → oneLess bag i j ≡ bag j - pick (sameItem j i) 1 0
+unfolding oneLess pick
+one-less bag i j = ap (λ q. pick q (bag j - 1) (bag j)) (same-item-either i j) ∙ go (sameItem j i)
+  where
+    go : (q : Bool) → pick q (bag j - 1) (bag j) ≡ bag j - pick q 1 0
+    go true = refl
+    go false = omega arith
+
+-- What the root says of the tree.
+module _ (s : Shape) (m : Shared) (own : ℕ → ℕ) (g : Mound s m own) (clean : m .node 1 .dirty ≡ 0) where
+  root-least : (n : ℕ) → 1 ≤ n → AtMost (val m 1) (val m n)
+  root-least n p = g .ordered 1 n (omega arith) (root-above n n (omega arith) p) clean
+
+  -- a clean root's head is least of all
+  pub least-of-all : (j : Item) → 1 ≤ counted s m j → AtMost (val m 1) j
+  least-of-all j h =
+      let b = held-by s m own (g .held) j h in
+      item-trans (val m 1) (val m (b .node)) j (root-least (b .node) (b .some)) (b .least)
+
+  -- an empty clean root means an empty tree
+  pub empty-tree : m .node 1 .first ≡ 0 → (j : Item) → counted s m j ≡ 0
+  unfolding valueOf readNode pick
+  empty-tree e j = go (ℕ-discrete (counted s m j) 0)
+    where
+      go : Dec (counted s m j ≡ 0) → counted s m j ≡ 0
+      go (yes z) = z
+      go (no n) =
+          let b = held-by s m own (g .held) j (omega arith) in
+          let top : val m 1 ≡ topItem = ap (valueAt (m .cell)) e in
+          absurd (true≢false (sym (subst (λ i. AtMost i (val m (b .node))) top (root-least (b .node) (b .some))) ∙ b .proper))
+
+-- the root's head is held, and is least of all
+module _ (s : Shape) (m : Shared) (own : ℕ → ℕ) (g : Mound s m own) where
+  root-held : 1 ≤ m .node 1 .first → 1 ≤ counted s m (m .cell (m .node 1 .first) .item)
+  root-held h = head-held s m own (g .held) 1 (omega arith) (in-tree s m own g 1 (root-there s m own g)) h
+
+  root-below : m .node 1 .dirty ≡ 0 → 1 ≤ m .node 1 .first → (j : Item) → 1 ≤ counted s m j → AtMost (m .cell (m .node 1 .first) .item) j
+  unfolding valueOf readNode
+  root-below clean h j c =
+      subst (λ i. AtMost i j) (value-there (m .cell) (m .node 1 .first) (m .cell (m .node 1 .first) .item) h refl)
+      (least-of-all s m own g clean j c)
+
+-- what a step leaves, beside the thread's own facts
+pub record Stepped (s : Shape) (m m′ : Shared) (own own′ : ℕ → ℕ) (l l′ : Ledger) (t : ℕ) (op′ : Operation) : Type 0 where
+  pub mound : Mound s m′ own′
+  pub rely : Rely m m′
+  pub kept : (u : ℕ) → (u ≡ t → ⊥) → 1 ≤ own u → m′ .cell (own u) ≡ m .cell (own u)
+  pub mine : 1 ≤ own′ t → m′ .cell (own′ t) ≡ m .cell (own′ t)
+  pub others : (u : ℕ) → (u ≡ t → ⊥) → l′ .operation u ≡ l .operation u
+  pub now : l′ .operation t ≡ op′
+  pub bag : (i : Item) → l′ .bag i ≡ counted s m′ i
+
+-- thread t's effect e with answer a
+module _ (s : Shape) (f : Frame) (b : List ℕ) (own own′ : ℕ → ℕ) (l : Ledger) (g : Mound s (sharedIn f b) own)
+    (bag : (i : Item) → l .bag i ≡ counted s (sharedIn f b) i) (t : ℕ) (lt : 1 ≤ t) (ut : t ≤ s .threads)
+    (still-own : (u : ℕ) → (u ≡ t → ⊥) → own′ u ≡ own u) where
+  abbrev m : Shared
+  m = sharedIn f b
+
+  -- all own cells as before
+  same-own : own′ t ≡ own t → own′ ≡ own
+  same-own e = fun-ext λ u. go u (ℕ-discrete u t)
+    where
+      go : (u : ℕ) → Dec (u ≡ t) → own′ u ≡ own u
+      go u (yes k) = ap own′ k ∙ e ∙ ap own (sym k)
+      go u (no n) = still-own u n
+
+  abbrev later : Operation → Ledger
+  later op = record { bag = l .bag; operation = upd (l .operation) t op }
+
+  -- an effect that moves no cell: the operation stays, or changes with the count as it is
+  quiet : (e : Effect) (l′ : Ledger) (op′ : Operation) → own′ t ≡ own t → Mound s (effectShared m e) own → Rely m (effectShared m e)
+      → effectShared m e .cell ≡ m .cell → ((i : Item) → counted s (effectShared m e) i ≡ counted s m i) → ((i : Item) → l′ .bag i ≡ l .bag i)
+      → ((u : ℕ) → (u ≡ t → ⊥) → l′ .operation u ≡ l .operation u) → l′ .operation t ≡ op′ → Stepped s m (effectShared m e) own own′ l l′ t op′
+  quiet e l′ op′ eo mound rely cells counts same others now =
+      record {
+        mound = subst (Mound s (effectShared m e)) (sym (same-own eo)) mound;
+        rely = rely;
+        kept = λ u n p. ap (λ c. c (own u)) cells;
+        mine = λ p. ap (λ c. c (own′ t)) cells;
+        others = others;
+        now = now;
+        bag = λ i. same i ∙ bag i ∙ sym (counts i);
+      }
+
+  pub record Step (e : Effect) (a : Answer) (op′ : Operation) : Type 0 where
+    pub after : Ledger
+    pub follows : Follows (effectTells f b t a e) l after
+    pub stepped : Stepped s m (effectShared m e) own own′ l after t op′
+
+  nothing-keeps : Mound s (effectShared m Nothing) own
+  unfolding effectShared
+  nothing-keeps = g
+
+  nothing-relies : Rely m (effectShared m Nothing)
+  unfolding effectShared
+  nothing-relies = rely-same m m (omega arith) (λ x p. refl)
+
+  module _ (op op′ : Operation) (is : l .operation t ≡ op) where
+    at-rest : op′ ≡ op → l .operation t ≡ op′
+    at-rest e = is ∙ sym e
+
+    pub step : (e : Effect) (a : Answer) → Allowed s m own t e → Speaks m op op′ e a → OwnAfter e (own t) (own′ t) → Step e a op′
+    unfolding effectShared
+    step Nothing Moved al (reads k) ow =
+        record {
+          after = l;
+          follows = still;
+          stepped = quiet Nothing l op′ ow g nothing-relies refl (λ i. refl) (λ i. refl) (λ u n. refl) (at-rest k);
+        }
+    step (Grow d) Moved al (grows k) ow =
+        record {
+          after = l;
+          follows = still;
+          stepped =
+              quiet (Grow d) l op′ ow (grow-keeps s m own g d (al .0) (al .1)) (grow-relies s m own g d (al .0) (al .1)) refl
+              (grow-counts s m own g d (al .0) (al .1)) (λ i. refl) (λ u n. refl) (at-rest k);
+        }
+    step (Exchange n v k w) Moved al (swaps q) ow =
+        record {
+          after = l;
+          follows = still;
+          stepped =
+              quiet (Exchange n v k w) l op′ ow (exchange-keeps s m own g n v k w (al .0) (al .1)) (exchange-relies s m own g n v k w (al .0) (al .1)) refl
+              (exchange-counts s m own g n v k w (al .0) (al .1)) (λ i. refl) (λ u x. refl) (at-rest q);
+        }
+    step (Clean n v) Moved al (cleans k) ow =
+        record {
+          after = l;
+          follows = still;
+          stepped =
+              quiet (Clean n v) l op′ ow (clean-keeps s m own g n v al) (clean-relies s m own g n v al) refl (clean-counts s m own g n v al)
+              (λ i. refl) (λ u x. refl) (at-rest k);
+        }
+    step (Push n v c x) Inserted al (inserts i eo ei en) ow =
+        record {
+          after = record { bag = oneMore (l .bag) i; operation = upd (l .operation) t none };
+          follows = put-decides (is ∙ eo);
+          stepped =
+              record {
+                mound = push-keeps s m own own′ g t n v c x lt ut al ow still-own;
+                rely = push-relies s m own own′ g t n v c x lt ut al ow still-own;
+                kept = push-own s m own own′ g t n v c x lt ut al ow still-own;
+                mine = λ p. absurd (omega arith);
+                others = λ u y. upd-other (l .operation) t u none y;
+                now = upd-same (l .operation) t none ∙ sym en;
+                bag = λ j.
+                    let p = push-counts s m own own′ g t n v c x lt ut al ow still-own j in
+                    let q = one-copy j (m .cell c .item) i ei in
+                    omega (arith, one-more (l .bag) i j, bag j, p, q);
+              };
+        }
+    step (Pop v c) Moved al (removes eo en) ow =
+        let i = m .cell (m .node 1 .first) .item in
+        let ic : m .cell c .item ≡ i = ap (λ k. m .cell k .item) (sym (al .head)) in
+        record {
+          after = record { bag = oneLess (l .bag) i; operation = upd (l .operation) t (holding i) };
+          follows = take-decides (is ∙ eo) (subst (λ k. 1 ≤ k) (sym (bag i)) (root-held s m own g (omega (arith, al .head, al .cell))))
+              (λ j h. item-key i j (root-below s m own g (al .clean) (omega (arith, al .head, al .cell)) j (subst (λ k. 1 ≤ k) (bag j) h)));
+          stepped =
+              record {
+                mound = subst (Mound s (effectShared m (Pop v c))) (sym (same-own ow)) (pop-keeps s m own g v c al);
+                rely = pop-relies s m own g v c al;
+                kept = λ u y p. pop-own s m own g v c al u p;
+                mine = λ p.
+                    subst (λ o. effectShared m (Pop v c) .cell o ≡ m .cell o) (sym ow)
+                    (pop-own s m own g v c al t (omega (arith, ow)));
+                others = λ u y. upd-other (l .operation) t u (holding i) y;
+                now = upd-same (l .operation) t (holding i) ∙ ap holding (sym ic) ∙ sym en;
+                bag = λ j.
+                    let p = pop-counts s m own g v c al j in
+                    let q = one-copy j (m .cell c .item) i ic in
+                    omega (arith, one-less (l .bag) i j, bag j, p, q);
+              };
+        }
+    step Nothing Empty al (empties eo en clean nobody) ow =
+        record {
+          after = later none;
+          follows = empty-decides (is ∙ eo) (λ j. bag j ∙ empty-tree s m own g clean nobody j);
+          stepped =
+              quiet Nothing (later none) op′ ow g nothing-relies refl (λ i. refl) (λ i. refl) (λ u y. upd-other (l .operation) t u none y)
+              (upd-same (l .operation) t none ∙ sym en);
+        }
+    step Nothing (Took i) al (answers eo en) ow =
+        record {
+          after = later none;
+          follows = take-answers (is ∙ eo);
+          stepped =
+              quiet Nothing (later none) op′ ow g nothing-relies refl (λ j. refl) (λ j. refl) (λ u y. upd-other (l .operation) t u none y)
+              (upd-same (l .operation) t none ∙ sym en);
+        }
+    step (Clean n v) (Took i) al (cleans-answers eo en) ow =
+        record {
+          after = later none;
+          follows = take-answers (is ∙ eo);
+          stepped =
+              quiet (Clean n v) (later none) op′ ow (clean-keeps s m own g n v al) (clean-relies s m own g n v al) refl
+              (clean-counts s m own g n v al) (λ j. refl) (λ u y. upd-other (l .operation) t u none y)
+              (upd-same (l .operation) t none ∙ sym en);
+        }
+
+-- The facts of every thread after a step of thread t.
+module _ (s : Shape) (m m′ : Shared) (th : ℕ → Thread) (l l′ : Ledger) (t : ℕ) (v : Thread) (op′ : Operation)
+    (at : (u : ℕ) → At s m (th u) (l .operation u) (th u .place))
+    (st : Stepped s m m′ (owns th) (owns (upd th t v)) l l′ t op′) where
+  module _ (now : At s m′ v op′ (v .place)) where
+    all-at : (u : ℕ) → Dec (u ≡ t) → At s m′ (upd th t v u) (l′ .operation u) (upd th t v u .place)
+    all-at u (yes e) =
+        subst (λ y. At s m′ (upd th t v y) (l′ .operation y) (upd th t v y .place)) (sym e)
+        (subst (λ x. At s m′ x (l′ .operation t) (x .place)) (sym (upd-same th t v))
+        (subst (λ o. At s m′ v o (v .place)) (sym (st .now)) now))
+    all-at u (no n) =
+        subst (λ x. At s m′ x (l′ .operation u) (x .place)) (sym (upd-other th t u v n))
+        (subst (λ o. At s m′ (th u) o (th u .place)) (sym (st .others u n))
+        (stays m m′ (st .rely) (th u) (l .operation u) (st .kept u n) s (th u .place) (at u)))
+
+    pub stepped-invariant : Invariant s m′ (upd th t v) l′
+    stepped-invariant = record { mound = st .mound; at = λ u. all-at u (ℕ-discrete u t); bag = st .bag }
+
+  -- a turn's own facts were found before its effect
+  pub turned-invariant : At s m v op′ (v .place) → (1 ≤ v .own → m′ .cell (v .own) ≡ m .cell (v .own)) → Invariant s m′ (upd th t v) l′
+  turned-invariant now mine = stepped-invariant (stays m m′ (st .rely) v op′ mine s (v .place) now)
