@@ -12,6 +12,7 @@ pub mod Held
 pub mod LaidOut
 pub mod Order
 pub mod Plans
+pub mod Regions
 pub mod Sorted
 pub mod Steps
 pub mod Sums
