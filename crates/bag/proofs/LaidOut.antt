@@ -15,9 +15,10 @@ use Rattle.region.specs.Frame.{frameOf, nodesOf}
 use Rattle.region.specs.Pick.{pick}
 use Rattle.region.specs.Record.{nodeOf, nodeAt, emptyNode, cellAt, zeroItem}
 use Rattle.region.specs.Shape.{between, nodeCount, regionWords}
-use Rattle.region.specs.Shared.{entry, loadEntry, nodeIn, cellIn, threadIn, sharedIn}
+use Rattle.region.specs.Shared.{Shared, entry, loadEntry, nodeIn, cellIn, threadIn, sharedIn}
 use Rattle.region.specs.Thread.{threadAt, threadOf, idleThread}
 use Rattle.region.specs.declared.record.Cell.{Cell}
+use Rattle.region.specs.declared.record.Item.{Item}
 use Rattle.region.specs.declared.record.Node.{Node}
 use Rattle.region.specs.declared.shape.Shape.{Shape}
 use Rattle.region.proofs.Shapes.{between-least, between-most, is-between}
@@ -25,7 +26,9 @@ use Rattle.layout.specs.Layout.{layoutRefusal, layoutBytes, cellWord, threadWor
 use Rattle.layout.proofs.Laws.{threadWord-rest}
 use Rattle.readable.proofs.Laws.{Good, good}
 use Rattle.queue.proofs.LaidOutIsReadable.{header, node-word, cell-word, thread-word, laid-out-is-readable, same-shape}
+use Rattle.machine.specs.Begin.{frameIn}
 use Rattle.preserved.proofs.PlansGood.{pick-good}
+use Rattle.bag.specs.Tree.{inList, inNodes, inTree}
 
 -- the chain of free cells: behind cell c comes c + 1, and cell C, like a number that is no cell, ends it
 unfoldable pub nextFree : ℕ → ℕ → ℕ
@@ -80,6 +83,19 @@ unfolding threadWord pick
 permission-word ps i =
     let q : (33 * i + 0) / 33 ≡ i = omega arith in
     rw (eq-eqb ((33 * i + 0) % 33) 0 (omega arith), q) refl
+
+-- empty nodes hold nothing
+empty-list : (m : Shared) (i : Item) (n : ℕ) → inList m i n 0 ≡ 0
+unfolding inList pick
+empty-list m i zero = refl
+empty-list m i (suc n) = refl
+
+empty-nodes : (m : Shared) (i : Item) (l : ℕ) → ((n : ℕ) → m .node n ≡ emptyNode) → (n : ℕ) → inNodes m i l n ≡ 0
+unfolding inNodes
+empty-nodes m i l h zero = refl
+empty-nodes m i l h (suc n) =
+    let e : inList m i l (m .node (suc n) .first) ≡ 0 = ap (λ v. inList m i l (v .first)) (h (suc n)) ∙ empty-list m i l in
+    omega (arith, e, empty-nodes m i l h n)
 
 module _ (s : Shape) (ps b : List ℕ) (e : layoutRefusal s ps (length b) ≡ done) where
   abbrev laid : List ℕ
@@ -152,3 +168,10 @@ module _ (s : Shape) (ps b : List ℕ) (e : layoutRefusal s ps (length b) ≡ do
   pub laid-no-thread : (t : ℕ) → between 1 t (s .threads) ≡ false → threadIn (frameOf s) laid t ≡ idleThread 0
   unfolding threadIn loadEntry frameOf pick
   laid-no-thread t h = rw h refl
+
+  -- the tree of a laid-out region holds nothing
+  pub laid-out-holds-nothing : (i : Item) → inTree (frameIn laid) laid i ≡ 0
+  unfolding inTree
+  laid-out-holds-nothing i =
+      subst (λ x. inTree (frameOf x) laid i ≡ 0) (sym (same-shape s ps b e))
+      (empty-nodes (sharedIn (frameOf s) laid) i (frameOf s .shape .cells) laid-node (nodeCount (frameOf s .shape)))

@@ -1,5 +1,5 @@
--- What is computed of the definitions, and the theory so far: the tree's order kept by each effect, chains of cells and what the effects
--- make of them, and the tree's count as a sum over them.
+-- The theory of demand 3, from cells and trees up to the theorems.
+pub mod Answers
 pub mod Carried
 pub mod CaseJ
 pub mod Ceiling
@@ -7,12 +7,17 @@ pub mod Cells
 pub mod Chains
 pub mod Counts
 pub mod Effects
+pub mod EmptyList
 pub mod Facts
 pub mod Held
+pub mod Histories
 pub mod LaidOut
+pub mod Operations
 pub mod Order
 pub mod Plans
+pub mod Proved
 pub mod Regions
 pub mod Sorted
+pub mod Start
 pub mod Steps
 pub mod Sums

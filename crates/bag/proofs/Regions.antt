@@ -1,7 +1,8 @@
 -- The invariant on the bytes of a region: a turn and the two beginnings keep it, and the ledger follows what they tell. Assumes nothing.
 use Prim.Native.Nat.{ℕ, _+_, _-_, _*_, _%_, _/_, _≤_, _<_, _^_}
+use native.Mathlib.Decide.{ℕ-discrete}
 use native.Mathlib.Omega.{arith}
-use mathlib.Core.Path.{_≡_, refl, sym, ap, subst, subst₂, _∙_}
+use mathlib.Core.Path.{_≡_, refl, sym, ap, subst, subst₂, fun-ext, _∙_}
 use mathlib.Core.Bool.{Bool, true, false, _&&_, true≢false}
 use mathlib.Core.List.{List}
 use borrow.Author.Tests.{eqb-true, eq-eqb, leb-true}
@@ -25,7 +26,7 @@ use Rattle.region.specs.declared.record.Item.{Item}
 use Rattle.region.specs.declared.shape.Shape.{Shape}
 use Rattle.region.specs.declared.thread.Thread.{Thread}
 use Rattle.region.proofs.Frames.{frame-parted}
-use Rattle.region.proofs.Shapes.{and-left, between-least, between-most}
+use Rattle.region.proofs.Shapes.{and-left, and-right, between-least, between-most, sizes}
 use Rattle.region.proofs.Views.{length-setCellIn, shared-setCell, shared-setFree, shared-setThread, threads-setCell, threads-setFree, threads-setThread}
 use Rattle.access.specs.Effect.{effectShared}
 use Rattle.access.specs.Plan.{plan, refused}
@@ -40,7 +41,7 @@ use Rattle.machine.specs.Begin.{frameIn, isIdle, isItem, mayPut, mayTake, putBe
 use Rattle.machine.specs.Run.{Turn}
 use Rattle.machine.specs.Turn.{decide, staysPut, turnBytes, turnPlan}
 use Rattle.preserved.proofs.EffectsGood.{cell-fit}
-use Rattle.preserved.proofs.Proved.{begun-put-good, begun-take-good, free-few, in-order, next-few, put-free, put-good, put-item, put-rest, put-thread, take-good, take-thread, turn-good}
+use Rattle.preserved.proofs.Proved.{begun-put-good, begun-take-good, free-few, in-order, next-few, put-allowed, put-item, turn-good}
 use Rattle.bag.specs.History.{Told, nothing, begunPut as toldPut, begunTake as toldTake, answerTells, effectTells, turnTells}
 use Rattle.bag.specs.Ledger.{Operation, none, putting, taking, Ledger, Follows, still, put-begins, take-begins}
 use Rattle.bag.proofs.Carried.{turn-decides, turn-shared, turn-stays, turn-threads}
@@ -120,7 +121,7 @@ module _ (s : Shape) (b : List ℕ) (l : Ledger) (g : Region s b l) where
           in
           let e = speaks-moves sp in
           let inv = turned-invariant s m (effectShared m (p .effect)) th l (st .after) t v op′ (g .holds .at) (st .stepped) at
-          (λ k. subst (λ o. 1 ≤ o → effectShared m (p .effect) .cell o ≡ m .cell o) now (st .stepped .mine) k)
+          (λ k. subst (λ o. 1 ≤ o → effectShared m (p .effect) .cell o ≡ m .cell o) now (st .mine) k)
           in
           record {
             after = st .after;
@@ -157,3 +158,215 @@ module _ (s : Shape) (b : List ℕ) (l : Ledger) (g : Region s b l) where
   pub turn-next : (x : Turn) → Next s l (turnTells (frameOf s) b x) (turnBytes (frameOf s) b (x .thread) (x .choice))
   unfolding turnTells p
   turn-next x = turn-step (x .thread) (x .choice)
+
+-- What is not refused.
+idle-place : (x : Place) → eqb (placeNumber x) 0 ≡ true → x ≡ Idle
+idle-place Idle e = refl
+idle-place ReadDepth e = absurd (true≢false (sym e))
+idle-place ReadLeaf e = absurd (true≢false (sym e))
+idle-place ReadAncestor e = absurd (true≢false (sym e))
+idle-place GrowDepth e = absurd (true≢false (sym e))
+idle-place ReadTarget e = absurd (true≢false (sym e))
+idle-place InsertAtRoot e = absurd (true≢false (sym e))
+idle-place ReadParent e = absurd (true≢false (sym e))
+idle-place InsertBelow e = absurd (true≢false (sym e))
+idle-place ReadRoot e = absurd (true≢false (sym e))
+idle-place RemoveHead e = absurd (true≢false (sym e))
+idle-place (MendReadNode w) e = absurd (true≢false (sym e))
+idle-place (MendReadDepth w) e = absurd (true≢false (sym e))
+idle-place (MendReadLeft w) e = absurd (true≢false (sym e))
+idle-place (MendReadRight w) e = absurd (true≢false (sym e))
+idle-place (MendSwap w) e = absurd (true≢false (sym e))
+idle-place (MendClean w) e = absurd (true≢false (sym e))
+
+pub is-idle : (x : Thread) → isIdle x ≡ true → x .place ≡ Idle
+unfolding isIdle
+is-idle x e = idle-place (x .place) e
+
+pub may-put : (x : Thread) → mayPut x ≡ true → 1 ≤ x .permission
+unfolding mayPut
+may-put x e = let z = eqb-true (x .permission % 2) 1 e in omega arith
+
+pub may-take : (x : Thread) → mayTake x ≡ true → 1 ≤ x .permission
+unfolding mayTake
+may-take x e = let z = eqb-true (x .permission / 2 % 2) 1 e in omega arith
+
+module _ (b : List ℕ) (t : ℕ) where
+  abbrev x : Thread
+  x = threadIn (frameIn b) b t
+
+  pub put-idle : (i : Item) → putRefusal b t i ≡ done → isIdle x ≡ true
+  unfolding putBusy
+  put-idle i e =
+      in-order (isIdle x) _ 9 (λ z. omega arith) (in-order (mayPut x) _ 8 (λ z. omega arith) (put-allowed b t i e) .1) .0
+
+  pub put-key : (i : Item) → putRefusal b t i ≡ done → i .key ≤ 4294967294
+  unfolding isItem
+  put-key i e = leb-true (i .key) 4294967294 (and-left (leb (i .key) 4294967294) (leb (i .tag) 65535) (put-item b t i e))
+
+  pub take-idle : takeRefusal b t ≡ done → isIdle x ≡ true
+  unfolding takeRefusal
+  take-idle e =
+      in-order (isIdle x) _ 9 (λ z. omega arith)
+      (in-order (mayTake x) _ 8 (λ z. omega arith)
+      (in-order (between 1 t (shapeIn b .threads)) _ 3 (λ z. omega arith) (in-order (readable b) _ 7 (λ z. omega arith) e .1) .1)
+      .1)
+      .0
+
+-- Beginnings, on a region of shape s.
+module _ (s : Shape) (b : List ℕ) (l : Ledger) (g : Region s b l) (t : ℕ) (lt : 1 ≤ t) (ut : t ≤ s .threads)
+    (idle : threadIn (frameOf s) b t .place ≡ Idle) where
+  at-rest : At s (m s b l g) (th s b l g t) (l .operation t) Idle
+  at-rest = subst (At s (m s b l g) (th s b l g t) (l .operation t)) idle (g .holds .at t)
+
+  -- a take
+  module _ (may : 1 ≤ threadIn (frameOf s) b t .permission) where
+    abbrev taker : Thread
+    taker = begunTake (th s b l g t)
+
+    take-shared : sharedIn (frameOf s) (setThreadIn (frameOf s) b t taker) ≡ m s b l g
+    take-shared = shared-setThread (frameOf s) b (good-within s b (g .good)) (frame-parted s) t taker
+
+    take-threads : threadIn (frameOf s) (setThreadIn (frameOf s) b t taker) ≡ upd (th s b l g) t taker
+    unfolding frameOf
+    take-threads =
+        threads-setThread (frameOf s) b (good-within s b (g .good)) (frame-parted s) t taker lt ut
+        (thread-fit s (g .good .range) taker (begun-take-good s (th s b l g t) (good-thread s b (g .good) t)))
+
+    same-owns : owns (upd (th s b l g) t taker) ≡ owns (th s b l g)
+    unfolding begunTake atPlace
+    same-owns = fun-ext λ u. go u (ℕ-discrete u t)
+      where
+        go : (u : ℕ) → Dec (u ≡ t) → upd (th s b l g) t taker u .own ≡ th s b l g u .own
+        go u (yes e) =
+            ap (λ y. upd (th s b l g) t taker y .own) e ∙ ap (λ y. y .own) (upd-same (th s b l g) t taker) ∙ ap (λ y. th s b l g y .own) (sym e)
+        go u (no n) = ap (λ y. y .own) (upd-other (th s b l g) t u taker n)
+
+    abbrev takes : Ledger
+    takes = record { bag = l .bag; operation = upd (l .operation) t taking }
+
+    take-begun : Invariant s (m s b l g) (upd (th s b l g) t taker) takes
+    unfolding begunTake atPlace
+    take-begun =
+        stepped-invariant s (m s b l g) (m s b l g) (th s b l g) l takes t taker taking (g .holds .at)
+        (record {
+          mound = subst (Mound s (m s b l g)) (sym same-owns) (g .holds .mound);
+          rely = rely-same (m s b l g) (m s b l g) (omega arith) (λ y p. refl);
+          kept = λ u n p. refl;
+          others = λ u n. upd-other (l .operation) t u taking n;
+          now = upd-same (l .operation) t taking;
+          bag = g .holds .bag;
+        })
+        (record { operation = refl; permitted = may; none = at-rest .1 })
+
+    pub take-next : Good s (setThreadIn (frameOf s) b t taker) → Next s l (toldTake t) (setThreadIn (frameOf s) b t taker)
+    take-next good =
+        record {
+          after = takes;
+          follows = take-begins (at-rest .0);
+          region = record { good = good; holds = subst₂ (λ y z. Invariant s y z takes) (sym take-shared) (sym take-threads) take-begun };
+        }
+
+  -- a put
+  module _ (may : 1 ≤ threadIn (frameOf s) b t .permission) (i : Item) (key : i .key ≤ 4294967294) (tag : i .tag ≤ 65535)
+      (free : word b (frameOf s .free) ≡ 0 → ⊥) where
+    abbrev c : ℕ
+    c = word b (frameOf s .free)
+
+    abbrev mine : Cell
+    mine = record { item = i; next = 0 }
+
+    abbrev next : ℕ
+    next = cellIn (frameOf s) b c .next
+
+    abbrev putter : Thread
+    putter = begunPut (th s b l g t) i c
+
+    begun : Shared
+    begun = putCell (putFree (m s b l g) next) c mine
+
+    few : c ≤ s .cells
+    few = free-few s b (g .good)
+
+    fewer : s .cells < 2 ^ 32
+    fewer = omega (arith, g .good .range .cells-most, sizes s (g .good .range .depth-most))
+
+    within-free : Within (frameOf s) (length (setWord b (frameOf s .free) next))
+    within-free = subst (Within (frameOf s)) (sym (length-setWord b (frameOf s .free) next)) (good-within s b (g .good))
+
+    within-cell : Within (frameOf s) (length (setCellIn (frameOf s) (setWord b (frameOf s .free) next) c mine))
+    within-cell = subst (Within (frameOf s)) (sym (length-setCellIn (frameOf s) (setWord b (frameOf s .free) next) c mine)) within-free
+
+    put-shared : sharedIn (frameOf s) (putBegun (frameOf s) b t i) ≡ begun
+    unfolding putBegun begun frameOf
+    put-shared =
+        shared-setThread (frameOf s) (setCellIn (frameOf s) (setWord b (frameOf s .free) next) c mine) within-cell (frame-parted s) t _
+        ∙ shared-setCell (frameOf s) (setWord b (frameOf s .free) next) within-free (frame-parted s) c mine (omega arith) few
+        (cell-fit s (g .good .range) mine (record { key = omega arith; tag = tag; next = omega arith }))
+        ∙ ap (λ y. putCell y c mine)
+        (shared-setFree (frameOf s) b (good-within s b (g .good)) (frame-parted s) next (omega (arith, next-few s b (g .good) c, fewer)))
+
+    put-threads : threadIn (frameOf s) (putBegun (frameOf s) b t i) ≡ upd (th s b l g) t putter
+    unfolding putBegun frameOf
+    put-threads =
+        threads-setThread (frameOf s) (setCellIn (frameOf s) (setWord b (frameOf s .free) next) c mine) within-cell (frame-parted s) t putter lt ut
+        (thread-fit s (g .good .range) putter
+        (begun-put-good s (th s b l g t) (good-thread s b (g .good) t) i (omega arith) tag c few))
+        ∙ ap (λ y. upd y t putter)
+        (threads-setCell (frameOf s) (setWord b (frameOf s .free) next) within-free (frame-parted s) c mine
+        ∙ threads-setFree (frameOf s) b (good-within s b (g .good)) (frame-parted s) next)
+
+    abbrev begins : Ledger
+    begins = record { bag = l .bag; operation = upd (l .operation) t (putting i) }
+
+    own-now : upd (th s b l g) t putter t .own ≡ c
+    unfolding begunPut atPlace withOwn withItem
+    own-now = ap (λ y. y .own) (upd-same (th s b l g) t putter)
+
+    still-own : (u : ℕ) → (u ≡ t → ⊥) → upd (th s b l g) t putter u .own ≡ th s b l g u .own
+    still-own u n = ap (λ y. y .own) (upd-other (th s b l g) t u putter n)
+
+    put-stepped : Stepped s (m s b l g) begun (owns (th s b l g)) (owns (upd (th s b l g) t putter)) l begins t (putting i)
+    unfolding begun sharedIn
+    put-stepped =
+        record {
+          mound =
+              begin-keeps s (m s b l g) begun (owns (th s b l g)) (owns (upd (th s b l g) t putter)) (g .holds .mound) t c lt ut (omega arith) refl
+              (at-rest .1) (λ d n. upd-other (m s b l g .cell) c d mine n) (ap (λ y. y .next) (upd-same (m s b l g .cell) c mine)) refl refl refl
+              own-now still-own;
+          rely =
+              begin-relies s (m s b l g) begun (owns (th s b l g)) (owns (upd (th s b l g) t putter)) (g .holds .mound) t c lt ut (omega arith) refl
+              (at-rest .1) (λ d n. upd-other (m s b l g .cell) c d mine n) (ap (λ y. y .next) (upd-same (m s b l g .cell) c mine)) refl refl refl
+              own-now still-own;
+          kept = λ u n p.
+              begin-own s (m s b l g) begun (owns (th s b l g)) (owns (upd (th s b l g) t putter)) (g .holds .mound) t c lt ut (omega arith) refl
+              (at-rest .1) (λ d n. upd-other (m s b l g .cell) c d mine n) (ap (λ y. y .next) (upd-same (m s b l g .cell) c mine)) refl refl refl
+              own-now still-own u p;
+          others = λ u n. upd-other (l .operation) t u (putting i) n;
+          now = upd-same (l .operation) t (putting i);
+          bag = λ j. g .holds .bag j ∙ sym
+              (begin-counts s (m s b l g) begun (owns (th s b l g)) (owns (upd (th s b l g) t putter)) (g .holds .mound) t c lt ut (omega arith) refl
+              (at-rest .1) (λ d n. upd-other (m s b l g .cell) c d mine n) (ap (λ y. y .next) (upd-same (m s b l g .cell) c mine)) refl refl refl
+              own-now still-own j);
+        }
+
+    put-begun : Invariant s begun (upd (th s b l g) t putter) begins
+    unfolding begun begunPut atPlace withOwn withItem
+    put-begun =
+        stepped-invariant s (m s b l g) begun (th s b l g) l begins t putter (putting i) (g .holds .at) put-stepped
+        (record {
+          operation = refl;
+          permitted = may;
+          some = omega arith;
+          item = ap (λ y. y .item) (upd-same (m s b l g .cell) c mine);
+          ended = ap (λ y. y .next) (upd-same (m s b l g .cell) c mine);
+          proper = item-below-top i key;
+        })
+
+    pub put-next : Good s (putBegun (frameOf s) b t i) → Next s l (toldPut t i) (putBegun (frameOf s) b t i)
+    put-next good =
+        record {
+          after = begins;
+          follows = put-begins (at-rest .0);
+          region = record { good = good; holds = subst₂ (λ y z. Invariant s y z begins) (sym put-shared) (sym put-threads) put-begun };
+        }

@@ -112,7 +112,6 @@ pub record Stepped (s : Shape) (m m′ : Shared) (own own′ : ℕ → ℕ) (l l
   pub mound : Mound s m′ own′
   pub rely : Rely m m′
   pub kept : (u : ℕ) → (u ≡ t → ⊥) → 1 ≤ own u → m′ .cell (own u) ≡ m .cell (own u)
-  pub mine : 1 ≤ own′ t → m′ .cell (own′ t) ≡ m .cell (own′ t)
   pub others : (u : ℕ) → (u ≡ t → ⊥) → l′ .operation u ≡ l .operation u
   pub now : l′ .operation t ≡ op′
   pub bag : (i : Item) → l′ .bag i ≡ counted s m′ i
@@ -144,7 +143,6 @@ module _ (s : Shape) (f : Frame) (b : List ℕ) (own own′ : ℕ → ℕ) (l : 
         mound = subst (Mound s (effectShared m e)) (sym (same-own eo)) mound;
         rely = rely;
         kept = λ u n p. ap (λ c. c (own u)) cells;
-        mine = λ p. ap (λ c. c (own′ t)) cells;
         others = others;
         now = now;
         bag = λ i. same i ∙ bag i ∙ sym (counts i);
@@ -154,6 +152,8 @@ module _ (s : Shape) (f : Frame) (b : List ℕ) (own own′ : ℕ → ℕ) (l : 
     pub after : Ledger
     pub follows : Follows (effectTells f b t a e) l after
     pub stepped : Stepped s m (effectShared m e) own own′ l after t op′
+    -- a cell that the thread still owns is as before
+    pub mine : 1 ≤ own′ t → effectShared m e .cell (own′ t) ≡ m .cell (own′ t)
 
   nothing-keeps : Mound s (effectShared m Nothing) own
   unfolding effectShared
@@ -174,6 +174,7 @@ module _ (s : Shape) (f : Frame) (b : List ℕ) (own own′ : ℕ → ℕ) (l : 
           after = l;
           follows = still;
           stepped = quiet Nothing l op′ ow g nothing-relies refl (λ i. refl) (λ i. refl) (λ u n. refl) (at-rest k);
+          mine = λ p. refl;
         }
     step (Grow d) Moved al (grows k) ow =
         record {
@@ -182,6 +183,7 @@ module _ (s : Shape) (f : Frame) (b : List ℕ) (own own′ : ℕ → ℕ) (l : 
           stepped =
               quiet (Grow d) l op′ ow (grow-keeps s m own g d (al .0) (al .1)) (grow-relies s m own g d (al .0) (al .1)) refl
               (grow-counts s m own g d (al .0) (al .1)) (λ i. refl) (λ u n. refl) (at-rest k);
+          mine = λ p. refl;
         }
     step (Exchange n v k w) Moved al (swaps q) ow =
         record {
@@ -190,6 +192,7 @@ module _ (s : Shape) (f : Frame) (b : List ℕ) (own own′ : ℕ → ℕ) (l : 
           stepped =
               quiet (Exchange n v k w) l op′ ow (exchange-keeps s m own g n v k w (al .0) (al .1)) (exchange-relies s m own g n v k w (al .0) (al .1)) refl
               (exchange-counts s m own g n v k w (al .0) (al .1)) (λ i. refl) (λ u x. refl) (at-rest q);
+          mine = λ p. refl;
         }
     step (Clean n v) Moved al (cleans k) ow =
         record {
@@ -198,6 +201,7 @@ module _ (s : Shape) (f : Frame) (b : List ℕ) (own own′ : ℕ → ℕ) (l : 
           stepped =
               quiet (Clean n v) l op′ ow (clean-keeps s m own g n v al) (clean-relies s m own g n v al) refl (clean-counts s m own g n v al)
               (λ i. refl) (λ u x. refl) (at-rest k);
+          mine = λ p. refl;
         }
     step (Push n v c x) Inserted al (inserts i eo ei en) ow =
         record {
@@ -208,7 +212,6 @@ module _ (s : Shape) (f : Frame) (b : List ℕ) (own own′ : ℕ → ℕ) (l : 
                 mound = push-keeps s m own own′ g t n v c x lt ut al ow still-own;
                 rely = push-relies s m own own′ g t n v c x lt ut al ow still-own;
                 kept = push-own s m own own′ g t n v c x lt ut al ow still-own;
-                mine = λ p. absurd (omega arith);
                 others = λ u y. upd-other (l .operation) t u none y;
                 now = upd-same (l .operation) t none ∙ sym en;
                 bag = λ j.
@@ -216,6 +219,7 @@ module _ (s : Shape) (f : Frame) (b : List ℕ) (own own′ : ℕ → ℕ) (l : 
                     let q = one-copy j (m .cell c .item) i ei in
                     omega (arith, one-more (l .bag) i j, bag j, p, q);
               };
+          mine = λ p. absurd (omega arith);
         }
     step (Pop v c) Moved al (removes eo en) ow =
         let i = m .cell (m .node 1 .first) .item in
@@ -229,9 +233,6 @@ module _ (s : Shape) (f : Frame) (b : List ℕ) (own own′ : ℕ → ℕ) (l : 
                 mound = subst (Mound s (effectShared m (Pop v c))) (sym (same-own ow)) (pop-keeps s m own g v c al);
                 rely = pop-relies s m own g v c al;
                 kept = λ u y p. pop-own s m own g v c al u p;
-                mine = λ p.
-                    subst (λ o. effectShared m (Pop v c) .cell o ≡ m .cell o) (sym ow)
-                    (pop-own s m own g v c al t (omega (arith, ow)));
                 others = λ u y. upd-other (l .operation) t u (holding i) y;
                 now = upd-same (l .operation) t (holding i) ∙ ap holding (sym ic) ∙ sym en;
                 bag = λ j.
@@ -239,6 +240,8 @@ module _ (s : Shape) (f : Frame) (b : List ℕ) (own own′ : ℕ → ℕ) (l : 
                     let q = one-copy j (m .cell c .item) i ic in
                     omega (arith, one-less (l .bag) i j, bag j, p, q);
               };
+          mine = λ p.
+              subst (λ o. effectShared m (Pop v c) .cell o ≡ m .cell o) (sym ow) (pop-own s m own g v c al t (omega (arith, ow)));
         }
     step Nothing Empty al (empties eo en clean nobody) ow =
         record {
@@ -247,6 +250,7 @@ module _ (s : Shape) (f : Frame) (b : List ℕ) (own own′ : ℕ → ℕ) (l : 
           stepped =
               quiet Nothing (later none) op′ ow g nothing-relies refl (λ i. refl) (λ i. refl) (λ u y. upd-other (l .operation) t u none y)
               (upd-same (l .operation) t none ∙ sym en);
+          mine = λ p. refl;
         }
     step Nothing (Took i) al (answers eo en) ow =
         record {
@@ -255,6 +259,7 @@ module _ (s : Shape) (f : Frame) (b : List ℕ) (own own′ : ℕ → ℕ) (l : 
           stepped =
               quiet Nothing (later none) op′ ow g nothing-relies refl (λ j. refl) (λ j. refl) (λ u y. upd-other (l .operation) t u none y)
               (upd-same (l .operation) t none ∙ sym en);
+          mine = λ p. refl;
         }
     step (Clean n v) (Took i) al (cleans-answers eo en) ow =
         record {
@@ -264,6 +269,7 @@ module _ (s : Shape) (f : Frame) (b : List ℕ) (own own′ : ℕ → ℕ) (l : 
               quiet (Clean n v) (later none) op′ ow (clean-keeps s m own g n v al) (clean-relies s m own g n v al) refl
               (clean-counts s m own g n v al) (λ j. refl) (λ u y. upd-other (l .operation) t u none y)
               (upd-same (l .operation) t none ∙ sym en);
+          mine = λ p. refl;
         }
 
 -- The facts of every thread after a step of thread t.

@@ -15,6 +15,11 @@ sum-same f g zero h = refl
 sum-same f g (suc n) h =
     cc (sum-same f g n (λ k l u. h k l (omega arith)), h (suc n) (omega arith) (omega arith))
 
+pub sum-zero : (f : ℕ → ℕ) (n : ℕ) → ((k : ℕ) → 1 ≤ k → k ≤ n → f k ≡ 0) → sum f n ≡ 0
+unfolding sum
+sum-zero f zero h = refl
+sum-zero f (suc n) h = omega (arith, sum-zero f n (λ k l u. h k l (omega arith)), h (suc n) (omega arith) (omega arith))
+
 -- each summand is within the sum
 pub sum-has : (f : ℕ → ℕ) (n k : ℕ) → 1 ≤ k → k ≤ n → f k ≤ sum f n
 unfolding sum

@@ -1,7 +1,10 @@
--- "The bag" of document 01: what is claimed of every list of calls on a laid-out region.
+-- "The bag" of document 01: what is claimed of every list of calls on a laid-out region; and the ceiling of a take's accesses.
 pub mod Calls
 pub mod Ceiling
 pub mod Claim
+pub mod EmptyList
 pub mod History
 pub mod Ledger
+pub mod Moments
+pub mod Operations
 pub mod Tree

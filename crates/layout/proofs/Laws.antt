@@ -101,8 +101,11 @@ module _ (s : Shape) (ps b : List ℕ) (e : layoutRefusal s ps (length b) ≡ do
   pub laid-permissions : atMost 3 ps ≡ true
   laid-permissions = permitted s ps (length b) (layoutRefusal s ps (length b)) refl e
 
+  pub laid-exact : length b ≡ 4 * regionWords s
+  laid-exact = call .exact
+
   pub laid-length : length (layoutBytes s ps b) ≡ 4 * regionWords s
-  laid-length = ap length laid-bytes ∙ length-setWords (laidWords s ps 0 (regionWords s)) b 0 ∙ call .exact
+  laid-length = ap length laid-bytes ∙ length-setWords (laidWords s ps 0 (regionWords s)) b 0 ∙ laid-exact
 
   pub laid-word : (k : ℕ) → k < regionWords s → word (layoutBytes s ps b) k ≡ laidWord s ps k
   laid-word k h =
@@ -110,6 +113,6 @@ module _ (s : Shape) (ps b : List ℕ) (e : layoutRefusal s ps (length b) ≡ do
       let z : 0 + k ≡ k = omega arith in
       ap (λ l. word l k) laid-bytes
       ∙ ap (word (setWords b 0 (laidWords s ps 0 (regionWords s)))) (sym z)
-      ∙ word-stored (laidWords s ps 0 (regionWords s)) b 0 k (omega (arith, n, call .exact)) (laid-fit s ps laid-shape laid-permissions 0 (regionWords s)) (omega (arith, n, h))
+      ∙ word-stored (laidWords s ps 0 (regionWords s)) b 0 k (omega (arith, n, laid-exact)) (laid-fit s ps laid-shape laid-permissions 0 (regionWords s)) (omega (arith, n, h))
       ∙ laid-at s ps 0 (regionWords s) k h
       ∙ ap (laidWord s ps) z

@@ -30,7 +30,7 @@ use Rattle.region.specs.declared.shape.Shape.{Shape}
 use Rattle.region.specs.declared.thread.Thread.{Thread}
 use Rattle.region.proofs.Frames.{frame-parted}
 use Rattle.region.proofs.Shapes.{and-left, and-right, between-least, between-most, sizes}
-use Rattle.region.proofs.Views.{length-setCellIn, length-setNodeIn, shared-setCell, shared-setFree, threads-setThread, threads-kept, word-setCell, word-setCellIn, word-setNode, word-setThread}
+use Rattle.region.proofs.Views.{length-setCellIn, length-setNodeIn, shared-setCell, shared-setFree, threads-setCell, threads-setFree, threads-setThread, threads-kept, word-setCell, word-setCellIn, word-setNode, word-setThread}
 use Rattle.access.specs.Effect.{effectBytes, freedBytes, pushBytes}
 use Rattle.access.specs.Plan.{refused}
 use Rattle.access.specs.declared.effect.Effect.{Effect}
@@ -40,9 +40,9 @@ use Rattle.access.proofs.EffectLaws.{effect-word, length-effect}
 use Rattle.readable.specs.Readable.{readable, shapeIn, threadReadable}
 use Rattle.readable.proofs.Laws.{Good, good, readable-good}
 use Rattle.readable.proofs.Stores.{CellGood, PlaceGood, ThreadGood, SharedGood, make-good, shape-kept, thread-reads, good-shared, good-thread, good-within, good-setThread, thread-fit}
-use Rattle.machine.specs.Begin.{frameIn, isIdle, isItem, mayPut, putBegun, putBusy, putRefusal, putBytes, takeRefusal, takeBytes}
+use Rattle.machine.specs.Begin.{frameIn, isIdle, isItem, mayPut, mayTake, putBegun, putBusy, putRefusal, putBytes, takeRefusal, takeBytes}
 use Rattle.machine.specs.Turn.{carriedOut, decide, decideAt, staysPut, turnBytes, turnPlan}
-use Rattle.preserved.specs.Theorems.{Apart, OutsideEffect, TurnKeepsReadable, PutKeepsReadable, TakeKeepsReadable, TurnKeepsShape, PutKeepsShape, TakeKeepsShape, TurnLeavesOthers, TurnLeavesWords}
+use Rattle.preserved.specs.Theorems.{Apart, OutsideEffect, TurnKeepsReadable, PutKeepsReadable, TakeKeepsReadable, TurnKeepsShape, PutKeepsShape, TakeKeepsShape, TurnLeavesOthers, PutLeavesOthers, TakeLeavesOthers, TurnLeavesWords}
 use Rattle.preserved.proofs.EffectsGood.{cell-fit, good-effect, put-cell, thread-elsewhere}
 use Rattle.preserved.proofs.PlansGood.{PlanGood, at-good, fields-item, fields-own, pick-good, plan-good, refused-good, readDepth-good, readLeaf-good, readAncestor-good, growDepth-good, readTarget-good, insertAtRoot-good, readParent-good, insertBelow-good, readRoot-good, removeHead-good, mendReadNode-good, mendReadDepth-good, mendReadLeft-good, mendReadRight-good, mendSwap-good, mendClean-good}
 
@@ -117,6 +117,14 @@ module _ (b : List ℕ) (t : ℕ) where
   take-thread e =
       in-order (between 1 t (shapeIn b .threads)) _ 3 (λ z. omega arith) (in-order (readable b) _ 7 (λ z. omega arith) e .1) .0
 
+  -- nor did its permission lack
+  pub take-permitted : takeRefusal b t ≡ done → mayTake (threadIn (frameIn b) b t) ≡ true
+  unfolding takeRefusal
+  take-permitted e =
+      in-order (mayTake (threadIn (frameIn b) b t)) _ 8 (λ z. omega arith)
+      (in-order (between 1 t (shapeIn b .threads)) _ 3 (λ z. omega arith) (in-order (readable b) _ 7 (λ z. omega arith) e .1) .1)
+      .0
+
   pub take-good : Good (shapeIn b) b → Good (shapeIn b) (takeBytes b t)
   unfolding takeBytes
   take-good g =
@@ -184,16 +192,33 @@ pub next-few : (s : Shape) (b : List ℕ) → Good s b → (c : ℕ) → cellIn 
 unfolding sharedIn
 next-few s b g c = good-shared s b g .cell c .next
 
-pub put-begun-good : (s : Shape) (b : List ℕ) → Good s b → (t : ℕ) → 1 ≤ t → t ≤ s .threads → (i : Item) → i .key < 2 ^ 32 → i .tag ≤ 65535
-    → (word b (frameOf s .free) ≡ 0 → ⊥) → Good s (putBegun (frameOf s) b t i)
-unfolding putBegun
-put-begun-good s b g t l u i hk ht nf =
-    let own = word b (frameOf s .free) in
-    let m = good-shared s b g in
-    let few : own ≤ s .cells = free-few s b g in
-    let g₁ = good-setFree s b g (cellIn (frameOf s) b own .next) (next-few s b g own) in
-    let g₂ = good-setCell s _ g₁ own (record { item = i; next = 0 }) (omega arith) few (record { key = hk; tag = ht; next = omega arith }) in
-    good-setThread s _ g₂ t l u _ (begun-put-good s _ (good-thread s b g t) i hk ht own few)
+-- the bytes before the thread's record is stored
+module _ (s : Shape) (b : List ℕ) where
+  abbrev own : ℕ
+  own = word b (frameOf s .free)
+
+  abbrev freeMoved : List ℕ
+  freeMoved = setWord b (frameOf s .free) (cellIn (frameOf s) b own .next)
+
+  moved-good : Good s b → Good s freeMoved
+  moved-good g = good-setFree s b g (cellIn (frameOf s) b own .next) (next-few s b g own)
+
+  module _ (i : Item) where
+    abbrev ownStored : List ℕ
+    ownStored = setCellIn (frameOf s) freeMoved own (record { item = i; next = 0 })
+
+    module _ (g : Good s b) (hk : i .key < 2 ^ 32) (ht : i .tag ≤ 65535) (nf : own ≡ 0 → ⊥) where
+      stored-good : Good s ownStored
+      stored-good =
+          good-setCell s freeMoved (moved-good g) own (record { item = i; next = 0 }) (omega arith) (free-few s b g)
+          (record { key = hk; tag = ht; next = omega arith })
+
+      put-thread-good : (t : ℕ) → ThreadGood s (begunPut (threadIn (frameOf s) b t) i own)
+      put-thread-good t = begun-put-good s _ (good-thread s b g t) i hk ht own (free-few s b g)
+
+      put-begun-good : (t : ℕ) → 1 ≤ t → t ≤ s .threads → Good s (putBegun (frameOf s) b t i)
+      unfolding putBegun
+      put-begun-good t l u = good-setThread s ownStored stored-good t l u _ (put-thread-good t)
 
 none-free : (q : Bool) → q ≡ true → pick q noFreeCell done ≡ 0 → ⊥
 unfolding pick
@@ -209,31 +234,47 @@ module _ (b : List ℕ) (t : ℕ) (i : Item) (e : putRefusal b t i ≡ done) whe
   pub put-thread : between 1 t (shapeIn b .threads) ≡ true
   put-thread = in-order (between 1 t (shapeIn b .threads)) _ 3 (λ z. omega arith) put-looked .0
 
-  pub put-rest : pick (isItem i) (pick (mayPut (threadIn (frameIn b) b t)) (putBusy (frameIn b) b (threadIn (frameIn b) b t)) 8) 4 ≡ 0
+  put-rest : pick (isItem i) (pick (mayPut (threadIn (frameIn b) b t)) (putBusy (frameIn b) b (threadIn (frameIn b) b t)) 8) 4 ≡ 0
   put-rest = in-order (between 1 t (shapeIn b .threads)) _ 3 (λ z. omega arith) put-looked .1
+
+  pub put-least : 1 ≤ t
+  put-least = between-least 1 t (shapeIn b .threads) put-thread
+
+  pub put-most : t ≤ shapeIn b .threads
+  put-most = between-most 1 t (shapeIn b .threads) put-thread
 
   pub put-item : isItem i ≡ true
   put-item = in-order (isItem i) _ 4 (λ z. omega arith) put-rest .0
 
+  put-key : i .key < 2 ^ 32
+  unfolding isItem
+  put-key =
+      let k = leb-true (i .key) 4294967294 (and-left (leb (i .key) 4294967294) (leb (i .tag) 65535) put-item) in
+      omega arith
+
+  pub put-tag : i .tag ≤ 65535
+  unfolding isItem
+  put-tag = leb-true (i .tag) 65535 (and-right (leb (i .key) 4294967294) (leb (i .tag) 65535) put-item)
+
+  pub put-allowed : pick (mayPut (threadIn (frameIn b) b t)) (putBusy (frameIn b) b (threadIn (frameIn b) b t)) 8 ≡ 0
+  put-allowed = in-order (isItem i) _ 4 (λ z. omega arith) put-rest .1
+
+  pub put-permitted : mayPut (threadIn (frameIn b) b t) ≡ true
+  put-permitted = in-order (mayPut (threadIn (frameIn b) b t)) _ 8 (λ z. omega arith) put-allowed .0
+
   pub put-free : word b (frameIn b .free) ≡ 0 → ⊥
   unfolding putBusy
   put-free z =
-      let m = in-order (isItem i) _ 4 (λ z. omega arith) put-rest .1 in
-      let k = in-order (mayPut (threadIn (frameIn b) b t)) _ 8 (λ z. omega arith) m .1 in
+      let k = in-order (mayPut (threadIn (frameIn b) b t)) _ 8 (λ z. omega arith) put-allowed .1 in
       let n = in-order (isIdle (threadIn (frameIn b) b t)) _ 9 (λ z. omega arith) k .1 in
       none-free (eqb (word b (frameIn b .free)) 0) (eq-eqb (word b (frameIn b .free)) 0 z) n
 
 pub put-good : (b : List ℕ) → Good (shapeIn b) b → (t : ℕ) (i : Item) → Good (shapeIn b) (putBytes b t i)
-unfolding putBytes isItem
+unfolding putBytes
 put-good b g t i =
     pick-good (Good (shapeIn b)) (eqb (putRefusal b t i) done)
     (λ h. let e = eqb-true (putRefusal b t i) done h in
-    let th = put-thread b t i e in
-    let it = put-item b t i e in
-    let k = leb-true (i .key) 4294967294 (and-left (leb (i .key) 4294967294) (leb (i .tag) 65535) it) in
-    put-begun-good (shapeIn b) b g t (between-least 1 t (shapeIn b .threads) th) (between-most 1 t (shapeIn b .threads) th) i (omega arith)
-    (leb-true (i .tag) 65535 (and-right (leb (i .key) 4294967294) (leb (i .tag) 65535) it))
-    (put-free b t i e))
+    put-begun-good (shapeIn b) b i g (put-key b t i e) (put-tag b t i e) (put-free b t i e) t (put-least b t i e) (put-most b t i e))
     (λ h. g)
 
 pub put-keeps-readable : PutKeepsReadable
@@ -247,6 +288,15 @@ other : (h : ℕ → Thread) (t u : ℕ) (v : Thread) → (u ≡ t → ⊥) → 
 unfolding upd pick
 other h t u v n = rw (ne-eqb u t n) refl
 
+-- storing a record of thread t's leaves every other thread's alone
+store-others : (s : Shape) (b : List ℕ) → InRange s → Within (frameOf s) (length b) → (t : ℕ) → 1 ≤ t → t ≤ s .threads
+    → (v : Thread) → ThreadGood s v → (u : ℕ) → (u ≡ t → ⊥)
+    → threadIn (frameOf s) (setThreadIn (frameOf s) b t v) u ≡ threadIn (frameOf s) b u
+unfolding frameOf
+store-others s b r w t l m v g u n =
+    ap (λ h. h u) (threads-setThread (frameOf s) b w (frame-parted s) t v l m (thread-fit s r v g))
+    ∙ other (threadIn (frameOf s) b) t u v n
+
 module _ (s : Shape) (b : List ℕ) (g : Good s b) where
   pub within-effect : (e : Effect) → Within (frameOf s) (length (effectBytes (frameOf s) b e))
   within-effect e = subst (Within (frameOf s)) (sym (length-effect (frameOf s) b e)) (good-within s b g)
@@ -259,13 +309,10 @@ module _ (s : Shape) (b : List ℕ) (g : Good s b) where
 
   module _ (t : ℕ) (l : 1 ≤ t) (r : t ≤ s .threads) (p : Plan) (gp : PlanGood s p) (u : ℕ) (n : u ≡ t → ⊥) where
     carried-others : threadIn (frameOf s) (carriedOut (frameOf s) b t p) u ≡ threadIn (frameOf s) b u
-    unfolding carriedOut frameOf
+    unfolding carriedOut
     carried-others =
         pick-good (λ x. threadIn (frameOf s) x u ≡ threadIn (frameOf s) b u) (staysPut (p .answer)) (λ e. refl)
-        (λ e. ap (λ h. h u)
-        (threads-setThread (frameOf s) (effectBytes (frameOf s) b (p .effect)) (within-effect (p .effect)) (frame-parted s) t (p .thread) l r
-        (thread-fit s (g .range) (p .thread) (gp .thread)))
-        ∙ other (threadIn (frameOf s) (effectBytes (frameOf s) b (p .effect))) t u (p .thread) n
+        (λ e. store-others s (effectBytes (frameOf s) b (p .effect)) (g .range) (within-effect (p .effect)) t l r (p .thread) (gp .thread) u n
         ∙ ap (λ h. h u) (effect-threads (p .effect)))
 
   turn-others : (t c u : ℕ) → (u ≡ t → ⊥) → threadIn (frameOf s) (turnBytes (frameOf s) b t c) u ≡ threadIn (frameOf s) b u
@@ -278,6 +325,34 @@ module _ (s : Shape) (b : List ℕ) (g : Good s b) where
 
 pub turn-leaves-others : TurnLeavesOthers
 turn-leaves-others b e t c u n = turn-others (shapeIn b) b (good b e) t c u n
+
+-- What a beginning leaves alone.
+pub take-leaves-others : TakeLeavesOthers
+unfolding takeBytes
+take-leaves-others b e t u n =
+    let s = shapeIn b in
+    let g = good b e in
+    pick-good (λ x. threadIn (frameIn b) x u ≡ threadIn (frameIn b) b u) (eqb (takeRefusal b t) done)
+    (λ h. let k = take-thread b t (eqb-true (takeRefusal b t) done h) in
+    store-others s b (g .range) (good-within s b g) t (between-least 1 t (s .threads) k) (between-most 1 t (s .threads) k) _
+    (begun-take-good s _ (good-thread s b g t)) u n)
+    (λ h. refl)
+
+pub put-leaves-others : PutLeavesOthers
+unfolding putBytes putBegun
+put-leaves-others b e t i u n =
+    let s = shapeIn b in
+    let g = good b e in
+    pick-good (λ x. threadIn (frameIn b) x u ≡ threadIn (frameIn b) b u) (eqb (putRefusal b t i) done)
+    (λ h. let k = eqb-true (putRefusal b t i) done h in
+    let g₁ = moved-good s b g in
+    let g₂ = stored-good s b i g (put-key b t i k) (put-tag b t i k) (put-free b t i k) in
+    store-others s (ownStored s b i) (g .range) (good-within s (ownStored s b i) g₂) t (put-least b t i k) (put-most b t i k) _
+    (put-thread-good s b i g (put-key b t i k) (put-tag b t i k) (put-free b t i k) t) u n
+    ∙ ap (λ h. h u)
+    (threads-setCell (frameIn b) (freeMoved s b) (good-within s (freeMoved s b) g₁) (frame-parted s) (own s b) (record { item = i; next = 0 })
+    ∙ threads-setFree (frameIn b) b (good-within s b g) (frame-parted s) (cellIn (frameIn b) b (own s b) .next)))
+    (λ h. refl)
 
 -- an effect changes none but its own words
 module _ (f : Frame) (j : ℕ) where

@@ -36,11 +36,21 @@ PutKeepsShape = (b : List ℕ) → readable b ≡ true → (t : ℕ) (i : Item) 
 abbrev pub TakeKeepsShape : Type 0
 TakeKeepsShape = (b : List ℕ) → readable b ≡ true → (t : ℕ) → shapeIn (takeBytes b t) ≡ shapeIn b
 
--- a turn of one thread leaves every other thread's record alone
+-- a turn or a beginning of one thread leaves every other thread's record alone
 abbrev pub TurnLeavesOthers : Type 0
 TurnLeavesOthers =
     (b : List ℕ) → readable b ≡ true → (t c u : ℕ) → (u ≡ t → ⊥)
     → threadIn (frameIn b) (turnBytes (frameIn b) b t c) u ≡ threadIn (frameIn b) b u
+
+abbrev pub PutLeavesOthers : Type 0
+PutLeavesOthers =
+    (b : List ℕ) → readable b ≡ true → (t : ℕ) (i : Item) (u : ℕ) → (u ≡ t → ⊥)
+    → threadIn (frameIn b) (putBytes b t i) u ≡ threadIn (frameIn b) b u
+
+abbrev pub TakeLeavesOthers : Type 0
+TakeLeavesOthers =
+    (b : List ℕ) → readable b ≡ true → (t u : ℕ) → (u ≡ t → ⊥)
+    → threadIn (frameIn b) (takeBytes b t) u ≡ threadIn (frameIn b) b u
 
 -- word j lies outside n words from word k on
 abbrev pub Apart : ℕ → ℕ → ℕ → Type 0

@@ -1,0 +1,125 @@
+-- A thread with an empty permission list stands idle from the layout on: its calls are refused, its turns answer idle, and no other thread's
+-- call or turn stores to its record. Assumes nothing.
+use Prim.Native.Nat.{ℕ, _*_}
+use native.Mathlib.Decide.{ℕ-discrete}
+use mathlib.Core.Path.{_≡_, refl, sym, ap, subst, _∙_}
+use mathlib.Core.Bool.{true, true≢false}
+use mathlib.Core.List.{List}
+use borrow.Author.Tests.{eqb-true}
+use lib.Dec.{eqb}
+use lib.ListN.{length}
+use Rattle.region.specs.Answer.{done}
+use Rattle.region.specs.Frame.{frameOf}
+use Rattle.region.specs.Pick.{pick}
+use Rattle.region.specs.Shape.{between, regionWords}
+use Rattle.region.specs.Shared.{sharedIn, threadIn}
+use Rattle.region.specs.Thread.{idleThread}
+use Rattle.region.specs.declared.frame.Frame.{Frame}
+use Rattle.region.specs.declared.record.Item.{Item}
+use Rattle.region.specs.declared.shape.Shape.{Shape}
+use Rattle.access.specs.Plan.{plan, refused}
+use Rattle.layout.specs.Layout.{layoutBytes}
+use Rattle.layout.proofs.Laws.{laid-exact}
+use Rattle.readable.specs.Readable.{readable, shapeIn}
+use Rattle.readable.proofs.Laws.{good, readable-good}
+use Rattle.machine.specs.Begin.{frameIn, mayPut, mayTake, putBytes, putRefusal, takeBytes, takeRefusal}
+use Rattle.machine.specs.Turn.{carriedOut, decide, decideAt, turnBytes, turnPlan}
+use Rattle.preserved.proofs.PlansGood.{pick-good}
+use Rattle.preserved.proofs.Proved.{put-permitted, take-permitted, put-keeps-readable, put-keeps-shape, put-leaves-others, take-keeps-readable, take-keeps-shape, take-leaves-others, turn-keeps-readable, turn-keeps-shape, turn-leaves-others}
+use Rattle.bag.specs.EmptyList.{EmptyListChangesNothing, LeavesAlone}
+use Rattle.bag.proofs.Histories.{history-keeps}
+use Rattle.bag.proofs.LaidOut.{laid-good, laid-thread}
+
+-- the turn of an idle thread
+idle-turn : (f : Frame) (b : List ℕ) (t c : ℕ) → threadIn f b t ≡ idleThread 0 → turnBytes f b t c ≡ b
+unfolding turnBytes turnPlan decide carriedOut plan refused pick
+idle-turn f b t c e =
+    pick-good (λ p. carriedOut f b t p ≡ b) (between 1 t (f .shape .threads))
+    (λ h. subst (λ v. carriedOut f b t (decideAt (f .shape) (sharedIn f b) v c (v .place)) ≡ b) (sym e) refl)
+    (λ h. refl)
+
+-- the region is readable, of the laid-out shape, and thread t's record is idle with no permission
+record Barred (s : Shape) (t : ℕ) (b : List ℕ) : Type 0 where
+  reads : readable b ≡ true
+  shape : shapeIn b ≡ s
+  idle : threadIn (frameOf s) b t ≡ idleThread 0
+
+module _ (s : Shape) (t : ℕ) (b : List ℕ) (h : Barred s t b) where
+  here : threadIn (frameIn b) b t ≡ idleThread 0
+  here = subst (λ x. threadIn (frameOf x) b t ≡ idleThread 0) (sym (h .shape)) (h .idle)
+
+  -- its calls are refused, and its turns idle
+  put-stays : (i : Item) → putBytes b t i ≡ b
+  unfolding putBytes mayPut
+  put-stays i =
+      pick-good (λ x. x ≡ b) (eqb (putRefusal b t i) done)
+      (λ e. absurd (true≢false (sym (put-permitted b t i (eqb-true (putRefusal b t i) done e)) ∙ ap mayPut here)))
+      (λ e. refl)
+
+  take-stays : takeBytes b t ≡ b
+  unfolding takeBytes mayTake
+  take-stays =
+      pick-good (λ x. x ≡ b) (eqb (takeRefusal b t) done)
+      (λ e. absurd (true≢false (sym (take-permitted b t (eqb-true (takeRefusal b t) done e)) ∙ ap mayTake here)))
+      (λ e. refl)
+
+  leaves-alone : LeavesAlone s b t
+  leaves-alone =
+      record { put = put-stays; take = take-stays; turn = λ c. idle-turn (frameIn b) b t c here; frame = ap frameOf (h .shape) }
+
+  -- bytes b′ that are readable, of b's shape, and have t's record as it was
+  barred-still : (b′ : List ℕ) → readable b′ ≡ true → shapeIn b′ ≡ shapeIn b
+      → threadIn (frameIn b) b′ t ≡ threadIn (frameIn b) b t → Barred s t b′
+  barred-still b′ r e same =
+      record {
+        reads = r;
+        shape = e ∙ h .shape;
+        idle = subst (λ x. threadIn (frameOf x) b′ t ≡ idleThread 0) (h .shape) (same ∙ here);
+      }
+
+  -- every thread's calls and turns
+  put-keeps : (u : ℕ) (i : Item) → Barred s t (putBytes b u i)
+  put-keeps u i = go (ℕ-discrete t u)
+    where
+      go : Dec (t ≡ u) → Barred s t (putBytes b u i)
+      go (yes e) = subst (λ k. Barred s t (putBytes b k i)) e (subst (Barred s t) (sym (put-stays i)) h)
+      go (no n) =
+          barred-still (putBytes b u i) (put-keeps-readable b (h .reads) u i) (put-keeps-shape b (h .reads) u i)
+          (put-leaves-others b (h .reads) u i t n)
+
+  take-keeps : (u : ℕ) → Barred s t (takeBytes b u)
+  take-keeps u = go (ℕ-discrete t u)
+    where
+      go : Dec (t ≡ u) → Barred s t (takeBytes b u)
+      go (yes e) = subst (λ k. Barred s t (takeBytes b k)) e (subst (Barred s t) (sym take-stays) h)
+      go (no n) =
+          barred-still (takeBytes b u) (take-keeps-readable b (h .reads) u) (take-keeps-shape b (h .reads) u)
+          (take-leaves-others b (h .reads) u t n)
+
+  turn-keeps : (u c : ℕ) → Barred s t (turnBytes (frameOf s) b u c)
+  turn-keeps u c = subst (λ x. Barred s t (turnBytes (frameOf x) b u c)) (h .shape) (go (ℕ-discrete t u))
+    where
+      go : Dec (t ≡ u) → Barred s t (turnBytes (frameIn b) b u c)
+      go (yes e) =
+          subst (λ k. Barred s t (turnBytes (frameIn b) b k c)) e (subst (Barred s t) (sym (idle-turn (frameIn b) b t c here)) h)
+      go (no n) =
+          barred-still (turnBytes (frameIn b) b u c) (turn-keeps-readable b (h .reads) u c) (turn-keeps-shape b (h .reads) u c)
+          (turn-leaves-others b (h .reads) u c t n)
+
+  barred-long : length b ≡ 4 * regionWords s
+  barred-long = good b (h .reads) .exact ∙ ap (λ x. 4 * regionWords x) (h .shape)
+
+pub empty-list-changes-nothing : EmptyListChangesNothing
+empty-list-changes-nothing s ps b e calls n earlier later split t l u z =
+    let laid = layoutBytes s ps b in
+    let g = laid-good s ps b e in
+    let barred : Barred s t laid = record {
+      reads = readable-good s laid g;
+      shape = g .shape;
+      idle = laid-thread s ps b e t l u ∙ ap idleThread z;
+    } in
+    leaves-alone s t _
+    (history-keeps (Barred s t) s (length b)
+    (λ b′ h. h .shape)
+    (λ b′ h. barred-long s t b′ h ∙ sym (laid-exact s ps b e))
+    (put-keeps s t) (take-keeps s t) (turn-keeps s t) laid barred calls n earlier later split)

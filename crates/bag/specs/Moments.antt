@@ -1,0 +1,27 @@
+-- Parts of a history: what its first moments told, and the region after them.
+use Prim.Native.Nat.{ℕ}
+use mathlib.Core.Path.{_≡_}
+use mathlib.Core.List.{List, [], _∷_}
+use lib.ListN.{length}
+use Rattle.region.specs.Answer.{done}
+use Rattle.region.specs.declared.shape.Shape.{Shape}
+use Rattle.layout.specs.Layout.{layoutRefusal, layoutBytes}
+use Rattle.bag.specs.Calls.{Call, NoLayout}
+use Rattle.bag.specs.History.{Told, Moment, history}
+
+-- what these moments told, in their order
+abbrev pub toldBy : List Moment → List Told
+toldBy [] = []
+toldBy (m ∷ ms) = m .told ∷ toldBy ms
+
+-- the region after these moments, b before them
+abbrev pub regionAfter : List ℕ → List Moment → List ℕ
+regionAfter b [] = b
+regionAfter b (m ∷ ms) = regionAfter (m .region) ms
+
+-- for every shape, permission list and slice that layout accepts, and every list of calls without another accepted layout: P holds of the
+-- shape, the permission list, the laid-out region and the calls' history
+abbrev pub InEveryHistory : (Shape → List ℕ → List ℕ → List Moment → Type 0) → Type 0
+InEveryHistory P =
+    (s : Shape) (permissions b : List ℕ) → layoutRefusal s permissions (length b) ≡ done → (calls : List Call)
+    → NoLayout (length b) calls → P s permissions (layoutBytes s permissions b) (history (layoutBytes s permissions b) calls)
