@@ -46,7 +46,7 @@ use Rattle.machine.specs.Begin.{frameIn, takeBytes, takeRefusal}
 use Rattle.machine.specs.Turn.{decide, decideAt, staysPut, turnAnswer, turnBytes, turnPlan}
 use Rattle.preserved.proofs.Proved.{begun-take-good, take-good, take-thread, turn-good}
 use Rattle.preserved.proofs.TreeLevels.{level-child, twice}
-use Rattle.bag.specs.Ceiling.{AllClean, EndsAt, NoneSpent, TakeEnds, alone, found-empty, took, moved-then}
+use Rattle.bag.specs.Ceiling.{AllClean, EndsAt, NoneSpent, ReadableTakesEnd, alone, found-empty, took, moved-then}
 use Rattle.bag.proofs.Carried.{turn-decides, turn-shared, turn-threads}
 use Rattle.bag.proofs.Cells.{upd-same, upd-other}
 
@@ -485,9 +485,9 @@ module _ (b : List ℕ) (t : ℕ) (choices : List ℕ) (r : readable b ≡ true)
         refl full clean-all (begunTake (threadIn (frameIn b) b t)) refl
         (takeBytes b t) choices (take-good b t g) begun-shared begun-thread (omega arith) spent
 
-pub take-ends : TakeEnds
+pub take-ends : ReadableTakesEnd
 unfolding sharedIn
-take-ends b t choices r e clean long spent = go (ℕ-discrete (nodeIn (frameIn b) b 1 .first) 0)
+take-ends b r t choices e clean long spent = go (ℕ-discrete (nodeIn (frameIn b) b 1 .first) 0)
   where
     some : 1 ≤ word b (frameIn b .depth)
     some = good-shared (shapeIn b) b (good b r) .depth-least

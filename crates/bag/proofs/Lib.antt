@@ -1,4 +1,5 @@
 -- The theory of demand 3, from cells and trees up to the theorems.
+pub mod Account
 pub mod Answers
 pub mod Carried
 pub mod CaseJ
@@ -21,3 +22,4 @@ pub mod Sorted
 pub mod Start
 pub mod Steps
 pub mod Sums
+pub mod Theorems

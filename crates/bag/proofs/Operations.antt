@@ -9,12 +9,13 @@ use borrow.Author.Tests.{eqb-true}
 use lib.Dec.{eqb}
 use Rattle.region.specs.Pick.{pick, upd}
 use Rattle.layout.specs.Layout.{layoutBytes}
-use Rattle.bag.specs.Claim.{Agrees, RegionIsABag}
+use Rattle.bag.specs.Claim.{Agrees}
 use Rattle.bag.specs.History.{Told, Moment, nothing, begunPut, begunTake, decidedPut, decidedTake, decidedEmpty, tookItem, history}
 use Rattle.bag.specs.Ledger.{Ledger, Operation, none, putting, taking, holding, Follows, still, put-begins, take-begins, put-decides, take-decides, empty-decides, take-answers, emptyLedger}
 use Rattle.bag.specs.Moments.{toldBy, regionAfter}
 use Rattle.bag.specs.Operations.{AsABag, AnsweredDecidesOnce, DecidesAtMostOnce, EveryMomentAsABag, Last, OperationsDecideOnce, answers, begins, count, decides, held}
 use Rattle.bag.proofs.LaidOut.{laid-out-holds-nothing}
+use Rattle.bag.proofs.Proved.{region-is-a-bag}
 
 -- Counting one more at the end.
 count-last : (test : Told → Bool) (xs : List Told) (x : Told) → count test (xs ++ x ∷ []) ≡ count test xs + pick (test x) 1 0
@@ -120,10 +121,10 @@ moment-as-a-bag (n ∷ earlier) later m past l b a h e =
     (moment-as-a-bag earlier later m (past ++ n .told ∷ []) (a .0) (n .region) (a .3) (follows-stands past (n .told) l (a .0) (a .1) h)
     (fun-ext (a .2)))
 
-pub every-moment-as-a-bag : RegionIsABag → EveryMomentAsABag
-every-moment-as-a-bag r s ps b e calls n earlier later m split =
+pub every-moment-as-a-bag : EveryMomentAsABag
+every-moment-as-a-bag s ps b e calls n earlier later m split =
     moment-as-a-bag earlier later m [] emptyLedger (layoutBytes s ps b)
-    (subst (Agrees emptyLedger) split (r s ps b e calls n))
+    (subst (Agrees emptyLedger) split (region-is-a-bag s ps b e calls n))
     (λ t. tt)
     (fun-ext λ i. sym (laid-out-holds-nothing s ps b e i))
 
@@ -246,8 +247,8 @@ exactly-once all f t y x before since later split b z a =
       count-last (decides t) since x,
     )
 
-pub operations-decide-once : RegionIsABag → OperationsDecideOnce
-operations-decide-once r s ps b e calls n =
+pub operations-decide-once : OperationsDecideOnce
+operations-decide-once s ps b e calls n =
     let all = history (layoutBytes s ps b) calls in
-    let f = agrees-follows all emptyLedger (r s ps b e calls n) in
+    let f = agrees-follows all emptyLedger (region-is-a-bag s ps b e calls n) in
     (at-most-once (toldBy all) f, exactly-once (toldBy all) f)

@@ -63,7 +63,7 @@ pub record Next (s : Shape) (l : Ledger) (x : Told) (b : List ℕ) : Type 0 wher
   pub region : Region s b after
 
 -- an effect that speaks is carried out
-speaks-moves : {m : Shared} {op op′ : Operation} {e : Effect} {a : Answer} → Speaks m op op′ e a → staysPut a ≡ false
+pub speaks-moves : {m : Shared} {op op′ : Operation} {e : Effect} {a : Answer} → Speaks m op op′ e a → staysPut a ≡ false
 speaks-moves (reads k) = refl
 speaks-moves (grows k) = refl
 speaks-moves (swaps k) = refl
@@ -140,8 +140,8 @@ module _ (s : Shape) (b : List ℕ) (l : Ledger) (g : Region s b l) where
       there (refuses ee ea) = quiet-turn (Refused counterSpent) refl refl ee ea
       there (moves op′ al sp ow at) = moving-turn op′ al sp ow at
 
-    nowhere : between 1 t (s .threads) ≡ false → p ≡ refused (idleThread 0) badThread
-    unfolding p turnPlan frameOf pick
+    pub nowhere : between 1 t (s .threads) ≡ false → turnPlan (frameOf s) b t c ≡ refused (idleThread 0) badThread
+    unfolding turnPlan frameOf pick
     nowhere e = rw e refl
 
     turn-step : Next s l (effectTells (frameOf s) b t (p .answer) (p .effect)) (turnBytes (frameOf s) b t c)

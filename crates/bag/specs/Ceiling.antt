@@ -38,8 +38,11 @@ abbrev pub AllClean : List ℕ → Type 0
 AllClean b = (n : ℕ) → 1 ≤ n → n ≤ nodeCount (shapeIn b) → nodeIn (frameIn b) b n .dirty ≡ 0
 
 -- "a take begun at depth d ends in at most 5 × d accesses"
-abbrev pub TakeEnds : Type 0
-TakeEnds =
-    (b : List ℕ) (t : ℕ) (choices : List ℕ) → readable b ≡ true → takeRefusal b t ≡ done → AllClean b
-    → length choices ≡ 5 * word b (frameIn b .depth) → NoneSpent (alone (frameIn b) (takeBytes b t) t choices)
+abbrev pub TakesEnd : List ℕ → Type 0
+TakesEnd b =
+    (t : ℕ) (choices : List ℕ) → takeRefusal b t ≡ done → AllClean b → length choices ≡ 5 * word b (frameIn b .depth)
+    → NoneSpent (alone (frameIn b) (takeBytes b t) t choices)
     → (n : ℕ) × (1 ≤ n) × (n ≤ 5 * word b (frameIn b .depth)) × EndsAt n (alone (frameIn b) (takeBytes b t) t choices)
+
+abbrev pub ReadableTakesEnd : Type 0
+ReadableTakesEnd = (b : List ℕ) → readable b ≡ true → TakesEnd b

@@ -1,4 +1,5 @@
 -- "The bag" of document 01: what is claimed of every list of calls on a laid-out region; and the ceiling of a take's accesses.
+pub mod Account
 pub mod Calls
 pub mod Ceiling
 pub mod Claim
@@ -7,4 +8,5 @@ pub mod History
 pub mod Ledger
 pub mod Moments
 pub mod Operations
+pub mod Theorems
 pub mod Tree

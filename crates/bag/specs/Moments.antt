@@ -1,7 +1,7 @@
 -- Parts of a history: what its first moments told, and the region after them.
 use Prim.Native.Nat.{ℕ}
 use mathlib.Core.Path.{_≡_}
-use mathlib.Core.List.{List, [], _∷_}
+use mathlib.Core.List.{List, [], _∷_, _++_}
 use lib.ListN.{length}
 use Rattle.region.specs.Answer.{done}
 use Rattle.region.specs.declared.shape.Shape.{Shape}
@@ -25,3 +25,9 @@ abbrev pub InEveryHistory : (Shape → List ℕ → List ℕ → List Moment →
 InEveryHistory P =
     (s : Shape) (permissions b : List ℕ) → layoutRefusal s permissions (length b) ≡ done → (calls : List Call)
     → NoLayout (length b) calls → P s permissions (layoutBytes s permissions b) (history (layoutBytes s permissions b) calls)
+
+-- P holds of the shape, the permission list and the region after any of the moments: before, between and after the calls, and between the
+-- turns of a run
+abbrev pub Throughout : (Shape → List ℕ → List ℕ → Type 0) → Type 0
+Throughout P =
+    InEveryHistory λ s permissions b ms. (earlier later : List Moment) → ms ≡ earlier ++ later → P s permissions (regionAfter b earlier)

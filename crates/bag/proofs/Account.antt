@@ -1,0 +1,177 @@
+-- All cells are accounted for: walking each list, and the free chain, counts the cells of its chain; a thread at I1 to I8 holds one cell and
+-- any other none; together they are C. So no cell is free exactly when tree and begun puts hold all C. Assumes nothing.
+use Prim.Native.Nat.{ℕ, zero, suc, _+_, _*_, _≤_}
+use native.Mathlib.Decide.{ℕ-discrete}
+use native.Mathlib.Omega.{arith}
+use mathlib.Core.Path.{_≡_, refl, sym, ap, subst, _∙_}
+use mathlib.Core.Bool.{Bool, true, false}
+use mathlib.Core.List.{List}
+use borrow.Author.Tests.{eq-eqb, ne-eqb}
+use lib.Dec.{eqb}
+use lib.ListN.{length}
+use Rattle.words.specs.Word.{word}
+use Rattle.region.specs.Answer.{done, noFreeCell}
+use Rattle.region.specs.Frame.{frameOf}
+use Rattle.region.specs.Pick.{pick}
+use Rattle.region.specs.Shape.{between, nodeCount}
+use Rattle.region.specs.Shared.{Shared, sharedIn, threadIn}
+use Rattle.region.specs.declared.place.Place.{Place}
+use Rattle.region.specs.declared.place.Place.the-variants.{Idle, ReadDepth, ReadLeaf, ReadAncestor, GrowDepth, ReadTarget, InsertAtRoot, ReadParent, InsertBelow, ReadRoot, RemoveHead, MendReadNode, MendReadDepth, MendReadLeft, MendReadRight, MendSwap, MendClean}
+use Rattle.region.specs.declared.record.Cell.{Cell}
+use Rattle.region.specs.declared.record.Item.{Item}
+use Rattle.region.specs.declared.shape.Shape.{Shape}
+use Rattle.region.specs.declared.thread.Thread.{Thread}
+use Rattle.readable.specs.Readable.{shapeIn}
+use Rattle.readable.proofs.Laws.{Good}
+use Rattle.machine.specs.Begin.{frameIn, putBusy, putRefusal}
+use Rattle.bag.specs.Account.{listCells, nodesCells, treeCells, isPutPlace, putsAmong, begunPuts, freeCells, AllCellsAccounted, NothingElseRefuses, RefusedWhenFull, PutsRefusedWhenFull}
+use Rattle.bag.specs.Ledger.{Ledger, Operation}
+use Rattle.bag.proofs.Cells.{starts}
+use Rattle.bag.proofs.Chains.{Chain, ends, link}
+use Rattle.bag.proofs.Facts.{At, Puts}
+use Rattle.bag.proofs.Held.{Held, few-cells, head-free, head-thread, node-chain}
+use Rattle.bag.proofs.Steps.{Invariant, owns}
+use Rattle.bag.proofs.Sums.{sum}
+
+-- walking a chain counts its cells
+walk-measures : (m : Shared) (own rank : ℕ → ℕ) (o n c : ℕ) (cs : List ℕ) → Chain (m .cell) own rank o c cs → length cs ≤ n
+    → listCells m n c ≡ length cs
+unfolding listCells pick
+walk-measures m own rank o n c cs ends h = at-end n
+  where
+    at-end : (k : ℕ) → listCells m k 0 ≡ 0
+    at-end zero = refl
+    at-end (suc k) = refl
+walk-measures m own rank o zero c cs (link d p eo er k) h = absurd (omega arith)
+walk-measures m own rank o (suc n) c cs (link d {cs = ds} p eo er k) h =
+    rw
+    (ne-eqb d 0 (λ z. omega arith))
+    (ap suc (walk-measures m own rank o n (m .cell d .next) ds k (omega arith)))
+
+-- What a thread holds: its own cell alone, or nothing.
+module _ (cell : ℕ → Cell) (own rank : ℕ → ℕ) (o : ℕ) where
+  none-held : (c : ℕ) (cs : List ℕ) → Chain cell own rank o c cs → c ≡ 0 → length cs ≡ 0
+  none-held c cs ends e = refl
+  none-held c cs (link d p eo er k) e = absurd (omega arith)
+
+  one-held : (c : ℕ) (cs : List ℕ) → Chain cell own rank o c cs → 1 ≤ c → cell c .next ≡ 0 → length cs ≡ 1
+  one-held c cs ends p e = absurd (omega arith)
+  one-held c cs (link d {cs = ds} p eo er k) q e = ap suc (none-held (cell d .next) ds k e)
+
+module _ (s : Shape) (m : Shared) (t : Thread) (op : Operation) (own rank : ℕ → ℕ) (o : ℕ) (cs : List ℕ)
+    (k : Chain (m .cell) own rank o (t .own) cs) where
+  putting-holds : Puts m t op → length cs ≡ 1
+  putting-holds h = one-held (m .cell) own rank o (t .own) cs k (h .some) (h .ended)
+
+  others-hold : t .own ≡ 0 → length cs ≡ 0
+  others-hold e = none-held (m .cell) own rank o (t .own) cs k e
+
+  -- one cell at I1 to I8, none elsewhere
+  holds : (p : Place) → At s m t op p → length cs ≡ pick (isPutPlace p) 1 0
+  unfolding isPutPlace between pick
+  holds Idle h = others-hold (h .1)
+  holds ReadDepth h = putting-holds h
+  holds ReadLeaf h = putting-holds (h .0)
+  holds ReadAncestor h = putting-holds (h .0)
+  holds GrowDepth h = putting-holds (h .0)
+  holds ReadTarget h = putting-holds (h .0)
+  holds InsertAtRoot h = putting-holds (h .0)
+  holds ReadParent h = putting-holds (h .0)
+  holds InsertBelow h = putting-holds (h .0)
+  holds ReadRoot h = others-hold (h .none)
+  holds RemoveHead h = others-hold (h .0 .none)
+  holds (MendReadNode w) h = others-hold (h .0 .none)
+  holds (MendReadDepth w) h = others-hold (h .0 .0 .none)
+  holds (MendReadLeft w) h = others-hold (h .0 .0 .none)
+  holds (MendReadRight w) h = others-hold (h .0 .0 .none)
+  holds (MendSwap w) h = others-hold (h .0 .0 .none)
+  holds (MendClean w) h = others-hold (h .0 .0 .none)
+
+-- The counts as sums over chains.
+module _ (s : Shape) (m : Shared) (th : ℕ → Thread) (l : Ledger) (inv : Invariant s m th l) where
+  abbrev h : Held s m (owns th)
+  h = inv .mound .held
+
+  nodes-sum : (n : ℕ) → n ≤ nodeCount s → nodesCells m (s .cells) n ≡ sum (λ k. length (h .list (2 * k))) n
+  unfolding nodesCells sum
+  nodes-sum zero u = refl
+  nodes-sum (suc n) u =
+      cc (
+        nodes-sum n (omega arith),
+        walk-measures m (h .owner) (h .rank) (2 * suc n) (s .cells) (m .node (suc n) .first) (h .list (2 * suc n))
+            (node-chain s m (owns th) h (suc n) (omega arith)) (few-cells s m (owns th) h (suc n) (omega arith) u),
+      )
+
+  thread-holds : (t : ℕ) → length (h .list (2 * t + 1)) ≡ pick (isPutPlace (th t .place)) 1 0
+  thread-holds t =
+      holds s m (th t) (l .operation t) (h .owner) (h .rank) (2 * t + 1) (h .list (2 * t + 1))
+      (subst (λ c. Chain (m .cell) (h .owner) (h .rank) (2 * t + 1) c (h .list (2 * t + 1))) (head-thread (m .free) (m .node) (owns th) t)
+      (h .chains (2 * t + 1)))
+      (th t .place) (inv .at t)
+
+  puts-sum : (n : ℕ) → putsAmong th n ≡ sum (λ t. length (h .list (2 * t + 1))) n
+  unfolding putsAmong sum
+  puts-sum zero = refl
+  puts-sum (suc n) = cc (puts-sum n, thread-holds (suc n))
+
+  free-chain : Chain (m .cell) (h .owner) (h .rank) 0 (m .free) (h .list 0)
+  free-chain =
+      subst (λ c. Chain (m .cell) (h .owner) (h .rank) 0 c (h .list 0)) (head-free (m .free) (m .node) (owns th)) (h .chains 0)
+
+  free-measured : listCells m (s .cells) (m .free) ≡ length (h .list 0)
+  free-measured = walk-measures m (h .owner) (h .rank) 0 (s .cells) (m .free) (h .list 0) free-chain (omega (arith, h .total))
+
+  all-cells : nodesCells m (s .cells) (nodeCount s) + putsAmong th (s .threads) + listCells m (s .cells) (m .free) ≡ s .cells
+  all-cells = omega (arith, h .total, nodes-sum (nodeCount s) (omega arith), puts-sum (s .threads), free-measured)
+
+  -- no cell is free exactly when the others hold all
+  full-without : m .free ≡ 0 → nodesCells m (s .cells) (nodeCount s) + putsAmong th (s .threads) ≡ s .cells
+  full-without e =
+      let none = none-held (m .cell) (h .owner) (h .rank) 0 (m .free) (h .list 0) free-chain e in
+      omega (arith, all-cells, free-measured, none)
+
+  not-full-with : 1 ≤ m .free → nodesCells m (s .cells) (nodeCount s) + putsAmong th (s .threads) ≡ s .cells → ⊥
+  not-full-with p e = omega (arith, all-cells, free-measured, ap length (starts free-chain p .is), e)
+
+-- where nothing else refuses a put, the first free cell decides
+cell-decides : (b : List ℕ) (t : ℕ) (i : Item) → NothingElseRefuses b t i
+    → putRefusal b t i ≡ pick (eqb (word b (frameIn b .free)) 0) noFreeCell done
+unfolding putRefusal putBusy pick
+cell-decides b t i a = rw (a .region, a .thread, a .item, a .permitted, a .idle) refl
+
+-- Both, of every readable region of which the invariant holds.
+module _ (s : Shape) (b : List ℕ) (l : Ledger) (g : Good s b)
+    (inv : Invariant s (sharedIn (frameOf s) b) (threadIn (frameOf s) b) l) where
+  here : Invariant (shapeIn b) (sharedIn (frameIn b) b) (threadIn (frameIn b) b) l
+  here = subst (λ x. Invariant x (sharedIn (frameOf x) b) (threadIn (frameOf x) b) l) (sym (g .shape)) inv
+
+  pub all-cells-accounted : AllCellsAccounted b
+  unfolding treeCells begunPuts freeCells frameOf
+  all-cells-accounted = all-cells (shapeIn b) (sharedIn (frameIn b) b) (threadIn (frameIn b) b) l here
+
+  pub puts-refused-when-full : PutsRefusedWhenFull b
+  unfolding treeCells begunPuts sharedIn frameOf pick
+  puts-refused-when-full t i a = go (ℕ-discrete first 0)
+    where
+      first : ℕ
+      first = word b (frameIn b .free)
+
+      decided : (q : Bool) → eqb first 0 ≡ q → putRefusal b t i ≡ pick q noFreeCell done
+      decided q e = cell-decides b t i a ∙ ap (λ x. pick x noFreeCell done) e
+
+      go : Dec (first ≡ 0) → RefusedWhenFull b t i
+      go (yes e) =
+          let full = full-without (shapeIn b) (sharedIn (frameIn b) b) (threadIn (frameIn b) b) l here e in
+          record {
+            refused-full = λ r. full;
+            full-refused = λ f. decided true (eq-eqb first 0 e);
+            else-done = λ n. absurd (n full);
+          }
+      go (no n) =
+          let not-full = not-full-with (shapeIn b) (sharedIn (frameIn b) b) (threadIn (frameIn b) b) l here (omega arith) in
+          let begins = decided false (ne-eqb first 0 n) in
+          record {
+            refused-full = λ r. absurd (omega (arith, r, begins));
+            full-refused = λ f. absurd (not-full f);
+            else-done = λ f. begins;
+          }

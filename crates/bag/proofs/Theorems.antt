@@ -1,0 +1,105 @@
+-- Every statement of specs/ about histories, under its name: demand 3, its corollaries, and what else holds throughout. Assumes nothing.
+use Prim.Native.Nat.{ℕ}
+use native.Mathlib.Omega.{arith}
+use mathlib.Core.Path.{_≡_, refl, sym, ap, subst, _∙_}
+use mathlib.Core.Bool.{Bool, true, false, true≢false}
+use mathlib.Core.List.{List, [], _∷_, _++_}
+use Rattle.region.specs.Answer.{badThread, counterSpent, unreadable}
+use Rattle.region.specs.Frame.{frameOf}
+use Rattle.region.specs.Shape.{between}
+use Rattle.region.specs.Shared.{Shared}
+use Rattle.region.specs.declared.answer.Answer.{Answer}
+use Rattle.region.specs.declared.answer.Answer.the-variants.{Moved, Idle, Inserted, Took, Empty, Refused}
+use Rattle.region.specs.declared.shape.Shape.{Shape}
+use Rattle.region.proofs.Shapes.{between-least, between-most}
+use Rattle.access.specs.Plan.{plan, refused}
+use Rattle.layout.specs.Layout.{layoutBytes}
+use Rattle.readable.proofs.Laws.{readable-good}
+use Rattle.machine.specs.Turn.{staysPut, turnAnswer, turnPlan}
+use Rattle.bag.specs.History.{Moment, history}
+use Rattle.bag.specs.Ledger.{Ledger, Operation, emptyLedger}
+use Rattle.bag.specs.Moments.{Throughout, regionAfter}
+use Rattle.bag.specs.Theorems.{CellsAccounted, NoTurnUnreadable, RefusedTenWhenFull, StaysReadable, TakesEndInTime}
+use Rattle.bag.proofs.Account.{all-cells-accounted, puts-refused-when-full}
+use Rattle.bag.proofs.Ceiling.{take-ends}
+use Rattle.bag.proofs.Plans.{Planned, moves, refuses, rests}
+use Rattle.bag.proofs.Proved.{Kept, history-kept}
+use Rattle.bag.proofs.Regions.{Region, plan-fits, nowhere, speaks-moves}
+use Rattle.bag.proofs.Start.{laid-region}
+pub use Rattle.bag.proofs.Proved.{region-is-a-bag}
+pub use Rattle.bag.proofs.Operations.{every-moment-as-a-bag, operations-decide-once}
+pub use Rattle.bag.proofs.Answers.{turn-says-its-answer}
+pub use Rattle.bag.proofs.EmptyList.{empty-list-changes-nothing}
+
+-- the invariant holds of every region of a history, with some ledger
+record Somewhere (s : Shape) (b : List ℕ) : Type 0 where
+  ledger : Ledger
+  region : Region s b ledger
+
+kept-after : (s : Shape) (earlier later : List Moment) (b : List ℕ) (l : Ledger) → Region s b l → Kept s l (earlier ++ later)
+    → Somewhere s (regionAfter b earlier)
+kept-after s [] later b l g k = record { ledger = l; region = g }
+kept-after s (m ∷ earlier) later b l g k = kept-after s earlier later (m .region) (k .0) (k .2) (k .3)
+
+holds : Throughout λ s permissions b. Somewhere s b
+holds s ps b e calls n earlier later split =
+    kept-after s earlier later (layoutBytes s ps b) emptyLedger (laid-region s ps b e)
+    (subst (Kept s emptyLedger) split (history-kept s ps b e calls n))
+
+pub stays-readable : StaysReadable
+stays-readable s ps b e calls n earlier later split =
+    let g = holds s ps b e calls n earlier later split .region .good in
+    (readable-good s (regionAfter (layoutBytes s ps b) earlier) g, g .shape)
+
+-- what a plan of a region in order answers is no refusal 7
+refusal : Answer → ℕ
+refusal Moved = 0
+refusal Idle = 0
+refusal Inserted = 0
+refusal (Took i) = 0
+refusal Empty = 0
+refusal (Refused n) = n
+
+module _ (s : Shape) (b : List ℕ) (l : Ledger) (g : Region s b l) (t c : ℕ) where
+  abbrev answer : Answer
+  answer = turnPlan (frameOf s) b t c .answer
+
+  other : (x : Answer) → answer ≡ x → (refusal x ≡ 7 → ⊥) → answer ≡ Refused unreadable → ⊥
+  unfolding refusal
+  other x k n e = n (sym (ap refusal k) ∙ ap refusal e)
+
+  planned-answer : {m : Shared} {own : ℕ → ℕ} {o : ℕ} {op : Operation} → Planned s m own t o op (turnPlan (frameOf s) b t c)
+      → answer ≡ Refused unreadable → ⊥
+  unfolding refusal
+  planned-answer (rests x y) = other Idle y (λ z. omega arith)
+  planned-answer (refuses x y) = other (Refused counterSpent) y (λ z. omega arith)
+  planned-answer (moves op′ al sp ow at) = λ e. true≢false (sym (ap staysPut e) ∙ speaks-moves sp)
+
+  never-unreadable : turnAnswer (frameOf s) b t c ≡ Refused unreadable → ⊥
+  unfolding turnAnswer refusal refused plan
+  never-unreadable = go (between 1 t (s .threads)) refl
+    where
+      go : (q : Bool) → between 1 t (s .threads) ≡ q → turnPlan (frameOf s) b t c .answer ≡ Refused unreadable → ⊥
+      go true h = planned-answer (plan-fits s b l g t c (between-least 1 t (s .threads) h) (between-most 1 t (s .threads) h))
+      go false h = other (Refused badThread) (ap (λ p. p .answer) (nowhere s b l g t c h)) (λ z. omega arith)
+
+pub no-turn-unreadable : NoTurnUnreadable
+no-turn-unreadable s ps b e calls n earlier later split t c =
+    let w = holds s ps b e calls n earlier later split in
+    let b′ = regionAfter (layoutBytes s ps b) earlier in
+    subst (λ x. turnAnswer (frameOf x) b′ t c ≡ Refused unreadable → ⊥) (sym (w .region .good .shape))
+    (never-unreadable s b′ (w .ledger) (w .region) t c)
+
+pub cells-accounted : CellsAccounted
+cells-accounted s ps b e calls n earlier later split =
+    let w = holds s ps b e calls n earlier later split in
+    all-cells-accounted s (regionAfter (layoutBytes s ps b) earlier) (w .ledger) (w .region .good) (w .region .holds)
+
+pub refused-ten-when-full : RefusedTenWhenFull
+refused-ten-when-full s ps b e calls n earlier later split =
+    let w = holds s ps b e calls n earlier later split in
+    puts-refused-when-full s (regionAfter (layoutBytes s ps b) earlier) (w .ledger) (w .region .good) (w .region .holds)
+
+pub takes-end-in-time : TakesEndInTime
+takes-end-in-time s ps b e calls n earlier later split =
+    take-ends (regionAfter (layoutBytes s ps b) earlier) (stays-readable s ps b e calls n earlier later split .0)

@@ -1,0 +1,80 @@
+-- Where the cells are: in the tree, with a put that is begun and not answered, or in the free chain. These are all C, so a put that nothing
+-- else refuses is refused 10 exactly when tree and begun puts hold all C. Proved in proofs/Account.antt.
+use Prim.Native.Nat.{ℕ, zero, suc, _+_}
+use mathlib.Core.Path.{_≡_}
+use mathlib.Core.Bool.{Bool, true}
+use mathlib.Core.List.{List}
+use lib.Dec.{eqb}
+use Rattle.region.specs.Answer.{done, noFreeCell}
+use Rattle.region.specs.Pick.{pick}
+use Rattle.region.specs.Place.{placeNumber}
+use Rattle.region.specs.Shape.{between, nodeCount}
+use Rattle.region.specs.Shared.{Shared, sharedIn, threadIn}
+use Rattle.region.specs.declared.frame.Frame.{Frame}
+use Rattle.region.specs.declared.place.Place.{Place}
+use Rattle.region.specs.declared.place.Place.the-variants.{ReadDepth, InsertBelow}
+use Rattle.region.specs.declared.record.Item.{Item}
+use Rattle.region.specs.declared.thread.Thread.{Thread}
+use Rattle.readable.specs.Readable.{readable, shapeIn}
+use Rattle.machine.specs.Begin.{frameIn, isIdle, isItem, mayPut, putRefusal}
+
+-- the cells of a list "from its first cell by next cells to 0, at most" n of them
+unfoldable pub listCells : Shared → ℕ → ℕ → ℕ
+listCells m zero c = 0
+listCells m (suc n) c = pick (eqb c 0) 0 (suc (listCells m n (m .cell c .next)))
+
+-- the cells in the lists of nodes 1 to n, with at most l cells each
+unfoldable pub nodesCells : Shared → ℕ → ℕ → ℕ
+unfolding listCells
+nodesCells m l zero = 0
+nodesCells m l (suc n) = nodesCells m l n + listCells m l (m .node (suc n) .first)
+
+-- "in the lists of nodes 1 to 2^D − 1, each list .. at most C of them"
+unfoldable pub treeCells : Frame → List ℕ → ℕ
+unfolding nodesCells
+treeCells f b = nodesCells (sharedIn f b) (f .shape .cells) (nodeCount (f .shape))
+
+-- "Put of v": I1 to I8, where a put stands from its beginning, at I1, to its answer
+unfoldable pub isPutPlace : Place → Bool
+isPutPlace p = between (placeNumber ReadDepth) (placeNumber p) (placeNumber InsertBelow)
+
+-- "An operation begins with a put .. call that is not refused.": the threads among 1 to n with a put that is begun and not answered
+unfoldable pub putsAmong : (ℕ → Thread) → ℕ → ℕ
+unfolding isPutPlace
+putsAmong th zero = 0
+putsAmong th (suc n) = putsAmong th n + pick (isPutPlace (th (suc n) .place)) 1 0
+
+unfoldable pub begunPuts : Frame → List ℕ → ℕ
+unfolding putsAmong
+begunPuts f b = putsAmong (threadIn f b) (f .shape .threads)
+
+-- the free chain: "first free cell", and on by next cells
+unfoldable pub freeCells : Frame → List ℕ → ℕ
+unfolding listCells
+freeCells f b = listCells (sharedIn f b) (f .shape .cells) (sharedIn f b .free)
+
+-- tree, begun puts and free chain account for all C cells
+abbrev pub AllCellsAccounted : List ℕ → Type 0
+AllCellsAccounted b =
+    treeCells (frameIn b) b + begunPuts (frameIn b) b + freeCells (frameIn b) b ≡ shapeIn b .cells
+
+-- tree and begun puts hold all C
+abbrev pub Full : List ℕ → Type 0
+Full b = treeCells (frameIn b) b + begunPuts (frameIn b) b ≡ shapeIn b .cells
+
+-- "Put 7, 3, 4, 8, 9, 10.": the five tests before the last pass
+pub record NothingElseRefuses (b : List ℕ) (t : ℕ) (i : Item) : Type 0 where
+  pub region : readable b ≡ true
+  pub thread : between 1 t (shapeIn b .threads) ≡ true
+  pub item : isItem i ≡ true
+  pub permitted : mayPut (threadIn (frameIn b) b t) ≡ true
+  pub idle : isIdle (threadIn (frameIn b) b t) ≡ true
+
+-- "10: no free cell.": exactly when tree and begun puts hold all C, and otherwise the put is done
+pub record RefusedWhenFull (b : List ℕ) (t : ℕ) (i : Item) : Type 0 where
+  pub refused-full : putRefusal b t i ≡ noFreeCell → Full b
+  pub full-refused : Full b → putRefusal b t i ≡ noFreeCell
+  pub else-done : (Full b → ⊥) → putRefusal b t i ≡ done
+
+abbrev pub PutsRefusedWhenFull : List ℕ → Type 0
+PutsRefusedWhenFull b = (t : ℕ) (i : Item) → NothingElseRefuses b t i → RefusedWhenFull b t i

@@ -1,0 +1,35 @@
+-- What holds throughout every history of a laid-out region, beside demand 3 itself (Claim, Operations, EmptyList). Each is proved under its
+-- name in proofs/Theorems.antt.
+use Prim.Native.Nat.{ℕ}
+use mathlib.Core.Path.{_≡_}
+use mathlib.Core.Bool.{true}
+use mathlib.Core.List.{List}
+use Rattle.region.specs.Answer.{unreadable}
+use Rattle.region.specs.declared.answer.Answer.the-variants.{Refused}
+use Rattle.readable.specs.Readable.{readable, shapeIn}
+use Rattle.machine.specs.Begin.{frameIn}
+use Rattle.machine.specs.Turn.{turnAnswer}
+use Rattle.bag.specs.Account.{AllCellsAccounted, PutsRefusedWhenFull}
+use Rattle.bag.specs.Ceiling.{TakesEnd}
+use Rattle.bag.specs.Moments.{Throughout}
+
+-- the region is readable, and its first words are the layout's still
+abbrev pub StaysReadable : Type 0
+StaysReadable = Throughout λ s permissions b. (readable b ≡ true) × (shapeIn b ≡ s)
+
+-- no turn is refused 7
+abbrev pub NoTurnUnreadable : Type 0
+NoTurnUnreadable = Throughout λ s permissions b. (t choice : ℕ) → turnAnswer (frameIn b) b t choice ≡ Refused unreadable → ⊥
+
+-- tree, begun puts and free chain account for all C cells
+abbrev pub CellsAccounted : Type 0
+CellsAccounted = Throughout λ s permissions b. AllCellsAccounted b
+
+-- a put is refused 10 exactly when tree and begun puts hold all C
+abbrev pub RefusedTenWhenFull : Type 0
+RefusedTenWhenFull = Throughout λ s permissions b. PutsRefusedWhenFull b
+
+-- "From a laid-out region, with all nodes clean, no other thread moving and no turn refused 11, a take begun at depth d ends in at most
+-- 5 × d accesses."
+abbrev pub TakesEndInTime : Type 0
+TakesEndInTime = Throughout λ s permissions b. TakesEnd b
