@@ -4,10 +4,10 @@ use Prim.Native.Nat.{ℕ, _≤_}
 use native.Mathlib.Omega.{arith}
 use mathlib.Core.Path.{_≡_}
 use mathlib.Core.Bool.{true, false}
-use borrow.Author.Tests.{leb-true, leb-false, le-leb, lt-leb}
+use borrow.Author.Tests.{leb-true, leb-false, le-leb, lt-leb, not-false}
 use lib.Dec.{leb}
 use Rattle.region.specs.declared.record.Item.{Item}
-use Rattle.access.specs.Order.{itemLe, topItem}
+use Rattle.access.specs.Order.{itemLe, itemLt, topItem}
 
 pub item-refl : (a : Item) → itemLe a a ≡ true
 unfolding itemLe
@@ -31,3 +31,7 @@ item-below-top a h = lt-leb 4294967295 (a .key) (omega arith)
 pub item-key : (a b : Item) → itemLe a b ≡ true → a .key ≤ b .key
 unfolding itemLe
 item-key a b p = leb-true (a .key) (b .key) p
+
+pub item-not-less : (a b : Item) → itemLt a b ≡ false → itemLe b a ≡ true
+unfolding itemLt
+item-not-less a b e = not-false (itemLe b a) e

@@ -34,8 +34,10 @@ use Rattle.access.specs.Read.{isDirty, isLevel, isNode, isSpent, readNode, same
 use Rattle.access.specs.declared.effect.Effect.{Effect}
 use Rattle.access.specs.declared.effect.Effect.the-variants.{Nothing, Grow, Push, Pop, Exchange, Clean}
 use Rattle.access.specs.declared.plan.Plan.{Plan}
-use Rattle.access.proofs.OrderLaws.{item-refl, item-total, item-trans}
+use Rattle.access.proofs.OrderLaws.{item-not-less, item-refl, item-total, item-trans}
+use Rattle.access.proofs.ReadLaws.{is-clean, is-dirty, same-node}
 use Rattle.insert.specs.Insert.{searching, readDepth, searchOn, leafOf, nextTries, failedPlace, leafFailed, leafRead, readLeaf, ancestorRead, middleLevel, readAncestor, growDepth, targetPlace, readTarget, insertAt, insertAtRoot, readParent, bothSame as nodeAndParent, insertBelow}
+use Rattle.insert.proofs.Laws.{node-same, parent-same}
 use Rattle.extract.specs.Extract.{rootRead, readRoot, headRemoved, removeHead}
 use Rattle.moundify.specs.Moundify.{returnAnswer, returning, mendReadNode, depthRead, mendReadDepth, mendReadLeft, marked, childLess, childrenRead, mendReadRight, exchangeAt, bothSame, exchangeWith, mendSwap, cleanAt, mendClean}
 use Rattle.machine.specs.Turn.{decide, decideAt}
@@ -84,32 +86,6 @@ pub data Planned (s : Shape) (m : Shared) (own : ℕ → ℕ) (t : ℕ) (o : ℕ
   refuses : p .effect ≡ Nothing → p .answer ≡ Refused counterSpent → Planned s m own t o op p
   moves : (op′ : Operation) → Allowed s m own t (p .effect) → Speaks m op op′ (p .effect) (p .answer)
       → OwnAfter (p .effect) o (p .thread .own) → At s m (p .thread) op′ (p .thread .place) → Planned s m own t o op p
-
--- Comparisons.
-pub same-node : (a b : Node) → sameNode a b ≡ true → a ≡ b
-unfolding sameNode
-same-node a b e =
-    let p = and-left (eqb (a .first) (b .first) && eqb (a .dirty) (b .dirty)) (eqb (a .counter) (b .counter)) e in
-    let f = eqb-true (a .first) (b .first) (and-left (eqb (a .first) (b .first)) (eqb (a .dirty) (b .dirty)) p) in
-    let d = eqb-true (a .dirty) (b .dirty) (and-right (eqb (a .first) (b .first)) (eqb (a .dirty) (b .dirty)) p) in
-    let c = eqb-true (a .counter) (b .counter) (and-right (eqb (a .first) (b .first) && eqb (a .dirty) (b .dirty)) (eqb (a .counter) (b .counter)) e) in
-    λ i. record { first = f i; dirty = d i; counter = c i }
-
-is-dirty : (n : Node) → isDirty n ≡ true → 1 ≤ n .dirty
-unfolding isDirty
-is-dirty n e = let z = eqb-false (n .dirty) 0 (not-true (eqb (n .dirty) 0) e) in omega arith
-
-is-clean : (n : Node) → isDirty n ≡ false → n .dirty ≡ 0
-unfolding isDirty
-is-clean n e = eqb-true (n .dirty) 0 (not-false (eqb (n .dirty) 0) e)
-
-not-less : (a b : Item) → itemLt a b ≡ false → AtMost b a
-unfolding itemLt
-not-less a b e = not-false (itemLe b a) e
-
-less : (a b : Item) → itemLt a b ≡ true → AtMost a b
-unfolding itemLt
-less a b e = item-total b a (not-true (itemLe b a) e)
 
 -- Where n lies.
 ancestor-some : (n j : ℕ) → 1 ≤ n → n < 2 ^ 32 → 1 ≤ j → 1 ≤ ancestor n j
@@ -305,7 +281,7 @@ module _ (s : Shape) (r : InRange s) (m : Shared) (own : ℕ → ℕ) (g : Mound
       pick-good Fits (eqb n 0) (λ e. absurd (let z = eqb-true n 0 e in omega (arith, k .0)))
       (λ e. goes-on u (targetPlace th q) refl
       (pick-good (At s m u op) (itemLt (valueOf q) (th .item)) (λ a. h)
-      (λ a. let least = not-less (valueOf q) (th .item) a in
+      (λ a. let least = item-not-less (valueOf q) (th .item) a in
       pick-good (At s m u op) (eqb n 1)
       (λ b. (h, record { sound = subst (λ y. Sound m y q) (eqb-true n 1 b) (sound-read m n); least = least }))
       (λ b. let z = eqb-false n 1 b in (h, k, omega (arith, k .0), record { sound = sound-read m n; least = least })))))
@@ -356,18 +332,16 @@ module _ (s : Shape) (r : InRange s) (m : Shared) (own : ℕ → ℕ) (g : Mound
       pick-good Fits (ltb (th .node) 2) (λ e. absurd (let z = ltb-true (th .node) 2 e in omega arith))
       (λ e. goes-on u _ refl
       (pick-good (At s m u op) (itemLt (th .item) (valueOf q)) (λ b. h)
-      (λ b. (h, k, l, a, record { sound = sound-read m (th .node / 2); most = not-less (th .item) (valueOf q) b }))))
+      (λ b. (h, k, l, a, record { sound = sound-read m (th .node / 2); most = item-not-less (th .item) (valueOf q) b }))))
 
   below-planned : Puts m th op → InTree m (th .node) → 2 ≤ th .node → Target m (th .node) (th .item) (th .copies .first)
       → Parent m (th .node) (th .item) (th .copies .second) → Fits (insertBelow m th)
-  unfolding insertBelow nodeAndParent
+  unfolding insertBelow
   below-planned h k l a b =
-      let x = sameNode (m .node (th .node)) (th .copies .first .node) in
-      let y = sameNode (m .node (th .node / 2)) (th .copies .second .node) in
       pick-good Fits (ltb (th .node) 2 || eqb (th .own) 0)
       (λ e. absurd (true≢false (sym e ∙ neither (ltb (th .node) 2) (eqb (th .own) 0) (le-ltb (th .node) 2 l) (ne-eqb (th .own) 0 (λ z. omega (arith, z, h .some))))))
-      (λ e. insert-planned h (th .node) k a (x && y) (λ z. and-left x y z)
-      (λ z w. subst (λ i. AtMost i (th .item)) (sym (ap valueOf (found (th .node / 2) (th .copies .second) (b .sound) (and-right x y z)))) (b .most)))
+      (λ e. insert-planned h (th .node) k a (nodeAndParent m th) (node-same m th)
+      (λ z w. subst (λ i. AtMost i (th .item)) (sym (ap valueOf (found (th .node / 2) (th .copies .second) (b .sound) (parent-same m th z)))) (b .most)))
     where
       neither : (p q : Bool) → p ≡ false → q ≡ false → p || q ≡ false
       neither true q e z = e

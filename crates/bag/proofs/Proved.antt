@@ -24,6 +24,7 @@ use Rattle.layout.proofs.Laws.{laid-exact}
 use Rattle.readable.specs.Readable.{readable, shapeIn}
 use Rattle.readable.proofs.Laws.{Good}
 use Rattle.machine.specs.Begin.{frameIn, putBegun, putBytes, putRefusal, takeBytes, takeRefusal}
+use Rattle.machine.proofs.Laws.{is-idle, may-put, may-take}
 use Rattle.machine.specs.Run.{Served, Turn, runRefusal, runResult, serve, serveAll, turnsFrom}
 use Rattle.preserved.proofs.Proved.{put-free, put-good, put-least, put-most, put-permitted, put-tag, take-good, take-permitted, take-thread}
 use Rattle.bag.specs.Calls.{Call, layout, put, take, run, check, NoLayout, after}
@@ -33,7 +34,7 @@ use Rattle.bag.specs.Ledger.{Ledger, Follows, emptyLedger, still}
 use Rattle.bag.specs.Tree.{inTree}
 use Rattle.bag.proofs.Held.{counted}
 use Rattle.bag.proofs.Start.{laid-region}
-use Rattle.bag.proofs.Regions.{Next, Region, is-idle, may-put, may-take, put-idle, put-key, put-next, take-idle, take-next, turn-next}
+use Rattle.bag.proofs.Regions.{Next, Region, put-idle, put-key, put-next, take-idle, take-next, turn-next}
 
 -- every moment of a list follows the one before and leaves a region on which the invariant holds
 

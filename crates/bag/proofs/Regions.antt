@@ -160,37 +160,6 @@ module _ (s : Shape) (b : List ℕ) (l : Ledger) (g : Region s b l) where
   turn-next x = turn-step (x .thread) (x .choice)
 
 -- What is not refused.
-idle-place : (x : Place) → eqb (placeNumber x) 0 ≡ true → x ≡ Idle
-idle-place Idle e = refl
-idle-place ReadDepth e = absurd (true≢false (sym e))
-idle-place ReadLeaf e = absurd (true≢false (sym e))
-idle-place ReadAncestor e = absurd (true≢false (sym e))
-idle-place GrowDepth e = absurd (true≢false (sym e))
-idle-place ReadTarget e = absurd (true≢false (sym e))
-idle-place InsertAtRoot e = absurd (true≢false (sym e))
-idle-place ReadParent e = absurd (true≢false (sym e))
-idle-place InsertBelow e = absurd (true≢false (sym e))
-idle-place ReadRoot e = absurd (true≢false (sym e))
-idle-place RemoveHead e = absurd (true≢false (sym e))
-idle-place (MendReadNode w) e = absurd (true≢false (sym e))
-idle-place (MendReadDepth w) e = absurd (true≢false (sym e))
-idle-place (MendReadLeft w) e = absurd (true≢false (sym e))
-idle-place (MendReadRight w) e = absurd (true≢false (sym e))
-idle-place (MendSwap w) e = absurd (true≢false (sym e))
-idle-place (MendClean w) e = absurd (true≢false (sym e))
-
-pub is-idle : (x : Thread) → isIdle x ≡ true → x .place ≡ Idle
-unfolding isIdle
-is-idle x e = idle-place (x .place) e
-
-pub may-put : (x : Thread) → mayPut x ≡ true → 1 ≤ x .permission
-unfolding mayPut
-may-put x e = let z = eqb-true (x .permission % 2) 1 e in omega arith
-
-pub may-take : (x : Thread) → mayTake x ≡ true → 1 ≤ x .permission
-unfolding mayTake
-may-take x e = let z = eqb-true (x .permission / 2 % 2) 1 e in omega arith
-
 module _ (b : List ℕ) (t : ℕ) where
   abbrev x : Thread
   x = threadIn (frameIn b) b t

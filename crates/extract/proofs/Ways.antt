@@ -55,9 +55,6 @@ head-leaves t q n u v x r en eu ev ex er =
     er
     ∙ (λ i. plan (Pop (en i) (q .node .first)) ((ex ∙ ap (λ y. mending y 1 0) (ev ∙ ap (λ y. withAfter y 1) eu)) i) Moved)
 
-pub not-spent : (n : Node) (p : Bool) → p ≡ isSpent n → p ≡ false → isSpent n ≡ false
-not-spent n p e g = sym e ∙ g
-
 module _ (f : Frame) (b : List ℕ) (t : Thread) (r : Plan) where
   pub no-head : t .copies .first .node .first ≡ 0 → r ≡ refused t unreadable → r ≡ removeHead (sharedIn f b) t
   unfolding removeHead pick

@@ -281,9 +281,6 @@ module _ (t : Thread) (n : ℕ) (h : Bool) (r : Plan) where
         (not-false h g, ← es, z)
         (e ∙ (λ i. plan (Push n (ev i) (t .own) (t .copies .first .node .first)) (e₁ i) Inserted))
 
-pub not-spent : (n : Node) (s : Bool) → s ≡ isSpent n → s ≡ false → isSpent n ≡ false
-not-spent n s e z = sym e ∙ z
-
 -- I6.
 module _ (f : Frame) (b : List ℕ) (t : Thread) (r : Plan) where
   pub root-no-cell : t .own ≡ 0 → r ≡ refused t unreadable → r ≡ insertAtRoot (sharedIn f b) t

@@ -204,9 +204,6 @@ module _ (s : Shape) (m : Shared) (t : Thread) (w : ℕ) (r : Plan) where
         (er ∙ ap (λ y. childrenRead y w) (eu ∙ ap (withThird t) ek))
 
 -- M5.
-pub not-spent : (n : Node) (p : Bool) → p ≡ isSpent n → p ≡ false → isSpent n ≡ false
-not-spent n p e g = sym e ∙ g
-
 module _ (t : Thread) (w c : ℕ) (q : NodeCopy) (holds : Bool) (r : Plan) where
   pub one-changed : not holds ≡ true → r ≡ onTo t (MendReadNode w) → r ≡ exchangeAt t w c q holds
   unfolding exchangeAt pick

@@ -2,7 +2,8 @@
 use borrow.Author.Needs.{needs}
 use Rattle.extract.proofs.remove_head.Statement.{statement}
 use Rattle.extract.proofs.remove_head.Tie as tie
-use Rattle.extract.proofs.Ways.{no-head, root-changed, root-spent, not-spent, head-removes}
+use Rattle.access.proofs.ReadLaws.{not-spent}
+use Rattle.extract.proofs.Ways.{no-head, root-changed, root-spent, head-removes}
 
 refused-requires : tie.Need-refused-requires
 refused-requires c κs = search needs

@@ -2,7 +2,8 @@
 use borrow.Author.Needs.{needs}
 use Rattle.insert.proofs.insert_at.Statement.{statement}
 use Rattle.insert.proofs.insert_at.Tie as tie
-use Rattle.insert.proofs.Ways.{compared-other, counter-spent, not-spent, pushed}
+use Rattle.access.proofs.ReadLaws.{not-spent}
+use Rattle.insert.proofs.Ways.{compared-other, counter-spent, pushed}
 
 on-to-requires : tie.Need-on-to-requires
 on-to-requires c κs = search needs

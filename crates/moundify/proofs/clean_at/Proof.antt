@@ -2,7 +2,8 @@
 use borrow.Author.Needs.{needs}
 use Rattle.moundify.proofs.clean_at.Statement.{statement}
 use Rattle.moundify.proofs.clean_at.Tie as tie
-use Rattle.moundify.proofs.Ways.{not-spent, clean-spent, cleans}
+use Rattle.access.proofs.ReadLaws.{not-spent}
+use Rattle.moundify.proofs.Ways.{clean-spent, cleans}
 
 is-spent-requires : tie.Need-is-spent-requires
 is-spent-requires c κs = search needs

@@ -2,7 +2,8 @@
 use borrow.Author.Needs.{needs}
 use Rattle.moundify.proofs.exchange_at.Statement.{statement}
 use Rattle.moundify.proofs.exchange_at.Tie as tie
-use Rattle.moundify.proofs.Ways.{not-spent, one-changed, node-spent, child-spent, lists-exchange}
+use Rattle.access.proofs.ReadLaws.{not-spent}
+use Rattle.moundify.proofs.Ways.{one-changed, node-spent, child-spent, lists-exchange}
 
 on-to-requires : tie.Need-on-to-requires
 on-to-requires c κs = search needs

@@ -1,0 +1,31 @@
+-- What a comparison, the dirty mark and the counter's test tell of a node. Assumes nothing.
+use Prim.Native.Nat.{_≤_}
+use native.Mathlib.Omega.{arith}
+use mathlib.Core.Path.{_≡_, sym, _∙_}
+use mathlib.Core.Bool.{Bool, true, false, _&&_}
+use borrow.Author.Tests.{eqb-true, eqb-false, not-true, not-false}
+use lib.Dec.{eqb}
+use Rattle.region.specs.declared.record.Node.{Node}
+use Rattle.region.proofs.Shapes.{and-left, and-right}
+use Rattle.access.specs.Read.{isDirty, isSpent, sameNode}
+
+-- "a comparison takes cell, dirty and counter together": what it finds equal is equal
+pub same-node : (a b : Node) → sameNode a b ≡ true → a ≡ b
+unfolding sameNode
+same-node a b e =
+    let p = and-left (eqb (a .first) (b .first) && eqb (a .dirty) (b .dirty)) (eqb (a .counter) (b .counter)) e in
+    let f = eqb-true (a .first) (b .first) (and-left (eqb (a .first) (b .first)) (eqb (a .dirty) (b .dirty)) p) in
+    let d = eqb-true (a .dirty) (b .dirty) (and-right (eqb (a .first) (b .first)) (eqb (a .dirty) (b .dirty)) p) in
+    let c = eqb-true (a .counter) (b .counter) (and-right (eqb (a .first) (b .first) && eqb (a .dirty) (b .dirty)) (eqb (a .counter) (b .counter)) e) in
+    λ i. record { first = f i; dirty = d i; counter = c i }
+
+pub is-dirty : (n : Node) → isDirty n ≡ true → 1 ≤ n .dirty
+unfolding isDirty
+is-dirty n e = let z = eqb-false (n .dirty) 0 (not-true (eqb (n .dirty) 0) e) in omega arith
+
+pub is-clean : (n : Node) → isDirty n ≡ false → n .dirty ≡ 0
+unfolding isDirty
+is-clean n e = eqb-true (n .dirty) 0 (not-false (eqb (n .dirty) 0) e)
+
+pub not-spent : (n : Node) (p : Bool) → p ≡ isSpent n → p ≡ false → isSpent n ≡ false
+not-spent n p e g = sym e ∙ g

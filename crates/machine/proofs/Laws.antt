@@ -1,0 +1,45 @@
+-- What the tests of the two beginnings tell: a thread that may put or take has a permission, and an idle one stands at no place.
+-- Assumes nothing.
+use Prim.Native.Nat.{_/_, _%_, _≤_}
+use native.Mathlib.Omega.{arith}
+use mathlib.Core.Path.{_≡_, refl, sym}
+use mathlib.Core.Bool.{true, true≢false}
+use borrow.Author.Tests.{eqb-true}
+use lib.Dec.{eqb}
+use Rattle.region.specs.Place.{placeNumber}
+use Rattle.region.specs.declared.place.Place.{Place}
+use Rattle.region.specs.declared.place.Place.the-variants.{Idle, ReadDepth, ReadLeaf, ReadAncestor, GrowDepth, ReadTarget, InsertAtRoot, ReadParent, InsertBelow, ReadRoot, RemoveHead, MendReadNode, MendReadDepth, MendReadLeft, MendReadRight, MendSwap, MendClean}
+use Rattle.region.specs.declared.thread.Thread.{Thread}
+use Rattle.machine.specs.Begin.{isIdle, mayPut, mayTake}
+
+-- "0 is the empty list and grants nothing"
+pub may-put : (t : Thread) → mayPut t ≡ true → 1 ≤ t .permission
+unfolding mayPut
+may-put t e = let z = eqb-true (t .permission % 2) 1 e in omega arith
+
+pub may-take : (t : Thread) → mayTake t ≡ true → 1 ≤ t .permission
+unfolding mayTake
+may-take t e = let z = eqb-true (t .permission / 2 % 2) 1 e in omega arith
+
+idle-place : (x : Place) → eqb (placeNumber x) 0 ≡ true → x ≡ Idle
+idle-place Idle e = refl
+idle-place ReadDepth e = absurd (true≢false (sym e))
+idle-place ReadLeaf e = absurd (true≢false (sym e))
+idle-place ReadAncestor e = absurd (true≢false (sym e))
+idle-place GrowDepth e = absurd (true≢false (sym e))
+idle-place ReadTarget e = absurd (true≢false (sym e))
+idle-place InsertAtRoot e = absurd (true≢false (sym e))
+idle-place ReadParent e = absurd (true≢false (sym e))
+idle-place InsertBelow e = absurd (true≢false (sym e))
+idle-place ReadRoot e = absurd (true≢false (sym e))
+idle-place RemoveHead e = absurd (true≢false (sym e))
+idle-place (MendReadNode w) e = absurd (true≢false (sym e))
+idle-place (MendReadDepth w) e = absurd (true≢false (sym e))
+idle-place (MendReadLeft w) e = absurd (true≢false (sym e))
+idle-place (MendReadRight w) e = absurd (true≢false (sym e))
+idle-place (MendSwap w) e = absurd (true≢false (sym e))
+idle-place (MendClean w) e = absurd (true≢false (sym e))
+
+pub is-idle : (x : Thread) → isIdle x ≡ true → x .place ≡ Idle
+unfolding isIdle
+is-idle x e = idle-place (x .place) e
