@@ -1,9 +1,9 @@
 -- Case J of document 01 as a whole history, computed from the definitions: "root 5; both take, turns 1,1,2,2,2,2,2,1,1: thread 2 gets empty
 -- first, then thread 1 took 5." The bag is told the put, both takes, thread 1's E2 with the item, thread 2's empty, and thread 1's answer,
 -- in the order of the deciding accesses and not of the answers. Assumes nothing.
-use Prim.Native.Nat.{ℕ, zero, suc, _*_}
+use Prim.Native.Nat.{ℕ, _*_}
 use mathlib.Core.Path.{_≡_, refl}
-use mathlib.Core.List.{List, [], _∷_, _++_, map}
+use mathlib.Core.List.{List, [], _∷_, _++_}
 use lib.ListN.{length, replicate}
 use Rattle.words.specs.Word.{word, setWord}
 use Rattle.region.specs.Frame.{frameOf}
@@ -14,7 +14,6 @@ use Rattle.region.specs.Shape.{between, shapeFits, regionWords}
 use Rattle.region.specs.Shared.{loadEntry, storeEntry, nodeIn, setNodeIn, cellIn, setCellIn, threadIn, setThreadIn, sharedIn}
 use Rattle.region.specs.Thread.{threadAt, setThreadAt, goneIdle, atPlace, withItem, withOwn, withDepth, withSearch, withNode, withAfter, withResult, withCopies, withFirst, withSecond, withThird, begunPut, begunTake, mending, returned}
 use Rattle.region.specs.declared.record.Item.{Item}
-use Rattle.region.specs.declared.shape.Shape.{Shape}
 use Rattle.access.specs.Effect.{effectBytes, freedBytes, pushBytes}
 use Rattle.access.specs.Order.{itemLe, itemLt, valueOf}
 use Rattle.access.specs.Plan.{plan, moved, onTo, refused}

@@ -1,28 +1,23 @@
 -- The mound between turns: cells held, the tree in order, nothing below the present depth. What an effect asks, that it keeps the mound,
 -- and what every other thread may rely on across it. Assumes nothing.
-use Prim.Native.Nat.{ℕ, zero, suc, _+_, _-_, _*_, _/_, _^_, _≤_, _<_}
+use Prim.Native.Nat.{ℕ, _+_, _-_, _*_, _/_, _^_, _≤_, _<_}
 use native.Mathlib.Decide.{ℕ-discrete}
 use native.Mathlib.Omega.{arith}
 use mathlib.Core.Path.{_≡_, refl, sym, ap, subst, subst₂, _∙_}
-use mathlib.Core.Logic.{_⊎_, inl, inr}
-use mathlib.Core.Bool.{true, false}
+use mathlib.Core.Logic.{_⊎_}
 use borrow.Author.Tests.{ne-eqb}
-use lib.Dec.{eqb}
 use lib.Pow.{pow-mono}
 use Rattle.region.specs.Pick.{pick, upd}
-use Rattle.region.specs.Record.{zeroItem}
 use Rattle.region.specs.Shape.{nodeCount}
 use Rattle.region.specs.Shared.{Shared}
 use Rattle.region.specs.declared.record.Cell.{Cell}
 use Rattle.region.specs.declared.record.Item.{Item}
 use Rattle.region.specs.declared.record.Node.{Node}
-use Rattle.region.specs.declared.record.NodeCopy.{NodeCopy}
 use Rattle.region.specs.declared.shape.Shape.{Shape}
 use Rattle.access.specs.Effect.{effectShared}
-use Rattle.access.specs.Order.{itemLe, topItem, valueOf}
+use Rattle.access.specs.Order.{valueOf}
 use Rattle.access.specs.Read.{readNode, updated}
-use Rattle.access.specs.declared.effect.Effect.{Effect}
-use Rattle.access.specs.declared.effect.Effect.the-variants.{Nothing, Grow, Push, Pop, Exchange, Clean}
+use Rattle.access.specs.declared.effect.Effect.the-variants.{Grow, Push, Pop, Exchange, Clean}
 use Rattle.access.proofs.OrderLaws.{item-refl, item-trans}
 use Rattle.bag.specs.Tree.{sameItem}
 use Rattle.bag.proofs.Cells.{upd-same, upd-other}
@@ -54,6 +49,12 @@ pub record Rely (m m′ : Shared) : Type 0 where
   -- a node whose counter stands is unchanged, its head cell too
   pub unchanged : (n : ℕ) → 1 ≤ n → m′ .node n .counter ≡ m .node n .counter → readNode m′ n ≡ readNode m n
   pub child : (c : ℕ) → Falls m m′ c
+
+-- a step of thread t keeps the mound, with what the others rely on and their own cells
+pub record Keeps (s : Shape) (m m′ : Shared) (own own′ : ℕ → ℕ) (t : ℕ) : Type 0 where
+  pub mound : Mound s m′ own′
+  pub rely : Rely m m′
+  pub kept : (u : ℕ) → (u ≡ t → ⊥) → 1 ≤ own u → m′ .cell (own u) ≡ m .cell (own u)
 
 read-same : (m m′ : Shared) (x : ℕ) → m′ .node x ≡ m .node x → m′ .cell (m .node x .first) ≡ m .cell (m .node x .first)
     → readNode m′ x ≡ readNode m x
@@ -169,9 +170,9 @@ value-there cell c i p e = rw (ne-eqb c 0 (λ z. omega arith)) e
 
 -- Growing.
 module _ (s : Shape) (m : Shared) (own : ℕ → ℕ) (g : Mound s m own) (d : ℕ) (next : d ≡ m .depth + 1) (few : d ≤ s .depth) where
-  pub grow-keeps : Mound s (effectShared m (Grow d)) own
+  grow-mound : Mound s (effectShared m (Grow d)) own
   unfolding effectShared readNode
-  grow-keeps =
+  grow-mound =
       record {
         held = held-same s m _ own (g .held) refl refl (λ n. refl);
         ordered = g .ordered;
@@ -180,9 +181,13 @@ module _ (s : Shape) (m : Shared) (own : ℕ → ℕ) (g : Mound s m own) (d : �
         depth-most = few;
       }
 
-  pub grow-relies : Rely m (effectShared m (Grow d))
+  grow-relies : Rely m (effectShared m (Grow d))
   unfolding effectShared readNode
   grow-relies = rely-same m _ (omega arith) (λ x p. refl)
+
+  pub grow-keeps : (t : ℕ) → Keeps s m (effectShared m (Grow d)) own own t
+  unfolding effectShared
+  grow-keeps t = record { mound = grow-mound; rely = grow-relies; kept = λ u n l. refl }
 
   pub grow-counts : (i : Item) → counted s (effectShared m (Grow d)) i ≡ counted s m i
   unfolding effectShared
@@ -236,9 +241,9 @@ module _ (s : Shape) (m : Shared) (own own′ : ℕ → ℕ) (g : Mound s m own)
       (λ d ne. upd-other (m .cell) c d _ ne) push-item (ap (λ z. z .next) (upd-same (m .cell) c _) ∙ a .onto) refl push-first
       (λ y ne. ap (λ z. z .first) (upd-other (m .node) n y v ne)) gone still (a .proper) (a .least)
 
-  pub push-keeps : Mound s pushed own′
+  push-mound : Mound s pushed own′
   unfolding effectShared
-  push-keeps =
+  push-mound =
       record {
         held = push-held;
         ordered =
@@ -259,7 +264,7 @@ module _ (s : Shape) (m : Shared) (own own′ : ℕ → ℕ) (g : Mound s m own)
   unfolding effectShared
   push-depth = refl
 
-  pub push-relies : Rely m pushed
+  push-relies : Rely m pushed
   unfolding updated
   push-relies =
       let up : pushed .node n .counter ≡ m .node n .counter + 1 = ap (λ y. y .counter) (push-node ∙ a .value) in
@@ -273,7 +278,7 @@ module _ (s : Shape) (m : Shared) (own own′ : ℕ → ℕ) (g : Mound s m own)
       (λ y ne. ap (λ z. z .first) (upd-other (m .node) n y v ne)) gone still (a .proper) (a .least) i
 
   -- own cells of other threads
-  pub push-own : (u : ℕ) → (u ≡ t → ⊥) → 1 ≤ own u → pushed .cell (own u) ≡ m .cell (own u)
+  push-own : (u : ℕ) → (u ≡ t → ⊥) → 1 ≤ own u → pushed .cell (own u) ≡ m .cell (own u)
   unfolding effectShared
   push-own u ne l = upd-other (m .cell) c (own u) _ apart
     where
@@ -283,6 +288,9 @@ module _ (s : Shape) (m : Shared) (own own′ : ℕ → ℕ) (g : Mound s m own)
           let o₂ = own-owner s m own (g .held) t (omega (arith, a .mine, a .cell)) in
           let k = ap (g .held .owner) (e ∙ sym (a .mine)) in
           ne (omega (arith, o₁, o₂, k))
+
+  pub push-keeps : Keeps s m pushed own own′ t
+  push-keeps = record { mound = push-mound; rely = push-relies; kept = push-own }
 
 -- Popping.
 module _ (s : Shape) (m : Shared) (own : ℕ → ℕ) (g : Mound s m own) (v : Node) (c : ℕ) (a : PopAsks m v c) where
@@ -311,9 +319,9 @@ module _ (s : Shape) (m : Shared) (own : ℕ → ℕ) (g : Mound s m own) (v : N
       (ap (λ z. z .next) (upd-same (m .cell) c _)) refl (ap (λ z. z .first) (pop-node ∙ a .value))
       (λ y ne. ap (λ z. z .first) (upd-other (m .node) 1 y v ne))
 
-  pub pop-keeps : Mound s popped own
+  pop-mound : Mound s popped own
   unfolding effectShared updated
-  pop-keeps =
+  pop-mound =
       record {
         held = pop-held;
         ordered =
@@ -327,7 +335,7 @@ module _ (s : Shape) (m : Shared) (own : ℕ → ℕ) (g : Mound s m own) (v : N
         depth-most = g .depth-most;
       }
 
-  pub pop-relies : Rely m popped
+  pop-relies : Rely m popped
   unfolding effectShared updated
   pop-relies =
       let up : popped .node 1 .counter ≡ m .node 1 .counter + 1 = ap (λ y. y .counter) (pop-node ∙ a .value) in
@@ -350,6 +358,9 @@ module _ (s : Shape) (m : Shared) (own : ℕ → ℕ) (g : Mound s m own) (v : N
           let o₂ = first-owner s m own (g .held) 1 (omega arith) (omega (arith, a .head, a .cell)) in
           let k = ap (g .held .owner) (e ∙ sym (a .head)) in
           omega (arith, o₁, o₂, k)
+
+  pub pop-keeps : (t : ℕ) → Keeps s m popped own own t
+  pop-keeps t = record { mound = pop-mound; rely = pop-relies; kept = λ u n l. pop-own u l }
 
 -- Exchanging the lists of node n and its child k, whose sibling is j.
 module _ (s : Shape) (m : Shared) (own : ℕ → ℕ) (g : Mound s m own) (n : ℕ) (v : Node) (k : ℕ) (w : Node) (j : ℕ)
@@ -387,9 +398,9 @@ module _ (s : Shape) (m : Shared) (own : ℕ → ℕ) (g : Mound s m own) (n : �
       (in-tree s m own g k (a .few)) apart refl refl (ap (λ z. z .first) at-n) (ap (λ z. z .first) at-k)
       (λ x p q. ap (λ z. z .first) (at-x x p q))
 
-  pub exchange-keeps : Mound s swapped own
+  exchange-mound : Mound s swapped own
   unfolding effectShared updated
-  exchange-keeps =
+  exchange-mound =
       record {
         held = exchange-held;
         ordered =
@@ -404,13 +415,17 @@ module _ (s : Shape) (m : Shared) (own : ℕ → ℕ) (g : Mound s m own) (n : �
         depth-most = g .depth-most;
       }
 
-  pub exchange-relies : Rely m swapped
+  exchange-relies : Rely m swapped
   unfolding effectShared updated
   exchange-relies =
       let up-n : swapped .node n .counter ≡ m .node n .counter + 1 = ap (λ z. z .counter) at-n in
       relies m swapped n k (omega arith) up-n (ap (λ z. z .counter) at-k) (λ x p q r. read-same m swapped x (at-x x q r) refl)
       (λ p e z. absurd (omega (arith, z, a .dirty)))
       (λ p e z. absurd (let h = subst (λ y. swapped .node y .counter ≡ m .node y .counter) (a .child) e in omega (arith, h, up-n)))
+
+  pub exchange-keeps : (t : ℕ) → Keeps s m swapped own own t
+  unfolding effectShared
+  exchange-keeps t = record { mound = exchange-mound; rely = exchange-relies; kept = λ u x l. refl }
 
   pub exchange-counts : (i : Item) → counted s swapped i ≡ counted s m i
   unfolding effectShared updated
@@ -444,9 +459,9 @@ module _ (s : Shape) (m : Shared) (own : ℕ → ℕ) (g : Mound s m own) (n : �
   unfolding valueOf readNode effectShared
   clean-value x = ap (valueAt (m .cell)) (clean-first x)
 
-  pub clean-keeps : Mound s cleaned own
+  clean-mound : Mound s cleaned own
   unfolding effectShared
-  clean-keeps =
+  clean-mound =
       record {
         held = held-same s m cleaned own (g .held) refl refl clean-first;
         ordered =
@@ -459,12 +474,16 @@ module _ (s : Shape) (m : Shared) (own : ℕ → ℕ) (g : Mound s m own) (n : �
         depth-most = g .depth-most;
       }
 
-  pub clean-relies : Rely m cleaned
+  clean-relies : Rely m cleaned
   unfolding effectShared updated
   clean-relies =
       let up : cleaned .node n .counter ≡ m .node n .counter + 1 = ap (λ z. z .counter) clean-node in
       relies m cleaned n n (omega arith) up up (λ x p q r. read-same m cleaned x (clean-other x q) refl)
       (λ p e z. absurd (omega (arith, z, a .dirty))) (λ p e z. absurd (omega (arith, z, a .dirty)))
+
+  pub clean-keeps : (t : ℕ) → Keeps s m cleaned own own t
+  unfolding effectShared
+  clean-keeps t = record { mound = clean-mound; rely = clean-relies; kept = λ u x l. refl }
 
   pub clean-counts : (i : Item) → counted s cleaned i ≡ counted s m i
   unfolding effectShared
@@ -485,11 +504,11 @@ module _ (s : Shape) (m m′ : Shared) (own own′ : ℕ → ℕ) (g : Mound s m
           let k = ap (g .held .owner) (e ∙ sym free) in
           omega (arith, o₁, o₂, k)
 
-  pub begin-relies : Rely m m′
+  begin-relies : Rely m m′
   begin-relies = rely-same m m′ (omega (arith, depth)) begin-reads
 
-  pub begin-keeps : Mound s m′ own′
-  begin-keeps =
+  begin-mound : Mound s m′ own′
+  begin-mound =
       record {
         held = held-begin s m m′ own own′ (g .held) t c lt ut some free none others ended left nodes now still;
         ordered = λ a x p h z.
@@ -505,7 +524,7 @@ module _ (s : Shape) (m m′ : Shared) (own own′ : ℕ → ℕ) (g : Mound s m
   pub begin-counts : (i : Item) → counted s m′ i ≡ counted s m i
   begin-counts i = counted-begin s m m′ own own′ (g .held) t c lt ut some free none others ended left nodes now still i
 
-  pub begin-own : (u : ℕ) → 1 ≤ own u → m′ .cell (own u) ≡ m .cell (own u)
+  begin-own : (u : ℕ) → 1 ≤ own u → m′ .cell (own u) ≡ m .cell (own u)
   begin-own u l = others (own u) apart-own
     where
       apart-own : own u ≡ c → ⊥
@@ -514,3 +533,6 @@ module _ (s : Shape) (m m′ : Shared) (own own′ : ℕ → ℕ) (g : Mound s m
           let o₂ = free-owner s m own (g .held) (omega (arith, free, some)) in
           let k = ap (g .held .owner) (e ∙ sym free) in
           omega (arith, o₁, o₂, k)
+
+  pub begin-keeps : Keeps s m m′ own own′ t
+  begin-keeps = record { mound = begin-mound; rely = begin-relies; kept = λ u n l. begin-own u l }

@@ -26,8 +26,10 @@ use Rattle.machine.specs.Begin.{frameIn, mayPut, mayTake, putBytes, putRefusal,
 use Rattle.machine.specs.Turn.{carriedOut, decide, decideAt, turnBytes, turnPlan}
 use Rattle.preserved.proofs.PlansGood.{pick-good}
 use Rattle.preserved.proofs.Proved.{put-permitted, take-permitted, put-keeps-readable, put-keeps-shape, put-leaves-others, take-keeps-readable, take-keeps-shape, take-leaves-others, turn-keeps-readable, turn-keeps-shape, turn-leaves-others}
+use Rattle.bag.specs.Calls.{NoLayout}
 use Rattle.bag.specs.EmptyList.{EmptyListChangesNothing, LeavesAlone}
-use Rattle.bag.proofs.Histories.{history-keeps}
+use Rattle.bag.specs.History.{Told}
+use Rattle.bag.proofs.Histories.{Kept, Next, calls-kept, kept-after}
 use Rattle.bag.proofs.LaidOut.{laid-good, laid-thread}
 
 -- the turn of an idle thread
@@ -109,6 +111,13 @@ module _ (s : Shape) (t : ℕ) (b : List ℕ) (h : Barred s t b) where
   barred-long : length b ≡ 4 * regionWords s
   barred-long = good b (h .reads) .exact ∙ ap (λ x. 4 * regionWords x) (h .shape)
 
+-- nothing is known beside the region, and nothing is claimed of what is told
+abbrev Anything : Told → Unit {0} → Unit {0} → Type 0
+Anything told x y = Unit
+
+next-barred : (s : Shape) (t : ℕ) (told : Told) (b : List ℕ) → Barred s t b → Next (λ b x. Barred s t b) Anything tt told b
+next-barred s t told b h = record { next = tt; follows = tt; region = h }
+
 pub empty-list-changes-nothing : EmptyListChangesNothing
 empty-list-changes-nothing s ps b e calls n earlier later split t l u z =
     let laid = layoutBytes s ps b in
@@ -118,8 +127,12 @@ empty-list-changes-nothing s ps b e calls n earlier later split t l u z =
       shape = g .shape;
       idle = laid-thread s ps b e t l u ∙ ap idleThread z;
     } in
+    let kept = calls-kept (λ b x. Barred s t b) Anything s
+    (λ b x h. h .shape) (λ b x h. barred-long s t b h) (λ x. tt)
+    (λ b x h v i. next-barred s t _ _ (put-keeps s t b h v i))
+    (λ b x h v. next-barred s t _ _ (take-keeps s t b h v))
+    (λ b x h v. next-barred s t _ _ (turn-keeps s t b h (v .thread) (v .choice)))
+    calls laid tt barred (subst (λ k. NoLayout k calls) (laid-exact s ps b e ∙ sym (g .exact)) n)
+    in
     leaves-alone s t _
-    (history-keeps (Barred s t) s (length b)
-    (λ b′ h. h .shape)
-    (λ b′ h. barred-long s t b′ h ∙ sym (laid-exact s ps b e))
-    (put-keeps s t) (take-keeps s t) (turn-keeps s t) laid barred calls n earlier later split)
+    (kept-after (λ b x. Barred s t b) Anything earlier later laid tt barred (subst (Kept (λ b x. Barred s t b) Anything tt) split kept) .1)

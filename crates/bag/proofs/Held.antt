@@ -1,28 +1,26 @@
 -- Which list, thread or free chain holds each cell: every cell is held once, lists never fall, and together they are all C cells. What a
 -- beginning, a push, a pop and an exchange make of it, and of the tree's count. Assumes nothing.
-use Prim.Native.Nat.{ℕ, zero, suc, _+_, _*_, _/_, _%_, _≤_}
+use Prim.Native.Nat.{ℕ, _+_, _*_, _/_, _%_, _≤_}
 use native.Mathlib.Decide.{ℕ-discrete}
 use native.Mathlib.Omega.{arith}
 use mathlib.Core.Path.{_≡_, refl, sym, ap, subst, _∙_}
-use mathlib.Core.Bool.{Bool, true, false}
-use mathlib.Core.List.{List, [], _∷_}
+use mathlib.Core.List.{List, _∷_}
 use borrow.Author.Tests.{eq-eqb, ne-eqb}
 use lib.Dec.{eqb}
 use lib.ListN.{length}
-use Rattle.region.specs.Pick.{pick, upd}
+use Rattle.region.specs.Pick.{pick}
 use Rattle.region.specs.Shape.{nodeCount}
 use Rattle.region.specs.Shared.{Shared}
-use Rattle.region.specs.declared.record.Cell.{Cell}
 use Rattle.region.specs.declared.record.Item.{Item}
 use Rattle.region.specs.declared.record.Node.{Node}
 use Rattle.region.specs.declared.shape.Shape.{Shape}
-use Rattle.access.specs.Order.{itemLe, topItem, valueOf}
+use Rattle.access.specs.Order.{topItem, valueOf}
 use Rattle.access.specs.Read.{readNode}
 use Rattle.bag.specs.Tree.{inNodes, sameItem}
-use Rattle.bag.proofs.Cells.{Chains, Moved, Exchanged, move, exchange, upd-same, upd-other, first-link, starts}
+use Rattle.bag.proofs.Cells.{Chains, Moved, Exchanged, move, exchange, first-link, starts}
 use Rattle.bag.proofs.Chains.{Chain, copies, items}
 use Rattle.bag.proofs.Counts.{inChain, tree-counts}
-use Rattle.bag.proofs.Sorted.{AtMost, Proper, AllFrom, Sorted, valueAt, from-head, head-least, head-proper, head-counted, top-value}
+use Rattle.bag.proofs.Sorted.{AtMost, Proper, Sorted, from-head, head-least, head-proper, head-counted, top-value}
 use Rattle.bag.proofs.Sums.{sum, sum-same, sum-has, sum-but, sum-exchange, sum-some}
 
 -- the first cell of each holder: 0 is the free chain, 2n node n, 2t + 1 thread t

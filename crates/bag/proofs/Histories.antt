@@ -1,107 +1,124 @@
--- What every call and every served turn keeps holds of every region of a history. Assumes nothing.
-use Prim.Native.Nat.{ℕ, _/_}
-use mathlib.Core.Path.{_≡_, sym, ap, subst, _∙_}
-use mathlib.Core.List.{List, [], _∷_, _++_}
-use borrow.Author.Tests.{eqb-true}
+-- What every call and every served turn keeps holds along every history. P holds of a region and of what is known beside it, F says how the
+-- latter follows at a moment: for demand 3 the ledger, for a thread with an empty permission list nothing. Assumes nothing.
+use Prim.Native.Nat.{ℕ, _*_, _/_}
+use mathlib.Core.Path.{_≡_, refl, sym, subst, _∙_}
+use mathlib.Core.Bool.{Bool, true, false}
+use mathlib.Core.List.{List, [], _∷_, _++_, append-assoc}
+use borrow.Author.Tests.{ne-eqb}
 use lib.Dec.{eqb}
 use lib.ListN.{length}
 use Rattle.region.specs.Answer.{done}
 use Rattle.region.specs.Frame.{frameOf}
+use Rattle.region.specs.Pick.{pick}
+use Rattle.region.specs.Shape.{regionWords}
 use Rattle.region.specs.declared.record.Item.{Item}
 use Rattle.region.specs.declared.shape.Shape.{Shape}
 use Rattle.layout.specs.Layout.{layoutRefusal, layoutBytes}
 use Rattle.readable.specs.Readable.{shapeIn}
-use Rattle.machine.specs.Begin.{putBytes, takeBytes}
+use Rattle.machine.specs.Begin.{frameIn, putBytes, putRefusal, takeBytes, takeRefusal}
 use Rattle.machine.specs.Run.{Served, Turn, runRefusal, runResult, serve, serveAll, turnsFrom}
 use Rattle.machine.specs.Turn.{turnBytes}
-use Rattle.preserved.proofs.PlansGood.{pick-good}
 use Rattle.bag.specs.Calls.{Call, layout, put, take, run, check, NoLayout, after}
-use Rattle.bag.specs.History.{Moment, callMoments, history, turnMoments}
+use Rattle.bag.specs.History.{Told, Moment, nothing, begunPut, begunTake, callMoments, history, turnMoments, turnTells}
 use Rattle.bag.specs.Moments.{regionAfter}
 
-module _ (P : List ℕ → Type 0) (s : Shape) (l : ℕ)
-    (shaped : (b : List ℕ) → P b → shapeIn b ≡ s)
-    (long : (b : List ℕ) → P b → length b ≡ l)
-    (put-keeps : (b : List ℕ) → P b → (t : ℕ) (i : Item) → P (putBytes b t i))
-    (take-keeps : (b : List ℕ) → P b → (t : ℕ) → P (takeBytes b t))
-    (turn-keeps : (b : List ℕ) → P b → (t c : ℕ) → P (turnBytes (frameOf s) b t c)) where
-  -- P of the region after each moment
-  data Along : List Moment → Type 0 where
-    none : Along []
-    more : {m : Moment} {ms : List Moment} → P (m .region) → Along ms → Along (m ∷ ms)
+refused-layout : (b : List ℕ) (x : Shape) (ps : List ℕ) → (layoutRefusal x ps (length b) ≡ done → ⊥) → layoutBytes x ps b ≡ b
+unfolding layoutBytes pick
+refused-layout b x ps h = rw (ne-eqb (layoutRefusal x ps (length b)) done h) refl
 
-  along-both : {ms ns : List Moment} → Along ms → Along ns → Along (ms ++ ns)
-  along-both none g = g
-  along-both (more k h) g = more k (along-both h g)
+module _ {X : Type 0} (P : List ℕ → X → Type 0) (F : Told → X → X → Type 0) where
+  -- every moment follows the one before and leaves a region of which P holds
+  abbrev pub Kept : X → List Moment → Type 0
+  Kept x [] = Unit
+  Kept x (m ∷ ms) = (x′ : X) × F (m .told) x x′ × P (m .region) x′ × Kept x′ ms
 
-  -- the turns of a run
-  turns-along : (limit : ℕ) (ts : List Turn) (r : Served) → P (r .region) → Along (turnMoments (frameOf s) limit ts r)
-  unfolding turnMoments serve
-  turns-along limit [] r h = none
-  turns-along limit (t ∷ ts) r h =
-      let k = turn-keeps (r .region) h (t .thread) (t .choice) in
-      pick-good Along (eqb (r .accesses) limit) (λ e. none) (λ e. more k (turns-along limit ts (serve (frameOf s) t r) k))
+  -- a call or a turn that told this and left b
+  pub record Next (x : X) (told : Told) (b : List ℕ) : Type 0 where
+    pub next : X
+    pub follows : F told x next
+    pub region : P b next
 
-  turns-keep : (limit : ℕ) (ts : List Turn) (r : Served) → P (r .region) → P (serveAll (frameOf s) limit ts r .region)
-  unfolding serveAll serve
-  turns-keep limit [] r h = h
-  turns-keep limit (t ∷ ts) r h =
-      pick-good (λ (x : Served). P (x .region)) (eqb (r .accesses) limit) (λ e. h)
-      (λ e. turns-keep limit ts (serve (frameOf s) t r) (turn-keeps (r .region) h (t .thread) (t .choice)))
+  pub kept-after : (earlier later : List Moment) (b : List ℕ) (x : X) → P b x → Kept x (earlier ++ later)
+      → (x′ : X) × P (regionAfter b earlier) x′
+  kept-after [] later b x g k = (x, g)
+  kept-after (m ∷ earlier) later b x g k = kept-after earlier later (m .region) (k .0) (k .2) (k .3)
 
-  module _ (b : List ℕ) (h : P b) (schedule : List ℕ) (limit : ℕ) (answers : List ℕ) where
-    abbrev turns : List Turn
-    turns = turnsFrom schedule 0 (length schedule / 8)
+  -- one moment, and what comes behind it
+  then : (x : X) (told : Told) (b : List ℕ) (rest : List Moment) → Next x told b → ((x′ : X) → P b x′ → Kept x′ rest)
+      → Kept x (record { told = told; region = b } ∷ rest)
+  then x told b rest n k = (n .next, n .follows, n .region, k (n .next) (n .region))
 
-    abbrev start : Served
-    start = record { region = b; answers = answers; turns = 0; accesses = 0 }
+  module _ (s : Shape)
+      (shaped : (b : List ℕ) (x : X) → P b x → shapeIn b ≡ s)
+      (long : (b : List ℕ) (x : X) → P b x → length b ≡ 4 * regionWords s)
+      (still : (x : X) → F nothing x x)
+      (put-next : (b : List ℕ) (x : X) → P b x → (t : ℕ) (i : Item)
+      → Next x (pick (eqb (putRefusal b t i) done) (begunPut t i) nothing) (putBytes b t i))
+      (take-next : (b : List ℕ) (x : X) → P b x → (t : ℕ)
+      → Next x (pick (eqb (takeRefusal b t) done) (begunTake t) nothing) (takeBytes b t))
+      (turn-next : (b : List ℕ) (x : X) → P b x → (t : Turn)
+      → Next x (turnTells (frameOf s) b t) (turnBytes (frameOf s) b (t .thread) (t .choice))) where
+    quiet : (x : X) (b : List ℕ) → P b x → Next x nothing b
+    quiet x b g = record { next = x; follows = still x; region = g }
 
-    run-keeps : P (runResult b schedule limit answers .region)
-    unfolding runResult
-    run-keeps =
-        pick-good (λ (x : Served). P (x .region)) (eqb (runRefusal b schedule (length answers)) done)
-        (λ e. subst (λ x. P (serveAll (frameOf x) limit turns start .region)) (sym (shaped b h)) (turns-keep limit turns start h))
-        (λ e. h)
+    -- the turns of a run
+    turns-kept : (limit : ℕ) (ts : List Turn) (r : Served) (x : X) → P (r .region) x → (rest : List Moment)
+        → ((x′ : X) → P (serveAll (frameOf s) limit ts r .region) x′ → Kept x′ rest) → Kept x (turnMoments (frameOf s) limit ts r ++ rest)
+    unfolding turnMoments serveAll serve pick
+    turns-kept limit [] r x g rest k = k x g
+    turns-kept limit (t ∷ ts) r x g rest k = go (eqb (r .accesses) limit) k (turns-kept limit ts (serve (frameOf s) t r))
+      where
+        go : (q : Bool) → ((x′ : X) → P (pick q r (serveAll (frameOf s) limit ts (serve (frameOf s) t r)) .region) x′ → Kept x′ rest)
+            → ((x : X) → P (serve (frameOf s) t r .region) x → (rest : List Moment)
+            → ((x′ : X) → P (serveAll (frameOf s) limit ts (serve (frameOf s) t r) .region) x′ → Kept x′ rest)
+            → Kept x (turnMoments (frameOf s) limit ts (serve (frameOf s) t r) ++ rest))
+            → Kept x (pick q [] (record { told = turnTells (frameOf s) (r .region) t; region = serve (frameOf s) t r .region }
+            ∷ turnMoments (frameOf s) limit ts (serve (frameOf s) t r)) ++ rest)
+        go true k more = k x g
+        go false k more =
+            then x (turnTells (frameOf s) (r .region) t) (serve (frameOf s) t r .region)
+            (turnMoments (frameOf s) limit ts (serve (frameOf s) t r) ++ rest) (turn-next (r .region) x g t) (λ x′ g′. more x′ g′ rest k)
 
-    run-along : Along (callMoments b (run schedule limit answers))
-    unfolding callMoments after
-    run-along =
-        along-both
-        (pick-good Along (eqb (runRefusal b schedule (length answers)) done)
-        (λ e. subst (λ x. Along (turnMoments (frameOf x) limit turns start)) (sym (shaped b h)) (turns-along limit turns start h))
-        (λ e. none))
-        (more run-keeps none)
+    run-kept : (limit : ℕ) (ts : List Turn) (r : Served) (x : X) → P (r .region) x → (rest : List Moment) (q : Bool)
+        → ((x′ : X) → P (pick q (serveAll (frameOf s) limit ts r) r .region) x′ → Kept x′ rest)
+        → Kept x (pick q (turnMoments (frameOf s) limit ts r) [] ++ rest)
+    unfolding pick
+    run-kept limit ts r x g rest true k = turns-kept limit ts r x g rest k
+    run-kept limit ts r x g rest false k = k x g
 
-  -- a refused layout
-  layout-keeps : (b : List ℕ) → P b → (s′ : Shape) (ps : List ℕ) → (layoutRefusal s′ ps l ≡ done → ⊥) → P (layoutBytes s′ ps b)
-  unfolding layoutBytes
-  layout-keeps b h s′ ps n =
-      pick-good P (eqb (layoutRefusal s′ ps (length b)) done)
-      (λ e. absurd (n (ap (layoutRefusal s′ ps) (sym (long b h)) ∙ eqb-true (layoutRefusal s′ ps (length b)) done e)))
-      (λ e. h)
+    -- a call, and what comes behind it
+    module _ (b : List ℕ) (x : X) (g : P b x) where
+      run-call : (schedule : List ℕ) (limit : ℕ) (answers : List ℕ) (rest : List Moment)
+          → ((x′ : X) → P (after b (run schedule limit answers)) x′ → Kept x′ rest) → Kept x (callMoments b (run schedule limit answers) ++ rest)
+      unfolding callMoments after runResult
+      run-call schedule limit answers rest k =
+          let q = eqb (runRefusal b schedule (length answers)) done in
+          let ts = turnsFrom schedule 0 (length schedule / 8) in
+          let r : Served = record { region = b; answers = answers; turns = 0; accesses = 0 } in
+          let b′ = pick q (serveAll (frameIn b) limit ts r) r .region in
+          let last : Moment = record { told = nothing; region = b′ } in
+          subst (Kept x) (sym (append-assoc (pick q (turnMoments (frameIn b) limit ts r) []) (last ∷ []) rest))
+          (subst (λ y. ((x′ : X) → P (pick q (serveAll (frameOf y) limit ts r) r .region) x′ → Kept x′ (last ∷ rest))
+          → Kept x (pick q (turnMoments (frameOf y) limit ts r) [] ++ last ∷ rest)) (sym (shaped b x g))
+          (run-kept limit ts r x g (last ∷ rest) q) (λ x′ g′. then x′ nothing b′ rest (quiet x′ b′ g′) k))
 
-  history-along : (cs : List Call) (b : List ℕ) → P b → NoLayout l cs → Along (history b cs)
-  unfolding history callMoments after
-  history-along [] b h n = none
-  history-along (layout s′ ps ∷ cs) b h n =
-      let k = layout-keeps b h s′ ps (n .0) in
-      more k (history-along cs (layoutBytes s′ ps b) k (n .1))
-  history-along (put t i ∷ cs) b h n =
-      let k = put-keeps b h t i in
-      more k (history-along cs (putBytes b t i) k n)
-  history-along (take t ∷ cs) b h n =
-      let k = take-keeps b h t in
-      more k (history-along cs (takeBytes b t) k n)
-  history-along (run schedule limit answers ∷ cs) b h n =
-      along-both (run-along b h schedule limit answers)
-      (history-along cs (after b (run schedule limit answers)) (run-keeps b h schedule limit answers) n)
-  history-along (check ∷ cs) b h n = more h (history-along cs b h n)
+      call-kept : (c : Call) (cs : List Call) → NoLayout (length b) (c ∷ cs) → (rest : List Moment)
+          → ((x′ : X) → P (after b c) x′ → NoLayout (length b) cs → Kept x′ rest) → Kept x (callMoments b c ++ rest)
+      unfolding callMoments after
+      call-kept (layout y ps) cs h rest k =
+          let e = refused-layout b y ps (h .0) in
+          then x nothing (layoutBytes y ps b) rest (subst (Next x nothing) (sym e) (quiet x b g)) (λ x′ g′. k x′ g′ (h .1))
+      call-kept (put t i) cs h rest k =
+          then x (pick (eqb (putRefusal b t i) done) (begunPut t i) nothing) (putBytes b t i) rest (put-next b x g t i) (λ x′ g′. k x′ g′ h)
+      call-kept (take t) cs h rest k =
+          then x (pick (eqb (takeRefusal b t) done) (begunTake t) nothing) (takeBytes b t) rest (take-next b x g t) (λ x′ g′. k x′ g′ h)
+      call-kept (run schedule limit answers) cs h rest k = run-call schedule limit answers rest (λ x′ g′. k x′ g′ h)
+      call-kept check cs h rest k = then x nothing b rest (quiet x b g) (λ x′ g′. k x′ g′ h)
 
-  along-holds : (earlier later : List Moment) (b : List ℕ) → P b → Along (earlier ++ later) → P (regionAfter b earlier)
-  along-holds [] later b h a = h
-  along-holds (m ∷ earlier) later b h (more k a) = along-holds earlier later (m .region) k a
-
-  -- the region after any of the moments
-  pub history-keeps : (b : List ℕ) → P b → (cs : List Call) → NoLayout l cs → (earlier later : List Moment)
-      → history b cs ≡ earlier ++ later → P (regionAfter b earlier)
-  history-keeps b h cs n earlier later split = along-holds earlier later b h (subst Along split (history-along cs b h n))
+    -- every list of calls
+    pub calls-kept : (cs : List Call) (b : List ℕ) (x : X) → P b x → NoLayout (length b) cs → Kept x (history b cs)
+    unfolding history
+    calls-kept [] b x g h = tt
+    calls-kept (c ∷ cs) b x g h =
+        call-kept b x g c cs h (history (after b c) cs)
+        (λ x′ g′ h′. calls-kept cs (after b c) x′ g′ (subst (λ n. NoLayout n cs) (long b x g ∙ sym (long (after b c) x′ g′)) h′))

@@ -1,6 +1,6 @@
 -- The order of the tree, for all depths together: a clean node's value is at most that of every node below it. Each effect keeps it. Nodes
 -- are numbers, their values and marks functions; of the order of values only reflexivity and transitivity are used. Assumes nothing.
-use Prim.Native.Nat.{ℕ, zero, suc, _+_, _*_, _/_, _≤_, _<_}
+use Prim.Native.Nat.{ℕ, zero, suc, _+_, _*_, _/_, _≤_}
 use native.Mathlib.Decide.{ℕ-discrete}
 use native.Mathlib.Omega.{arith}
 use mathlib.Core.Path.{_≡_, refl, sym, ap, subst, subst₂, _∙_}

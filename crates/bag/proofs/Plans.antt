@@ -1,16 +1,16 @@
 -- Every plan of a thread in its place: its effect is one that the mound allows, what it tells fits the thread's operation, and the facts of
 -- its next place hold; or the turn is refused 11 for a counter that is spent, and never 7. Assumes nothing.
-use Prim.Native.Nat.{ℕ, _+_, _-_, _*_, _/_, _%_, _^_, _≤_, _<_}
+use Prim.Native.Nat.{ℕ, _+_, _-_, _*_, _/_, _^_, _≤_, _<_}
 use native.Mathlib.Decide.{decLt}
 use native.Mathlib.Nat.{div-le-self, le-div-iff-mul-le, mod-lt}
 use native.Mathlib.Omega.{arith}
 use mathlib.Core.Path.{_≡_, refl, sym, ap, subst, _∙_}
 use mathlib.Core.Bool.{Bool, true, false, not, _&&_, _||_, true≢false}
 use mathlib.Core.Logic.{_⊎_, inl, inr}
-use borrow.Author.Tests.{ltb-true, ltb-false, leb-true, leb-false, eqb-true, eqb-false, eq-eqb, ne-eqb, lt-ltb, le-ltb, le-leb, not-true, not-false}
-use lib.Dec.{leb, ltb, eqb}
+use borrow.Author.Tests.{ltb-true, eqb-true, eqb-false, ne-eqb, lt-ltb, le-ltb, le-leb}
+use lib.Dec.{ltb, eqb}
 use lib.Pow.{pow-mono, pow-pos}
-use Rattle.region.specs.Answer.{unreadable, counterSpent}
+use Rattle.region.specs.Answer.{counterSpent}
 use Rattle.region.specs.Level.{ancestor, level, mark}
 use Rattle.region.specs.Pick.{pick}
 use Rattle.region.specs.Shape.{InRange, between, nodeCount}
@@ -24,7 +24,6 @@ use Rattle.region.specs.declared.record.Item.{Item}
 use Rattle.region.specs.declared.record.Node.{Node}
 use Rattle.region.specs.declared.record.NodeCopy.{NodeCopy}
 use Rattle.region.specs.declared.shape.Shape.{Shape}
-use Rattle.region.specs.declared.thread.Search.{Search}
 use Rattle.region.specs.declared.thread.Thread.{Thread}
 use Rattle.region.proofs.Levels.{level-holds}
 use Rattle.region.proofs.Shapes.{and-left, and-right, and-both, is-between, sizes}
@@ -42,11 +41,11 @@ use Rattle.extract.specs.Extract.{rootRead, readRoot, headRemoved, removeHead}
 use Rattle.moundify.specs.Moundify.{returnAnswer, returning, mendReadNode, depthRead, mendReadDepth, mendReadLeft, marked, childLess, childrenRead, mendReadRight, exchangeAt, bothSame, exchangeWith, mendSwap, cleanAt, mendClean}
 use Rattle.machine.specs.Turn.{decide, decideAt}
 use Rattle.readable.proofs.Stores.{PlaceGood, ThreadGood, WaitsAbove}
-use Rattle.preserved.proofs.PlansGood.{pick-good, or-left, or-right}
-use Rattle.preserved.proofs.TreeLevels.{above, fits, level-unique, twice}
+use Rattle.preserved.proofs.PlansGood.{pick-good}
+use Rattle.preserved.proofs.TreeLevels.{fits, level-unique, twice}
 use Rattle.bag.specs.Ledger.{Operation, none, putting, taking, holding}
 use Rattle.bag.proofs.Effects.{Mound, PushAsks, PopAsks, ExchangeAsks, CleanAsks, in-tree}
-use Rattle.bag.proofs.Facts.{At, AnyValue, Child, ChildRead, Dirty, InTree, Inner, LevelRead, Mended, Mends, Parent, Puts, RootRead, Searching, Sound, Swappable, Takes, Target, UpTo, mendingFor, sound-read}
+use Rattle.bag.proofs.Facts.{At, AnyValue, Child, ChildRead, Dirty, InTree, Inner, LevelRead, Mended, Mends, Parent, Puts, RootRead, Searching, Sound, Swappable, Takes, Target, mendingFor, sound-read}
 use Rattle.bag.proofs.Held.{val, val-top}
 use Rattle.bag.proofs.Order.{Above, below-children}
 use Rattle.bag.proofs.Sorted.{AtMost, valueAt}

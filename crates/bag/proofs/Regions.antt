@@ -1,66 +1,63 @@
 -- The invariant on the bytes of a region: a turn and the two beginnings keep it, and the ledger follows what they tell. Assumes nothing.
-use Prim.Native.Nat.{ℕ, _+_, _-_, _*_, _%_, _/_, _≤_, _<_, _^_}
+use Prim.Native.Nat.{ℕ, _-_, _≤_, _<_, _^_}
 use native.Mathlib.Decide.{ℕ-discrete}
 use native.Mathlib.Omega.{arith}
 use mathlib.Core.Path.{_≡_, refl, sym, ap, subst, subst₂, fun-ext, _∙_}
-use mathlib.Core.Bool.{Bool, true, false, _&&_, true≢false}
+use mathlib.Core.Bool.{Bool, true, false}
 use mathlib.Core.List.{List}
-use borrow.Author.Tests.{eqb-true, eq-eqb, leb-true}
-use lib.Dec.{leb, eqb}
+use borrow.Author.Tests.{leb-true}
+use lib.Dec.{leb}
 use lib.ListN.{length}
 use Rattle.words.specs.Word.{word, setWord}
 use Rattle.words.proofs.Laws.{length-setWord}
 use Rattle.region.specs.Answer.{done, badThread, counterSpent}
 use Rattle.region.specs.Frame.{Within, frameOf}
 use Rattle.region.specs.Pick.{pick, upd}
-use Rattle.region.specs.Place.{placeNumber}
-use Rattle.region.specs.Shape.{InRange, between, nodeCount}
+use Rattle.region.specs.Shape.{between}
 use Rattle.region.specs.Shared.{Shared, putCell, putFree, cellIn, setCellIn, threadIn, setThreadIn, sharedIn}
 use Rattle.region.specs.Thread.{atPlace, begunPut, begunTake, idleThread, withItem, withOwn}
 use Rattle.region.specs.declared.answer.Answer.{Answer}
-use Rattle.region.specs.declared.answer.Answer.the-variants.{Moved, Idle as AnswersIdle, Inserted, Took, Empty, Refused}
-use Rattle.region.specs.declared.place.Place.{Place}
-use Rattle.region.specs.declared.place.Place.the-variants.{Idle, ReadDepth, ReadLeaf, ReadAncestor, GrowDepth, ReadTarget, InsertAtRoot, ReadParent, InsertBelow, ReadRoot, RemoveHead, MendReadNode, MendReadDepth, MendReadLeft, MendReadRight, MendSwap, MendClean}
+use Rattle.region.specs.declared.answer.Answer.the-variants.{Idle as AnswersIdle, Refused}
+use Rattle.region.specs.declared.place.Place.the-variants.{Idle}
 use Rattle.region.specs.declared.record.Cell.{Cell}
 use Rattle.region.specs.declared.record.Item.{Item}
 use Rattle.region.specs.declared.shape.Shape.{Shape}
 use Rattle.region.specs.declared.thread.Thread.{Thread}
 use Rattle.region.proofs.Frames.{frame-parted}
-use Rattle.region.proofs.Shapes.{and-left, and-right, between-least, between-most, sizes}
+use Rattle.region.proofs.Shapes.{and-left, between-least, between-most, sizes}
 use Rattle.region.proofs.Views.{length-setCellIn, shared-setCell, shared-setFree, shared-setThread, threads-setCell, threads-setFree, threads-setThread}
 use Rattle.access.specs.Effect.{effectShared}
 use Rattle.access.specs.Plan.{plan, refused}
 use Rattle.access.specs.declared.effect.Effect.{Effect}
-use Rattle.access.specs.declared.effect.Effect.the-variants.{Nothing, Grow, Push, Pop, Exchange, Clean}
+use Rattle.access.specs.declared.effect.Effect.the-variants.{Nothing}
 use Rattle.access.specs.declared.plan.Plan.{Plan}
 use Rattle.access.proofs.OrderLaws.{item-below-top}
 use Rattle.readable.specs.Readable.{readable, shapeIn}
 use Rattle.readable.proofs.Laws.{Good}
-use Rattle.readable.proofs.Stores.{good-shared, good-thread, good-within, thread-fit}
-use Rattle.machine.specs.Begin.{frameIn, isIdle, isItem, mayPut, mayTake, putBegun, putBusy, putBytes, putRefusal, takeBytes, takeRefusal}
+use Rattle.readable.proofs.Stores.{good-thread, good-within, thread-fit}
+use Rattle.machine.specs.Begin.{frameIn, isIdle, isItem, mayPut, mayTake, putBegun, putBusy, putRefusal, takeRefusal}
 use Rattle.machine.specs.Run.{Turn}
-use Rattle.machine.specs.Turn.{decide, staysPut, turnBytes, turnPlan}
+use Rattle.machine.specs.Turn.{staysPut, turnBytes, turnPlan}
 use Rattle.preserved.proofs.EffectsGood.{cell-fit}
 use Rattle.preserved.proofs.Proved.{begun-put-good, begun-take-good, free-few, in-order, next-few, put-allowed, put-item, turn-good}
 use Rattle.bag.specs.History.{Told, nothing, begunPut as toldPut, begunTake as toldTake, answerTells, effectTells, turnTells}
 use Rattle.bag.specs.Ledger.{Operation, none, putting, taking, Ledger, Follows, still, put-begins, take-begins}
 use Rattle.bag.proofs.Carried.{turn-decides, turn-shared, turn-stays, turn-threads}
 use Rattle.bag.proofs.Cells.{upd-same, upd-other}
-use Rattle.bag.proofs.Effects.{Mound, Rely, begin-counts, begin-keeps, begin-own, begin-relies, rely-same}
+use Rattle.bag.proofs.Effects.{Mound, begin-counts, begin-keeps, rely-same}
 use Rattle.bag.proofs.Facts.{At}
+use Rattle.bag.proofs.Histories.{Next}
 use Rattle.bag.proofs.Plans.{Allowed, OwnAfter, Planned, Speaks, rests, refuses, moves, reads, grows, swaps, cleans, inserts, removes, empties, answers, cleans-answers, planned}
-use Rattle.bag.proofs.Steps.{Invariant, Step, Stepped, owns, step, stepped-invariant, turned-invariant}
+use Rattle.bag.proofs.Steps.{Invariant, Stepped, owns, step, stepped-invariant, turned-invariant}
 
 -- a readable region on which the invariant holds
 pub record Region (s : Shape) (b : List ℕ) (l : Ledger) : Type 0 where
   pub good : Good s b
   pub holds : Invariant s (sharedIn (frameOf s) b) (threadIn (frameOf s) b) l
 
--- a call or a turn that told x and left b
-pub record Next (s : Shape) (l : Ledger) (x : Told) (b : List ℕ) : Type 0 where
-  pub after : Ledger
-  pub follows : Follows x l after
-  pub region : Region s b after
+-- a call or a turn whose moment the ledger follows
+abbrev pub Follow : (s : Shape) → Ledger → Told → List ℕ → Type 0
+Follow s l told b = Next (Region s) Follows l told b
 
 -- an effect that speaks is carried out
 pub speaks-moves : {m : Shared} {op op′ : Operation} {e : Effect} {a : Answer} → Speaks m op op′ e a → staysPut a ≡ false
@@ -94,14 +91,14 @@ module _ (s : Shape) (b : List ℕ) (l : Ledger) (g : Region s b l) where
     p = turnPlan (frameOf s) b t c
 
     quiet-turn : (a : Answer) → staysPut a ≡ true → answerTells t a ≡ nothing → p .effect ≡ Nothing → p .answer ≡ a
-        → Next s l (effectTells (frameOf s) b t (p .answer) (p .effect)) (turnBytes (frameOf s) b t c)
+        → Follow s l (effectTells (frameOf s) b t (p .answer) (p .effect)) (turnBytes (frameOf s) b t c)
     unfolding p
     quiet-turn a st tells ee ea =
         let e : effectTells (frameOf s) b t (p .answer) (p .effect) ≡ nothing =
         ap (effectTells (frameOf s) b t (p .answer)) ee ∙ ap (answerTells t) ea ∙ tells
         in
         record {
-          after = l;
+          next = l;
           follows = subst (λ x. Follows x l l) (sym e) still;
           region = subst (λ x. Region s x l) (sym (turn-stays s b t c (ap staysPut ea ∙ st))) g;
         }
@@ -109,7 +106,7 @@ module _ (s : Shape) (b : List ℕ) (l : Ledger) (g : Region s b l) where
     module _ (lt : 1 ≤ t) (ut : t ≤ s .threads) where
       moving-turn : (op′ : Operation) → Allowed s m (owns th) t (p .effect) → Speaks m (l .operation t) op′ (p .effect) (p .answer)
           → OwnAfter (p .effect) (th t .own) (p .thread .own) → At s m (p .thread) op′ (p .thread .place)
-          → Next s l (effectTells (frameOf s) b t (p .answer) (p .effect)) (turnBytes (frameOf s) b t c)
+          → Follow s l (effectTells (frameOf s) b t (p .answer) (p .effect)) (turnBytes (frameOf s) b t c)
       unfolding p
       moving-turn op′ al sp ow at =
           let v = p .thread in
@@ -124,7 +121,7 @@ module _ (s : Shape) (b : List ℕ) (l : Ledger) (g : Region s b l) where
           (λ k. subst (λ o. 1 ≤ o → effectShared m (p .effect) .cell o ≡ m .cell o) now (st .mine) k)
           in
           record {
-            after = st .after;
+            next = st .after;
             follows = st .follows;
             region =
                 record {
@@ -135,7 +132,7 @@ module _ (s : Shape) (b : List ℕ) (l : Ledger) (g : Region s b l) where
           }
 
       there : Planned s m (owns th) t (th t .own) (l .operation t) p
-          → Next s l (effectTells (frameOf s) b t (p .answer) (p .effect)) (turnBytes (frameOf s) b t c)
+          → Follow s l (effectTells (frameOf s) b t (p .answer) (p .effect)) (turnBytes (frameOf s) b t c)
       there (rests ee ea) = quiet-turn AnswersIdle refl refl ee ea
       there (refuses ee ea) = quiet-turn (Refused counterSpent) refl refl ee ea
       there (moves op′ al sp ow at) = moving-turn op′ al sp ow at
@@ -144,18 +141,18 @@ module _ (s : Shape) (b : List ℕ) (l : Ledger) (g : Region s b l) where
     unfolding turnPlan frameOf pick
     nowhere e = rw e refl
 
-    turn-step : Next s l (effectTells (frameOf s) b t (p .answer) (p .effect)) (turnBytes (frameOf s) b t c)
+    turn-step : Follow s l (effectTells (frameOf s) b t (p .answer) (p .effect)) (turnBytes (frameOf s) b t c)
     unfolding p refused plan
     turn-step = go (between 1 t (s .threads)) refl
       where
-        go : (q : Bool) → between 1 t (s .threads) ≡ q → Next s l (effectTells (frameOf s) b t (p .answer) (p .effect)) (turnBytes (frameOf s) b t c)
+        go : (q : Bool) → between 1 t (s .threads) ≡ q → Follow s l (effectTells (frameOf s) b t (p .answer) (p .effect)) (turnBytes (frameOf s) b t c)
         go true e =
             let lt = between-least 1 t (s .threads) e in
             let ut = between-most 1 t (s .threads) e in
             there lt ut (plan-fits t c lt ut)
         go false e = quiet-turn (Refused badThread) refl refl (ap (λ x. x .effect) (nowhere e)) (ap (λ x. x .answer) (nowhere e))
 
-  pub turn-next : (x : Turn) → Next s l (turnTells (frameOf s) b x) (turnBytes (frameOf s) b (x .thread) (x .choice))
+  pub turn-next : (x : Turn) → Follow s l (turnTells (frameOf s) b x) (turnBytes (frameOf s) b (x .thread) (x .choice))
   unfolding turnTells p
   turn-next x = turn-step (x .thread) (x .choice)
 
@@ -219,19 +216,22 @@ module _ (s : Shape) (b : List ℕ) (l : Ledger) (g : Region s b l) (t : ℕ) (l
     take-begun =
         stepped-invariant s (m s b l g) (m s b l g) (th s b l g) l takes t taker taking (g .holds .at)
         (record {
-          mound = subst (Mound s (m s b l g)) (sym same-owns) (g .holds .mound);
-          rely = rely-same (m s b l g) (m s b l g) (omega arith) (λ y p. refl);
-          kept = λ u n p. refl;
+          keeps =
+              record {
+                mound = subst (Mound s (m s b l g)) (sym same-owns) (g .holds .mound);
+                rely = rely-same (m s b l g) (m s b l g) (omega arith) (λ y p. refl);
+                kept = λ u n p. refl;
+              };
           others = λ u n. upd-other (l .operation) t u taking n;
           now = upd-same (l .operation) t taking;
           bag = g .holds .bag;
         })
         (record { operation = refl; permitted = may; none = at-rest .1 })
 
-    pub take-next : Good s (setThreadIn (frameOf s) b t taker) → Next s l (toldTake t) (setThreadIn (frameOf s) b t taker)
+    pub take-next : Good s (setThreadIn (frameOf s) b t taker) → Follow s l (toldTake t) (setThreadIn (frameOf s) b t taker)
     take-next good =
         record {
-          after = takes;
+          next = takes;
           follows = take-begins (at-rest .0);
           region = record { good = good; holds = subst₂ (λ y z. Invariant s y z takes) (sym take-shared) (sym take-threads) take-begun };
         }
@@ -298,25 +298,17 @@ module _ (s : Shape) (b : List ℕ) (l : Ledger) (g : Region s b l) (t : ℕ) (l
     put-stepped : Stepped s (m s b l g) begun (owns (th s b l g)) (owns (upd (th s b l g) t putter)) l begins t (putting i)
     unfolding begun sharedIn
     put-stepped =
+        let elsewhere : (d : ℕ) → (d ≡ c → ⊥) → begun .cell d ≡ m s b l g .cell d = λ d n. upd-other (m s b l g .cell) c d mine n in
+        let ended : begun .cell c .next ≡ 0 = ap (λ y. y .next) (upd-same (m s b l g .cell) c mine) in
         record {
-          mound =
+          keeps =
               begin-keeps s (m s b l g) begun (owns (th s b l g)) (owns (upd (th s b l g) t putter)) (g .holds .mound) t c lt ut (omega arith) refl
-              (at-rest .1) (λ d n. upd-other (m s b l g .cell) c d mine n) (ap (λ y. y .next) (upd-same (m s b l g .cell) c mine)) refl refl refl
-              own-now still-own;
-          rely =
-              begin-relies s (m s b l g) begun (owns (th s b l g)) (owns (upd (th s b l g) t putter)) (g .holds .mound) t c lt ut (omega arith) refl
-              (at-rest .1) (λ d n. upd-other (m s b l g .cell) c d mine n) (ap (λ y. y .next) (upd-same (m s b l g .cell) c mine)) refl refl refl
-              own-now still-own;
-          kept = λ u n p.
-              begin-own s (m s b l g) begun (owns (th s b l g)) (owns (upd (th s b l g) t putter)) (g .holds .mound) t c lt ut (omega arith) refl
-              (at-rest .1) (λ d n. upd-other (m s b l g .cell) c d mine n) (ap (λ y. y .next) (upd-same (m s b l g .cell) c mine)) refl refl refl
-              own-now still-own u p;
+              (at-rest .1) elsewhere ended refl refl refl own-now still-own;
           others = λ u n. upd-other (l .operation) t u (putting i) n;
           now = upd-same (l .operation) t (putting i);
           bag = λ j. g .holds .bag j ∙ sym
               (begin-counts s (m s b l g) begun (owns (th s b l g)) (owns (upd (th s b l g) t putter)) (g .holds .mound) t c lt ut (omega arith) refl
-              (at-rest .1) (λ d n. upd-other (m s b l g .cell) c d mine n) (ap (λ y. y .next) (upd-same (m s b l g .cell) c mine)) refl refl refl
-              own-now still-own j);
+              (at-rest .1) elsewhere ended refl refl refl own-now still-own j);
         }
 
     put-begun : Invariant s begun (upd (th s b l g) t putter) begins
@@ -332,10 +324,10 @@ module _ (s : Shape) (b : List ℕ) (l : Ledger) (g : Region s b l) (t : ℕ) (l
           proper = item-below-top i key;
         })
 
-    pub put-next : Good s (putBegun (frameOf s) b t i) → Next s l (toldPut t i) (putBegun (frameOf s) b t i)
+    pub put-next : Good s (putBegun (frameOf s) b t i) → Follow s l (toldPut t i) (putBegun (frameOf s) b t i)
     put-next good =
         record {
-          after = begins;
+          next = begins;
           follows = put-begins (at-rest .0);
           region = record { good = good; holds = subst₂ (λ y z. Invariant s y z begins) (sym put-shared) (sym put-threads) put-begun };
         }

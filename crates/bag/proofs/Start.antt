@@ -5,13 +5,12 @@ use native.Mathlib.Omega.{arith}
 use mathlib.Core.Path.{_≡_, refl, sym, ap, subst, subst₂, _∙_}
 use mathlib.Core.Bool.{Bool, true, false}
 use mathlib.Core.List.{List, [], _∷_}
-use borrow.Author.Tests.{eq-eqb, ne-eqb}
+use borrow.Author.Tests.{ne-eqb}
 use lib.Dec.{eqb}
 use lib.ListN.{length, getD}
 use Rattle.region.specs.Answer.{done}
 use Rattle.region.specs.Frame.{frameOf}
 use Rattle.region.specs.Pick.{pick}
-use Rattle.region.specs.Record.{emptyNode}
 use Rattle.region.specs.Shape.{between, nodeCount}
 use Rattle.region.specs.Shared.{Shared, sharedIn, threadIn}
 use Rattle.region.specs.Thread.{idleThread}
@@ -24,7 +23,7 @@ use Rattle.access.specs.Order.{topItem, valueOf}
 use Rattle.access.specs.Read.{readNode}
 use Rattle.access.proofs.OrderLaws.{item-refl}
 use Rattle.layout.specs.Layout.{layoutRefusal, layoutBytes}
-use Rattle.bag.specs.Ledger.{Operation, emptyLedger, none}
+use Rattle.bag.specs.Ledger.{emptyLedger, none}
 use Rattle.bag.proofs.Chains.{Chain, ends, link, copies, items}
 use Rattle.bag.proofs.Counts.{inChain}
 use Rattle.bag.proofs.Effects.{Mound}
@@ -33,8 +32,8 @@ use Rattle.bag.proofs.Held.{Held, counted, counts, head-free, heads, va
 use Rattle.bag.proofs.LaidOut.{laid-cell, laid-depth, laid-free, laid-good, laid-no-thread, laid-node, laid-thread, next-in-chain, next-past, nextFree}
 use Rattle.bag.proofs.Regions.{Region}
 use Rattle.bag.proofs.Sorted.{AtMost, Sorted, valueAt}
-use Rattle.bag.proofs.Steps.{Invariant, owns}
-use Rattle.bag.proofs.Sums.{sum, sum-zero}
+use Rattle.bag.proofs.Steps.{owns}
+use Rattle.bag.proofs.Sums.{sum-zero}
 
 -- cells k, k + 1, .. , n of them, and the first of them
 from : ℕ → ℕ → List ℕ

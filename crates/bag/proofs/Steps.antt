@@ -1,38 +1,34 @@
 -- The invariant of shared memory, threads and ledger together. A turn keeps it and the ledger follows what the turn tells; so do the two
 -- beginnings. Assumes nothing.
-use Prim.Native.Nat.{ℕ, zero, suc, _+_, _-_, _≤_}
+use Prim.Native.Nat.{ℕ, _+_, _-_, _≤_}
 use native.Mathlib.Decide.{ℕ-discrete}
 use native.Mathlib.Omega.{arith}
 use mathlib.Core.Path.{_≡_, refl, sym, ap, subst, fun-ext, _∙_}
 use mathlib.Core.Bool.{Bool, true, false, true≢false}
 use mathlib.Core.List.{List}
-use Rattle.region.specs.Answer.{counterSpent}
 use Rattle.region.specs.Pick.{pick, upd}
 use Rattle.region.specs.Shared.{Shared, sharedIn}
 use Rattle.region.specs.declared.answer.Answer.{Answer}
-use Rattle.region.specs.declared.answer.Answer.the-variants.{Moved, Idle as AnswersIdle, Inserted, Took, Empty, Refused}
+use Rattle.region.specs.declared.answer.Answer.the-variants.{Moved, Inserted, Took, Empty}
 use Rattle.region.specs.declared.frame.Frame.{Frame}
-use Rattle.region.specs.declared.place.Place.{Place}
 use Rattle.region.specs.declared.record.Item.{Item}
-use Rattle.region.specs.declared.record.Node.{Node}
 use Rattle.region.specs.declared.shape.Shape.{Shape}
 use Rattle.region.specs.declared.thread.Thread.{Thread}
 use Rattle.access.specs.Effect.{effectShared}
-use Rattle.access.specs.Order.{itemLe, topItem, valueOf}
+use Rattle.access.specs.Order.{topItem, valueOf}
 use Rattle.access.specs.Read.{readNode}
 use Rattle.access.specs.declared.effect.Effect.{Effect}
 use Rattle.access.specs.declared.effect.Effect.the-variants.{Nothing, Grow, Push, Pop, Exchange, Clean}
-use Rattle.access.specs.declared.plan.Plan.{Plan}
 use Rattle.access.proofs.OrderLaws.{item-key, item-trans}
-use Rattle.bag.specs.History.{Told, nothing, begunPut, begunTake, decidedPut, decidedTake, decidedEmpty, tookItem, answerTells, effectTells}
-use Rattle.bag.specs.Ledger.{Operation, none, putting, taking, holding, Ledger, Follows, still, put-begins, take-begins, put-decides, take-decides, empty-decides, take-answers, oneMore, oneLess}
+use Rattle.bag.specs.History.{effectTells}
+use Rattle.bag.specs.Ledger.{Operation, none, holding, Ledger, Follows, still, put-decides, take-decides, empty-decides, take-answers, oneMore, oneLess}
 use Rattle.bag.specs.Tree.{sameItem}
 use Rattle.bag.proofs.Cells.{upd-same, upd-other}
-use Rattle.bag.proofs.Effects.{Mound, Rely, in-tree, root-there, value-there, rely-same, grow-keeps, grow-relies, grow-counts, push-keeps, push-relies, push-counts, push-own, pop-keeps, pop-relies, pop-counts, pop-own, exchange-keeps, exchange-relies, exchange-counts, clean-keeps, clean-relies, clean-counts}
+use Rattle.bag.proofs.Effects.{Keeps, Mound, in-tree, root-there, value-there, rely-same, grow-keeps, grow-counts, push-keeps, push-counts, pop-keeps, pop-counts, pop-own, exchange-keeps, exchange-counts, clean-keeps, clean-counts}
 use Rattle.bag.proofs.Facts.{At, stays}
 use Rattle.bag.proofs.Held.{val, counted, held-by, head-held}
 use Rattle.bag.proofs.Order.{root-above}
-use Rattle.bag.proofs.Plans.{Allowed, OwnAfter, Planned, Speaks, rests, refuses, moves, reads, grows, swaps, cleans, inserts, removes, empties, answers, cleans-answers}
+use Rattle.bag.proofs.Plans.{Allowed, OwnAfter, Speaks, reads, grows, swaps, cleans, inserts, removes, empties, answers, cleans-answers}
 use Rattle.bag.proofs.Sorted.{AtMost, same-item, item-same, valueAt}
 
 -- each thread's own cell
@@ -109,9 +105,7 @@ module _ (s : Shape) (m : Shared) (own : ℕ → ℕ) (g : Mound s m own) where
 
 -- what a step leaves, beside the thread's own facts
 pub record Stepped (s : Shape) (m m′ : Shared) (own own′ : ℕ → ℕ) (l l′ : Ledger) (t : ℕ) (op′ : Operation) : Type 0 where
-  pub mound : Mound s m′ own′
-  pub rely : Rely m m′
-  pub kept : (u : ℕ) → (u ≡ t → ⊥) → 1 ≤ own u → m′ .cell (own u) ≡ m .cell (own u)
+  pub keeps : Keeps s m m′ own own′ t
   pub others : (u : ℕ) → (u ≡ t → ⊥) → l′ .operation u ≡ l .operation u
   pub now : l′ .operation t ≡ op′
   pub bag : (i : Item) → l′ .bag i ≡ counted s m′ i
@@ -135,14 +129,12 @@ module _ (s : Shape) (f : Frame) (b : List ℕ) (own own′ : ℕ → ℕ) (l : 
   later op = record { bag = l .bag; operation = upd (l .operation) t op }
 
   -- an effect that moves no cell: the operation stays, or changes with the count as it is
-  quiet : (e : Effect) (l′ : Ledger) (op′ : Operation) → own′ t ≡ own t → Mound s (effectShared m e) own → Rely m (effectShared m e)
-      → effectShared m e .cell ≡ m .cell → ((i : Item) → counted s (effectShared m e) i ≡ counted s m i) → ((i : Item) → l′ .bag i ≡ l .bag i)
+  quiet : (e : Effect) (l′ : Ledger) (op′ : Operation) → own′ t ≡ own t → Keeps s m (effectShared m e) own own t
+      → ((i : Item) → counted s (effectShared m e) i ≡ counted s m i) → ((i : Item) → l′ .bag i ≡ l .bag i)
       → ((u : ℕ) → (u ≡ t → ⊥) → l′ .operation u ≡ l .operation u) → l′ .operation t ≡ op′ → Stepped s m (effectShared m e) own own′ l l′ t op′
-  quiet e l′ op′ eo mound rely cells counts same others now =
+  quiet e l′ op′ eo keeps counts same others now =
       record {
-        mound = subst (Mound s (effectShared m e)) (sym (same-own eo)) mound;
-        rely = rely;
-        kept = λ u n p. ap (λ c. c (own u)) cells;
+        keeps = subst (λ o. Keeps s m (effectShared m e) own o t) (sym (same-own eo)) keeps;
         others = others;
         now = now;
         bag = λ i. same i ∙ bag i ∙ sym (counts i);
@@ -155,13 +147,9 @@ module _ (s : Shape) (f : Frame) (b : List ℕ) (own own′ : ℕ → ℕ) (l : 
     -- a cell that the thread still owns is as before
     pub mine : 1 ≤ own′ t → effectShared m e .cell (own′ t) ≡ m .cell (own′ t)
 
-  nothing-keeps : Mound s (effectShared m Nothing) own
+  nothing-keeps : Keeps s m (effectShared m Nothing) own own t
   unfolding effectShared
-  nothing-keeps = g
-
-  nothing-relies : Rely m (effectShared m Nothing)
-  unfolding effectShared
-  nothing-relies = rely-same m m (omega arith) (λ x p. refl)
+  nothing-keeps = record { mound = g; rely = rely-same m m (omega arith) (λ x p. refl); kept = λ u n p. refl }
 
   module _ (op op′ : Operation) (is : l .operation t ≡ op) where
     at-rest : op′ ≡ op → l .operation t ≡ op′
@@ -173,7 +161,7 @@ module _ (s : Shape) (f : Frame) (b : List ℕ) (own own′ : ℕ → ℕ) (l : 
         record {
           after = l;
           follows = still;
-          stepped = quiet Nothing l op′ ow g nothing-relies refl (λ i. refl) (λ i. refl) (λ u n. refl) (at-rest k);
+          stepped = quiet Nothing l op′ ow nothing-keeps (λ i. refl) (λ i. refl) (λ u n. refl) (at-rest k);
           mine = λ p. refl;
         }
     step (Grow d) Moved al (grows k) ow =
@@ -181,7 +169,7 @@ module _ (s : Shape) (f : Frame) (b : List ℕ) (own own′ : ℕ → ℕ) (l : 
           after = l;
           follows = still;
           stepped =
-              quiet (Grow d) l op′ ow (grow-keeps s m own g d (al .0) (al .1)) (grow-relies s m own g d (al .0) (al .1)) refl
+              quiet (Grow d) l op′ ow (grow-keeps s m own g d (al .0) (al .1) t)
               (grow-counts s m own g d (al .0) (al .1)) (λ i. refl) (λ u n. refl) (at-rest k);
           mine = λ p. refl;
         }
@@ -190,7 +178,7 @@ module _ (s : Shape) (f : Frame) (b : List ℕ) (own own′ : ℕ → ℕ) (l : 
           after = l;
           follows = still;
           stepped =
-              quiet (Exchange n v k w) l op′ ow (exchange-keeps s m own g n v k w (al .0) (al .1)) (exchange-relies s m own g n v k w (al .0) (al .1)) refl
+              quiet (Exchange n v k w) l op′ ow (exchange-keeps s m own g n v k w (al .0) (al .1) t)
               (exchange-counts s m own g n v k w (al .0) (al .1)) (λ i. refl) (λ u x. refl) (at-rest q);
           mine = λ p. refl;
         }
@@ -199,7 +187,7 @@ module _ (s : Shape) (f : Frame) (b : List ℕ) (own own′ : ℕ → ℕ) (l : 
           after = l;
           follows = still;
           stepped =
-              quiet (Clean n v) l op′ ow (clean-keeps s m own g n v al) (clean-relies s m own g n v al) refl (clean-counts s m own g n v al)
+              quiet (Clean n v) l op′ ow (clean-keeps s m own g n v al t) (clean-counts s m own g n v al)
               (λ i. refl) (λ u x. refl) (at-rest k);
           mine = λ p. refl;
         }
@@ -209,9 +197,7 @@ module _ (s : Shape) (f : Frame) (b : List ℕ) (own own′ : ℕ → ℕ) (l : 
           follows = put-decides (is ∙ eo);
           stepped =
               record {
-                mound = push-keeps s m own own′ g t n v c x lt ut al ow still-own;
-                rely = push-relies s m own own′ g t n v c x lt ut al ow still-own;
-                kept = push-own s m own own′ g t n v c x lt ut al ow still-own;
+                keeps = push-keeps s m own own′ g t n v c x lt ut al ow still-own;
                 others = λ u y. upd-other (l .operation) t u none y;
                 now = upd-same (l .operation) t none ∙ sym en;
                 bag = λ j.
@@ -230,9 +216,7 @@ module _ (s : Shape) (f : Frame) (b : List ℕ) (own own′ : ℕ → ℕ) (l : 
               (λ j h. item-key i j (root-below s m own g (al .clean) (omega (arith, al .head, al .cell)) j (subst (λ k. 1 ≤ k) (bag j) h)));
           stepped =
               record {
-                mound = subst (Mound s (effectShared m (Pop v c))) (sym (same-own ow)) (pop-keeps s m own g v c al);
-                rely = pop-relies s m own g v c al;
-                kept = λ u y p. pop-own s m own g v c al u p;
+                keeps = subst (λ o. Keeps s m (effectShared m (Pop v c)) own o t) (sym (same-own ow)) (pop-keeps s m own g v c al t);
                 others = λ u y. upd-other (l .operation) t u (holding i) y;
                 now = upd-same (l .operation) t (holding i) ∙ ap holding (sym ic) ∙ sym en;
                 bag = λ j.
@@ -248,7 +232,7 @@ module _ (s : Shape) (f : Frame) (b : List ℕ) (own own′ : ℕ → ℕ) (l : 
           after = later none;
           follows = empty-decides (is ∙ eo) (λ j. bag j ∙ empty-tree s m own g clean nobody j);
           stepped =
-              quiet Nothing (later none) op′ ow g nothing-relies refl (λ i. refl) (λ i. refl) (λ u y. upd-other (l .operation) t u none y)
+              quiet Nothing (later none) op′ ow nothing-keeps (λ i. refl) (λ i. refl) (λ u y. upd-other (l .operation) t u none y)
               (upd-same (l .operation) t none ∙ sym en);
           mine = λ p. refl;
         }
@@ -257,7 +241,7 @@ module _ (s : Shape) (f : Frame) (b : List ℕ) (own own′ : ℕ → ℕ) (l : 
           after = later none;
           follows = take-answers (is ∙ eo);
           stepped =
-              quiet Nothing (later none) op′ ow g nothing-relies refl (λ j. refl) (λ j. refl) (λ u y. upd-other (l .operation) t u none y)
+              quiet Nothing (later none) op′ ow nothing-keeps (λ j. refl) (λ j. refl) (λ u y. upd-other (l .operation) t u none y)
               (upd-same (l .operation) t none ∙ sym en);
           mine = λ p. refl;
         }
@@ -266,8 +250,7 @@ module _ (s : Shape) (f : Frame) (b : List ℕ) (own own′ : ℕ → ℕ) (l : 
           after = later none;
           follows = take-answers (is ∙ eo);
           stepped =
-              quiet (Clean n v) (later none) op′ ow (clean-keeps s m own g n v al) (clean-relies s m own g n v al) refl
-              (clean-counts s m own g n v al) (λ j. refl) (λ u y. upd-other (l .operation) t u none y)
+              quiet (Clean n v) (later none) op′ ow (clean-keeps s m own g n v al t) (clean-counts s m own g n v al) (λ j. refl) (λ u y. upd-other (l .operation) t u none y)
               (upd-same (l .operation) t none ∙ sym en);
           mine = λ p. refl;
         }
@@ -285,11 +268,11 @@ module _ (s : Shape) (m m′ : Shared) (th : ℕ → Thread) (l l′ : Ledger) (
     all-at u (no n) =
         subst (λ x. At s m′ x (l′ .operation u) (x .place)) (sym (upd-other th t u v n))
         (subst (λ o. At s m′ (th u) o (th u .place)) (sym (st .others u n))
-        (stays m m′ (st .rely) (th u) (l .operation u) (st .kept u n) s (th u .place) (at u)))
+        (stays m m′ (st .keeps .rely) (th u) (l .operation u) (st .keeps .kept u n) s (th u .place) (at u)))
 
     pub stepped-invariant : Invariant s m′ (upd th t v) l′
-    stepped-invariant = record { mound = st .mound; at = λ u. all-at u (ℕ-discrete u t); bag = st .bag }
+    stepped-invariant = record { mound = st .keeps .mound; at = λ u. all-at u (ℕ-discrete u t); bag = st .bag }
 
   -- a turn's own facts were found before its effect
   pub turned-invariant : At s m v op′ (v .place) → (1 ≤ v .own → m′ .cell (v .own) ≡ m .cell (v .own)) → Invariant s m′ (upd th t v) l′
-  turned-invariant now mine = stepped-invariant (stays m m′ (st .rely) v op′ mine s (v .place) now)
+  turned-invariant now mine = stepped-invariant (stays m m′ (st .keeps .rely) v op′ mine s (v .place) now)

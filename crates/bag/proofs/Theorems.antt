@@ -3,7 +3,7 @@ use Prim.Native.Nat.{ℕ}
 use native.Mathlib.Omega.{arith}
 use mathlib.Core.Path.{_≡_, refl, sym, ap, subst, _∙_}
 use mathlib.Core.Bool.{Bool, true, false, true≢false}
-use mathlib.Core.List.{List, [], _∷_, _++_}
+use mathlib.Core.List.{List}
 use Rattle.region.specs.Answer.{badThread, counterSpent, unreadable}
 use Rattle.region.specs.Frame.{frameOf}
 use Rattle.region.specs.Shape.{between}
@@ -16,14 +16,14 @@ use Rattle.access.specs.Plan.{plan, refused}
 use Rattle.layout.specs.Layout.{layoutBytes}
 use Rattle.readable.proofs.Laws.{readable-good}
 use Rattle.machine.specs.Turn.{staysPut, turnAnswer, turnPlan}
-use Rattle.bag.specs.History.{Moment, history}
-use Rattle.bag.specs.Ledger.{Ledger, Operation, emptyLedger}
+use Rattle.bag.specs.Ledger.{Follows, Ledger, Operation, emptyLedger}
 use Rattle.bag.specs.Moments.{Throughout, regionAfter}
 use Rattle.bag.specs.Theorems.{CellsAccounted, NoTurnUnreadable, RefusedTenWhenFull, StaysReadable, TakesEndInTime}
 use Rattle.bag.proofs.Account.{all-cells-accounted, puts-refused-when-full}
 use Rattle.bag.proofs.Ceiling.{take-ends}
 use Rattle.bag.proofs.Plans.{Planned, moves, refuses, rests}
-use Rattle.bag.proofs.Proved.{Kept, history-kept}
+use Rattle.bag.proofs.Histories.{Kept, kept-after}
+use Rattle.bag.proofs.Proved.{history-kept}
 use Rattle.bag.proofs.Regions.{Region, plan-fits, nowhere, speaks-moves}
 use Rattle.bag.proofs.Start.{laid-region}
 pub use Rattle.bag.proofs.Proved.{region-is-a-bag}
@@ -32,23 +32,14 @@ pub use Rattle.bag.proofs.Answers.{turn-says-its-answer}
 pub use Rattle.bag.proofs.EmptyList.{empty-list-changes-nothing}
 
 -- the invariant holds of every region of a history, with some ledger
-record Somewhere (s : Shape) (b : List ℕ) : Type 0 where
-  ledger : Ledger
-  region : Region s b ledger
-
-kept-after : (s : Shape) (earlier later : List Moment) (b : List ℕ) (l : Ledger) → Region s b l → Kept s l (earlier ++ later)
-    → Somewhere s (regionAfter b earlier)
-kept-after s [] later b l g k = record { ledger = l; region = g }
-kept-after s (m ∷ earlier) later b l g k = kept-after s earlier later (m .region) (k .0) (k .2) (k .3)
-
-holds : Throughout λ s permissions b. Somewhere s b
+holds : Throughout λ s permissions b. (l : Ledger) × Region s b l
 holds s ps b e calls n earlier later split =
-    kept-after s earlier later (layoutBytes s ps b) emptyLedger (laid-region s ps b e)
-    (subst (Kept s emptyLedger) split (history-kept s ps b e calls n))
+    kept-after (Region s) Follows earlier later (layoutBytes s ps b) emptyLedger (laid-region s ps b e)
+    (subst (Kept (Region s) Follows emptyLedger) split (history-kept s ps b e calls n))
 
 pub stays-readable : StaysReadable
 stays-readable s ps b e calls n earlier later split =
-    let g = holds s ps b e calls n earlier later split .region .good in
+    let g = holds s ps b e calls n earlier later split .1 .good in
     (readable-good s (regionAfter (layoutBytes s ps b) earlier) g, g .shape)
 
 -- what a plan of a region in order answers is no refusal 7
@@ -87,18 +78,18 @@ pub no-turn-unreadable : NoTurnUnreadable
 no-turn-unreadable s ps b e calls n earlier later split t c =
     let w = holds s ps b e calls n earlier later split in
     let b′ = regionAfter (layoutBytes s ps b) earlier in
-    subst (λ x. turnAnswer (frameOf x) b′ t c ≡ Refused unreadable → ⊥) (sym (w .region .good .shape))
-    (never-unreadable s b′ (w .ledger) (w .region) t c)
+    subst (λ x. turnAnswer (frameOf x) b′ t c ≡ Refused unreadable → ⊥) (sym (w .1 .good .shape))
+    (never-unreadable s b′ (w .0) (w .1) t c)
 
 pub cells-accounted : CellsAccounted
 cells-accounted s ps b e calls n earlier later split =
     let w = holds s ps b e calls n earlier later split in
-    all-cells-accounted s (regionAfter (layoutBytes s ps b) earlier) (w .ledger) (w .region .good) (w .region .holds)
+    all-cells-accounted s (regionAfter (layoutBytes s ps b) earlier) (w .0) (w .1 .good) (w .1 .holds)
 
 pub refused-ten-when-full : RefusedTenWhenFull
 refused-ten-when-full s ps b e calls n earlier later split =
     let w = holds s ps b e calls n earlier later split in
-    puts-refused-when-full s (regionAfter (layoutBytes s ps b) earlier) (w .ledger) (w .region .good) (w .region .holds)
+    puts-refused-when-full s (regionAfter (layoutBytes s ps b) earlier) (w .0) (w .1 .good) (w .1 .holds)
 
 pub takes-end-in-time : TakesEndInTime
 takes-end-in-time s ps b e calls n earlier later split =

@@ -14,7 +14,6 @@ use Rattle.region.specs.declared.frame.Frame.{Frame}
 use Rattle.region.specs.declared.record.Item.{Item}
 use Rattle.access.specs.declared.effect.Effect.{Effect}
 use Rattle.access.specs.declared.effect.Effect.the-variants.{Nothing, Grow, Push, Pop, Exchange, Clean}
-use Rattle.access.specs.declared.plan.Plan.{Plan}
 use Rattle.machine.specs.Begin.{frameIn, putRefusal, takeRefusal}
 use Rattle.machine.specs.Run.{Served, Turn, runRefusal, serve, turnsFrom}
 use Rattle.machine.specs.Turn.{turnPlan}

@@ -3,7 +3,6 @@
 use Prim.Native.Nat.{ℕ}
 use mathlib.Core.Path.{_≡_}
 use mathlib.Core.Bool.{true}
-use mathlib.Core.List.{List}
 use Rattle.region.specs.Answer.{unreadable}
 use Rattle.region.specs.declared.answer.Answer.the-variants.{Refused}
 use Rattle.readable.specs.Readable.{readable, shapeIn}
