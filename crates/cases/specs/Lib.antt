@@ -1,2 +1,3 @@
 -- Document 01's starred cases as theorems, computed from the definitions.
 pub mod Cases
+pub mod Computes
