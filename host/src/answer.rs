@@ -1,4 +1,4 @@
-//! What a turn answers, and what a run counts.
+//! What a turn answers, and its words.
 
 use crate::Refusal;
 
@@ -9,6 +9,8 @@ use crate::Refusal;
 ///
 /// assert_eq!(Answer::Took { key: 5, tag: 9 }.words(), [3, 5, 9]);
 /// assert_eq!(Answer::Refused(Refusal::Thread).words(), [5, 3, 0]);
+/// assert_eq!(Answer::from_words([4, 0, 0]), Some(Answer::Empty));
+/// assert_eq!(Answer::from_words([6, 0, 0]), None);
 /// ```
 #[derive(Clone, Copy, Debug, PartialEq, Eq, Hash)]
 pub enum Answer {
@@ -44,17 +46,21 @@ impl Answer {
         }
     }
 
+    /// The answer that a run writes as these words; none for words that no answer has.
+    pub fn from_words(words: [u32; 3]) -> Option<Answer> {
+        match words {
+            [0, 0, 0] => Some(Answer::Moved),
+            [1, 0, 0] => Some(Answer::Idle),
+            [2, 0, 0] => Some(Answer::Inserted),
+            [3, key, tag] => Some(Answer::Took { key, tag }),
+            [4, 0, 0] => Some(Answer::Empty),
+            [5, number, 0] => Refusal::from_number(number).map(Answer::Refused),
+            _ => None,
+        }
+    }
+
     /// Whether the turn made an access. An idle and a refused one made none.
     pub fn is_access(self) -> bool {
         !matches!(self, Answer::Idle | Answer::Refused(_))
     }
-}
-
-/// What a run served.
-#[derive(Clone, Copy, Debug, Default, PartialEq, Eq, Hash)]
-pub struct Served {
-    /// Turns served, idle and refused ones among them.
-    pub turns: u32,
-    /// Accesses that these turns made.
-    pub accesses: u32,
 }

@@ -1,8 +1,9 @@
 //! The library's functions as they are exported: plain numbers and byte slices in, a number out.
 //!
 //! A call may be given anything at all. It answers 0 for done or yes, and otherwise the number of
-//! the [`Refusal`](crate::Refusal) that applies first in the call's order; a refused call changes
-//! no byte. All unsafe code of the crate is in this file.
+//! the [`Refusal`](crate::Refusal) that applies first in the call's order; [`run`] answers its
+//! counts beside that number. A refused call changes no byte. All unsafe code of the crate is in
+//! this file.
 
 #![allow(unsafe_code)]
 
@@ -29,6 +30,16 @@ mod exported {
         ) -> u32;
 
         pub fn mound_take(region: *mut u8, region_len: usize, thread: u32) -> u32;
+
+        pub fn mound_run(
+            region: *mut u8,
+            region_len: usize,
+            schedule: *const u8,
+            schedule_len: usize,
+            limit: u32,
+            answers: *mut u8,
+            answers_len: usize,
+        ) -> u64;
 
         pub fn mound_check(region: *const u8, region_len: usize) -> u32;
     }
@@ -80,6 +91,32 @@ pub fn put(region: &mut [u8], thread: u32, key: u32, tag: u32) -> u32 {
 pub fn take(region: &mut [u8], thread: u32) -> u32 {
     // SAFETY: as in `put`.
     unsafe { exported::mound_take(region.as_mut_ptr(), region.len(), thread) }
+}
+
+/// Serves the turns of a schedule, two words each (thread, choice), in order until it ends or the
+/// accesses made equal the limit, and writes three words (code, key, tag) for each served turn: those
+/// of its [`Answer`](crate::Answer). Bytes past the last of these stay as they were.
+///
+/// Answers three numbers in one: bits 0 to 15 are the refusal or 0, bits 16 to 31 the turns served,
+/// bits 32 to 63 the accesses made; a refused call has served and made none.
+///
+/// Refusals, in order: 7 (not readable), 6 (schedule), 5 (length of the answer slice). A turn may be
+/// refused 3, 7 or 11; that is its answer, and the run goes on. Cost: that of [`check`], then for each
+/// turn at most one access and its answer's words, whatever the size of the region.
+pub fn run(region: &mut [u8], schedule: &[u8], limit: u32, answers: &mut [u8]) -> u64 {
+    // SAFETY: each pointer goes with the length of its own slice. The slices are lent for the call,
+    // region and answers exclusively, the schedule to be read; the library keeps no pointer.
+    unsafe {
+        exported::mound_run(
+            region.as_mut_ptr(),
+            region.len(),
+            schedule.as_ptr(),
+            schedule.len(),
+            limit,
+            answers.as_mut_ptr(),
+            answers.len(),
+        )
+    }
 }
 
 /// Tells whether a region is readable: its length is that of its first words and every field is

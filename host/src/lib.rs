@@ -6,7 +6,7 @@
 //! is refused says why by a [`Refusal`] and changes no byte.
 //!
 //! ```
-//! use mound::{Permission, Refusal, Region, Shape};
+//! use mound::{Answer, Permission, Refusal, Region, Shape, Turn};
 //!
 //! # fn main() -> Result<(), Refusal> {
 //! let shape = Shape { depth: 2, cells: 2, threads: 2, threshold: 1 };
@@ -14,8 +14,22 @@
 //! assert_eq!(bytes.len(), 348);
 //!
 //! // Thread 1 may put and take; thread 2 lists nothing, so it may do nothing.
-//! let region = Region::layout(&mut bytes, shape, &[Permission::PUT_AND_TAKE, Permission::NONE])?;
-//! assert_eq!(region.shape(), shape);
+//! let mut region =
+//!     Region::layout(&mut bytes, shape, &[Permission::PUT_AND_TAKE, Permission::NONE])?;
+//! assert_eq!(region.put(2, 5, 9), Err(Refusal::Permission));
+//!
+//! // A put is begun, and turns carry it out, one access to shared memory each.
+//! region.put(1, 5, 9)?;
+//! let run = region.run([Turn { thread: 1, choice: 0 }; 4], u32::MAX)?;
+//! assert!(run.answers().eq([Answer::Moved, Answer::Moved, Answer::Moved, Answer::Inserted]));
+//!
+//! // So is a take. Turns of any threads may come in any order; the limit is on accesses.
+//! region.take(1)?;
+//! let turns = [2, 1, 1, 1, 2, 1, 1].map(|thread| Turn { thread, choice: 0 });
+//! let run = region.run(&turns, 5)?;
+//! assert_eq!((run.served().turns, run.served().accesses), (7, 5));
+//! assert_eq!(run.answers().next(), Some(Answer::Idle));
+//! assert_eq!(run.answers().last(), Some(Answer::Took { key: 5, tag: 9 }));
 //!
 //! // The bytes are the whole queue. Whoever gets them next has them checked on the way in.
 //! bytes[0] = 13;
@@ -37,11 +51,13 @@ mod permission;
 pub mod plain;
 mod refusal;
 mod region;
+mod run;
 mod shape;
 mod words;
 
-pub use answer::{Answer, Served};
+pub use answer::Answer;
 pub use permission::Permission;
 pub use refusal::Refusal;
 pub use region::Region;
+pub use run::{Run, Served, Turn};
 pub use shape::Shape;

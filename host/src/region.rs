@@ -1,8 +1,9 @@
 //! A queue in lent bytes, by safe calls.
 
+use std::borrow::Borrow;
 use std::fmt;
 
-use crate::{calls, Permission, Refusal, Shape};
+use crate::{calls, Permission, Refusal, Run, Served, Shape, Turn};
 
 /// A queue in bytes that the host lends for as long as this value lives.
 ///
@@ -116,6 +117,83 @@ impl<'a> Region<'a> {
     /// - [`Refusal::Busy`] where the thread has begun an operation that is not answered.
     pub fn take(&mut self, thread: u32) -> Result<(), Refusal> {
         Refusal::result_of(calls::take(self.bytes, thread))
+    }
+
+    /// Serves turns in order until they end or the accesses made equal the limit; [`u32::MAX`] is no
+    /// limit. The turns may be a slice, an array or any iterator.
+    ///
+    /// A turn of a thread that has nothing begun answers idle. A turn may be refused by itself, with
+    /// no byte changed, and the run goes on: [`Refusal::Thread`] where there is no such thread,
+    /// [`Refusal::Unreadable`] where its step names what does not exist, which in a region that was
+    /// laid out no step does, [`Refusal::CounterSpent`] where its update meets a counter that cannot
+    /// grow.
+    ///
+    /// Cost: that of [`Region::check`], then for each turn at most one access and its answer, whatever
+    /// the size of the region. Memory for schedule and answers is allocated, 20 bytes a turn; see
+    /// [`Region::run_into`] for loops.
+    ///
+    /// ```
+    /// use mound::{Answer, Permission, Refusal, Region, Served, Shape, Turn};
+    ///
+    /// let shape = Shape { depth: 1, cells: 1, threads: 2, threshold: 1 };
+    /// let mut bytes = vec![0; shape.byte_len()?];
+    /// let mut region = Region::layout(&mut bytes, shape, &[Permission::TAKE; 2])?;
+    /// region.take(1)?;
+    ///
+    /// let turns = [2, 3, 1].map(|thread| Turn { thread, choice: 0 });
+    /// let run = region.run(&turns, u32::MAX)?;
+    /// let answers: Vec<Answer> = run.answers().collect();
+    /// assert_eq!(answers, [Answer::Idle, Answer::Refused(Refusal::Thread), Answer::Empty]);
+    /// assert_eq!(run.served(), Served { turns: 3, accesses: 1 });
+    /// # Ok::<(), Refusal>(())
+    /// ```
+    ///
+    /// # Errors
+    ///
+    /// [`Refusal::Schedule`], with no byte changed, for more than [`Turn::MOST`] turns. No iterator is
+    /// asked for more than one turn too many, so that an endless one is refused as well.
+    pub fn run(
+        &mut self,
+        turns: impl IntoIterator<Item: Borrow<Turn>>,
+        limit: u32,
+    ) -> Result<Run, Refusal> {
+        let mut run = Run::default();
+        self.run_into(&mut run, turns, limit)?;
+        Ok(run)
+    }
+
+    /// Serves turns like [`Region::run`], with answers and counts left in `run` in place of those of
+    /// an earlier one. Where the run is refused, it is left with no answers.
+    ///
+    /// Cost: that of [`Region::run`], but memory is allocated only for more turns than `run` has held
+    /// before.
+    ///
+    /// ```
+    /// use mound::{Answer, Permission, Refusal, Region, Run, Shape, Turn};
+    ///
+    /// let shape = Shape { depth: 8, cells: 128, threads: 1, threshold: 2 };
+    /// let mut bytes = vec![0; shape.byte_len()?];
+    /// let mut region = Region::layout(&mut bytes, shape, &[Permission::PUT_AND_TAKE])?;
+    /// let mut run = Run::default();
+    /// for key in 0..100 {
+    ///     region.put(1, key, 0)?;
+    ///     let turns = [Turn { thread: 1, choice: key }; 16];
+    ///     region.run_into(&mut run, &turns, u32::MAX)?;
+    ///     assert!(run.answers().any(|answer| answer == Answer::Inserted));
+    /// }
+    /// # Ok::<(), Refusal>(())
+    /// ```
+    ///
+    /// # Errors
+    ///
+    /// Those of [`Region::run`].
+    pub fn run_into(
+        &mut self,
+        run: &mut Run,
+        turns: impl IntoIterator<Item: Borrow<Turn>>,
+        limit: u32,
+    ) -> Result<Served, Refusal> {
+        run.serve(self.bytes, turns, limit)
     }
 
     /// Checks that the region is readable: its length is that of its first words, and every field

@@ -2,7 +2,7 @@
 use Prim.Native.Nat.{ℕ, _≤_, _<_}
 use native.Mathlib.Omega.{arith}
 use mathlib.Core.Path.{_≡_, refl, sym, ap, subst, _∙_}
-use mathlib.Core.Bool.{Bool, true, false, not}
+use mathlib.Core.Bool.{Bool, true, false, not, true≢false}
 use mathlib.Core.List.{List}
 use borrow.Author.Tests.{le-leb, lt-leb, eq-eqb, ne-eqb, not-true, not-false}
 use lib.Dec.{leb, eqb}
@@ -14,12 +14,13 @@ use Rattle.region.specs.Frame.{Within, frameOf}
 use Rattle.region.specs.Pick.{pick}
 use Rattle.region.specs.Place.{placeNumber}
 use Rattle.region.specs.Shape.{between}
-use Rattle.region.specs.Shared.{Shared, sharedIn, cellIn, setCellIn, threadIn, setThreadIn}
+use Rattle.region.specs.Shared.{Shared, loadEntry, sharedIn, cellIn, setCellIn, threadIn, setThreadIn}
 use Rattle.region.specs.Thread.{begunPut, begunTake, idleThread}
 use Rattle.region.specs.declared.answer.Answer.{Answer}
-use Rattle.region.specs.declared.answer.Answer.the-variants.{Refused}
+use Rattle.region.specs.declared.answer.Answer.the-variants.{Idle, Refused}
 use Rattle.region.specs.declared.frame.Frame.{Frame}
 use Rattle.region.specs.declared.place.Place.{Place}
+use Rattle.region.specs.declared.place.Place.the-variants.{Idle as AtRest}
 use Rattle.region.specs.declared.record.Cell.{Cell}
 use Rattle.region.specs.declared.record.Item.{Item}
 use Rattle.region.specs.declared.shape.Shape.{Shape}
@@ -27,46 +28,80 @@ use Rattle.region.specs.declared.thread.Thread.{Thread}
 use Rattle.region.proofs.Views.{length-setCellIn}
 use Rattle.access.specs.Effect.{effectBytes}
 use Rattle.access.specs.Plan.{plan, refused}
+use Rattle.access.specs.declared.effect.Effect.the-variants.{Nothing}
 use Rattle.access.specs.declared.plan.Plan.{Plan}
 use Rattle.readable.specs.Readable.{readable, shapeIn}
 use Rattle.readable.proofs.Laws.{readable-within}
 use Rattle.machine.specs.Begin.{PutBegun, TakeBegun, frameIn, isIdle, isItem, mayPut, mayTake, putBegun, putBusy, putBytes, putRefusal, takeBytes, takeRefusal}
-use Rattle.machine.specs.Turn.{Turned, TurnedOn, carriedOut, decide, decideAt, staysPut, turnAnswer, turnBytes, turnOnAnswer, turnOnBytes, turnPlan}
+use Rattle.machine.specs.Turn.{Carried, KeepAsked, Turned, TurnedOn, carriedOut, decide, decideAt, staysPut, turnAnswer, turnBytes, turnOnAnswer, turnOnBytes, turnPlan}
 
--- A turn.
-pub decided : (s : Shape) (m : Shared) (t : Thread) (c : ℕ) (r : Plan) (p : Place) → t .place ≡ p → r ≡ decideAt s m t c p
-    → r ≡ decide s m t c
-unfolding decide
-decided s m t c r p e h = subst (λ q. r ≡ decideAt s m t c q) (sym e) h
-
+-- Carrying a plan out: nothing, the effect and the record, or the record alone.
 module _ (f : Frame) (b : List ℕ) (t : ℕ) (p : Plan) (q : Bool) (eq : q ≡ staysPut (p .answer)) where
-  pub stayed : q ≡ true → b ≡ carriedOut f b t p
+  pub stayed : q ≡ true → Carried f b b t p (p .answer)
   unfolding carriedOut pick
-  stayed g = rw (← eq, g) refl
+  stayed g = record { answer = refl; bytes = rw (← eq, g) refl }
 
-  pub carried : q ≡ false → (b₁ b₂ : List ℕ) → b₁ ≡ effectBytes f b (p .effect) → b₂ ≡ setThreadIn f b₁ t (p .thread)
-      → b₂ ≡ carriedOut f b t p
-  unfolding carriedOut pick
-  carried g b₁ b₂ e₁ e₂ = rw (← eq, g) (e₂ ∙ ap (λ l. setThreadIn f l t (p .thread)) e₁)
+  module _ (g : q ≡ false) where
+    pub carried : (b₁ b₂ : List ℕ) → b₁ ≡ effectBytes f b (p .effect) → b₂ ≡ setThreadIn f b₁ t (p .thread)
+        → Carried f b b₂ t p (p .answer)
+    unfolding carriedOut pick
+    carried b₁ b₂ e₁ e₂ =
+        record { answer = refl; bytes = rw (← eq, g) (e₂ ∙ ap (λ l. setThreadIn f l t (p .thread)) e₁) }
 
-module _ (f : Frame) (b : List ℕ) (t c : ℕ) (q : Bool) (eq : q ≡ between 1 t (f .shape .threads)) where
-  unplanned : not q ≡ true → refused (idleThread 0) badThread ≡ turnPlan f b t c
+    pub kept : (l : ℕ) (b′ : List ℕ) → KeepAsked f l p → b′ ≡ setThreadIn f b t (p .thread) → Carried f b b′ t p (p .answer)
+    unfolding effectBytes
+    kept l b′ h e = carried b b′ (ap (effectBytes f b) (sym (h .still))) e
+
+-- A turn: refused for want of a thread, idle, or the plan that the thread's place decides is carried out.
+module _ (f : Frame) (b : List ℕ) (t c : ℕ) where
+  -- a thread that does not exist stands nowhere
+  nobody : between 1 t (f .shape .threads) ≡ false → threadIn f b t ≡ idleThread 0
+  unfolding threadIn loadEntry pick
+  nobody e = rw e refl
+
+  exists : (q : Bool) → q ≡ between 1 t (f .shape .threads) → eqb (placeNumber (threadIn f b t .place)) 0 ≡ false
+      → between 1 t (f .shape .threads) ≡ true
+  exists true eq h = sym eq
+  exists false eq h = absurd (true≢false (ap (λ x. eqb (placeNumber (x .place)) 0) (sym (nobody (sym eq))) ∙ h))
+
+  planned : between 1 t (f .shape .threads) ≡ true → decide (f .shape) (sharedIn f b) (threadIn f b t) c ≡ turnPlan f b t c
   unfolding turnPlan pick
-  unplanned n = rw (← eq, not-true q n) refl
+  planned e = rw e refl
 
-  pub no-turn : not q ≡ true → Turned f b b t c (Refused badThread)
-  unfolding turnAnswer turnBytes carriedOut refused plan pick
-  no-turn n =
-      record { answer = ap (λ y. y .answer) (unplanned n); bytes = ap (carriedOut f b t) (unplanned n) }
+  module _ (here : Thread) (eh : here ≡ threadIn f b t) (z : Place) (ez : here .place ≡ z) where
+    served : between 1 t (f .shape .threads) ≡ true → (b′ : List ℕ) (x : Thread) (p : Plan) (r : Answer)
+        → p ≡ decideAt (f .shape) (sharedIn f b) x c z → x ≡ threadIn f b t → Carried f b b′ t p r → Turned f b b′ t c r
+    unfolding turnAnswer turnBytes decide
+    served e b′ x p r ep ex k =
+        let ey : p ≡ turnPlan f b t c =
+        ep
+        ∙ ap (λ y. decideAt (f .shape) (sharedIn f b) y c z) ex
+        ∙ ap (decideAt (f .shape) (sharedIn f b) (threadIn f b t) c) (sym ez ∙ ap (λ y. y .place) eh)
+        ∙ planned e in
+        record { answer = k .answer ∙ ap (λ y. y .answer) ey; bytes = k .bytes ∙ ap (carriedOut f b t) ey }
 
-  module _ (gq : not q ≡ false) (x : Thread) (ex : x ≡ threadIn f b t) (p : Plan) (ep : p ≡ decide (f .shape) (sharedIn f b) x c) where
-    planned : p ≡ turnPlan f b t c
+    pub turned : eqb (placeNumber z) 0 ≡ false → (b′ : List ℕ) (x : Thread) (p : Plan) (r : Answer)
+        → p ≡ decideAt (f .shape) (sharedIn f b) x c z → x ≡ threadIn f b t → Carried f b b′ t p r → Turned f b b′ t c r
+    turned n =
+        served
+        (exists (between 1 t (f .shape .threads)) refl
+        (ap (λ y. eqb (placeNumber (y .place)) 0) (sym eh) ∙ ap (λ y. eqb (placeNumber y) 0) ez ∙ n))
+
+  module _ (q : Bool) (eq : q ≡ between 1 t (f .shape .threads)) where
+    unplanned : not q ≡ true → refused (idleThread 0) badThread ≡ turnPlan f b t c
     unfolding turnPlan pick
-    planned = rw (← eq, not-false q gq) (ep ∙ ap (λ y. decide (f .shape) (sharedIn f b) y c) ex)
+    unplanned n = rw (← eq, not-true q n) refl
 
-    pub turned : (b′ : List ℕ) → b′ ≡ carriedOut f b t p → Turned f b b′ t c (p .answer)
-    unfolding turnAnswer turnBytes
-    turned b′ e = record { answer = ap (λ y. y .answer) planned; bytes = e ∙ ap (carriedOut f b t) planned }
+    pub no-turn : not q ≡ true → Turned f b b t c (Refused badThread)
+    unfolding turnAnswer turnBytes carriedOut refused plan pick
+    no-turn n =
+        record { answer = ap (λ y. y .answer) (unplanned n); bytes = ap (carriedOut f b t) (unplanned n) }
+
+    pub rested : not q ≡ false → (here : Thread) → here ≡ threadIn f b t → here .place ≡ AtRest → Turned f b b t c Idle
+    unfolding carriedOut plan pick
+    rested n here eh ez =
+        served here eh AtRest ez (sym eq ∙ not-false q n) b here (plan Nothing here Idle) Idle refl eh
+        (record { answer = refl; bytes = refl })
 
 -- What a beginning asks of a thread and an item.
 module _ (i : Item) where

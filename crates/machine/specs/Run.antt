@@ -1,5 +1,4 @@
--- A run (document 01): "Turns are served in order until the list ends or accesses made equal the limit." The code of the run comes with
--- the first release; the definition stands here for the theory.
+-- A run (document 01): "Turns are served in order until the list ends or accesses made equal the limit." Its code is the crate `run`.
 use Prim.Native.Nat.{ℕ, zero, suc, _+_, _*_, _/_, _%_}
 use mathlib.Core.Bool.{_&&_}
 use mathlib.Core.List.{List, [], _∷_}
@@ -20,11 +19,13 @@ pub record Turn : Type 0 where
   pub thread : ℕ
   pub choice : ℕ
 
--- the n turns of a schedule from turn k on
+-- turn k of a schedule, and its n turns from turn k on
+abbrev pub turnAt : List ℕ → ℕ → Turn
+turnAt schedule k = record { thread = word schedule (2 * k); choice = word schedule (2 * k + 1) }
+
 unfoldable pub turnsFrom : List ℕ → ℕ → ℕ → List Turn
 turnsFrom schedule k zero = []
-turnsFrom schedule k (suc n) =
-    record { thread = word schedule (2 * k); choice = word schedule (2 * k + 1) } ∷ turnsFrom schedule (suc k) n
+turnsFrom schedule k (suc n) = turnAt schedule k ∷ turnsFrom schedule (suc k) n
 
 -- "Moved, inserted, took and empty each count one access."
 abbrev pub accessesOf : Answer → ℕ
@@ -41,6 +42,9 @@ pub record Served : Type 0 where
   pub answers : List ℕ
   pub turns : ℕ
   pub accesses : ℕ
+
+abbrev pub soFar : List ℕ → List ℕ → ℕ → ℕ → Served
+soFar b a turns accesses = record { region = b; answers = a; turns = turns; accesses = accesses }
 
 -- one turn more; its answer goes behind those of the turns before
 unfoldable pub serve : Frame → Turn → Served → Served
@@ -74,6 +78,5 @@ unfolding turnsFrom serveAll runRefusal
 runResult b schedule limit answers =
     pick
     (eqb (runRefusal b schedule (length answers)) done)
-    (serveAll (frameIn b) limit (turnsFrom schedule 0 (length schedule / 8))
-    (record { region = b; answers = answers; turns = 0; accesses = 0 }))
-    (record { region = b; answers = answers; turns = 0; accesses = 0 })
+    (serveAll (frameIn b) limit (turnsFrom schedule 0 (length schedule / 8)) (soFar b answers 0 0))
+    (soFar b answers 0 0)

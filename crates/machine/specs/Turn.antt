@@ -4,7 +4,7 @@ use mathlib.Core.Path.{_≡_}
 use mathlib.Core.Bool.{Bool, true, false}
 use mathlib.Core.List.{List}
 use Rattle.region.specs.Answer.{badThread, unreadable}
-use Rattle.region.specs.Frame.{frameOf}
+use Rattle.region.specs.Frame.{Within, frameOf}
 use Rattle.region.specs.Pick.{pick}
 use Rattle.region.specs.Shape.{between}
 use Rattle.region.specs.Shared.{Shared, sharedIn, threadIn, setThreadIn}
@@ -74,6 +74,16 @@ turnAnswer f b t c = turnPlan f b t c .answer
 -- the region afterwards: the effect is carried out and the thread's record stored, or no byte changes
 unfoldable pub carriedOut : Frame → List ℕ → ℕ → Plan → List ℕ
 carriedOut f b t p = pick (staysPut (p .answer)) b (setThreadIn f (effectBytes f b (p .effect)) t (p .thread))
+
+-- what carrying a plan out answers and leaves
+pub record Carried (f : Frame) (b b′ : List ℕ) (t : ℕ) (p : Plan) (r : Answer) : Type 0 where
+  pub answer : r ≡ p .answer
+  pub bytes : b′ ≡ carriedOut f b t p
+
+-- what storing the record alone asks, within l bytes: the plan leaves shared memory as it is
+pub record KeepAsked (f : Frame) (l : ℕ) (p : Plan) : Type 0 where
+  pub within : Within f l
+  pub still : p .effect ≡ Nothing
 
 unfoldable pub turnBytes : Frame → List ℕ → ℕ → ℕ → List ℕ
 unfolding turnPlan carriedOut

@@ -1,44 +1,30 @@
-// One turn: the thread's record is loaded, its place decides a plan, and the plan is carried out.
+// One turn: the thread's place decides a plan, and the plan is carried out.
 ghost use mathlib.Core.Path.{_≡_};
 ghost use lib.ListN.{length};
 ghost use Rattle.region.specs.Frame.{Within};
-ghost use Rattle.region.specs.Shared.{sharedIn};
-ghost use Rattle.machine.specs.Turn.{Turned, TurnedOn, carriedOut, decide, staysPut};
-use access::Effect;
+ghost use Rattle.machine.specs.Turn.{Carried, KeepAsked, Turned, TurnedOn, staysPut};
 use access::Plan;
+use extract::read_root;
+use extract::remove_head;
+use insert::grow_depth;
+use insert::insert_at_root;
+use insert::insert_below;
+use insert::read_ancestor;
+use insert::read_depth;
+use insert::read_leaf;
+use insert::read_parent;
+use insert::read_target;
+use moundify::mend_clean;
+use moundify::mend_read_depth;
+use moundify::mend_read_left;
+use moundify::mend_read_node;
+use moundify::mend_read_right;
+use moundify::mend_swap;
 use region::Answer;
 use region::BAD_THREAD;
 use region::Frame;
 use region::Place;
-use region::Thread;
 use region::UNREADABLE;
-
-// What the thread's place decides.
-fn decide(f: Frame, b: &[u8], t: Thread, choice: u32) -> Plan
-    requires { ⌜ Within f (length (now b)) ⌝ }
-    ensures { λ r. ⌜ r ≡ decide (f .shape) (sharedIn f (now (b .entry))) t choice ⌝ }
-{
-    let place = t.place;
-    match place {
-        Place::Idle => access::plan_of(Effect::Nothing, t, Answer::Idle),
-        Place::ReadDepth => insert::read_depth(f, b, t),
-        Place::ReadLeaf => insert::read_leaf(f, b, t, choice),
-        Place::ReadAncestor => insert::read_ancestor(f, b, t),
-        Place::GrowDepth => insert::grow_depth(f, b, t),
-        Place::ReadTarget => insert::read_target(f, b, t),
-        Place::InsertAtRoot => insert::insert_at_root(f, b, t),
-        Place::ReadParent => insert::read_parent(f, b, t),
-        Place::InsertBelow => insert::insert_below(f, b, t),
-        Place::ReadRoot => extract::read_root(f, b, t),
-        Place::RemoveHead => extract::remove_head(f, b, t),
-        Place::MendReadNode(w) => moundify::mend_read_node(f, b, t, w),
-        Place::MendReadDepth(w) => moundify::mend_read_depth(f, b, t, w),
-        Place::MendReadLeft(w) => moundify::mend_read_left(f, b, t, w),
-        Place::MendReadRight(w) => moundify::mend_read_right(f, b, t, w),
-        Place::MendSwap(w) => moundify::mend_swap(f, b, t, w),
-        Place::MendClean(w) => moundify::mend_clean(f, b, t, w),
-    }
-}
 
 // Whether a turn with this answer leaves the region alone.
 fn stays_put(answer: Answer) -> bool
@@ -54,34 +40,68 @@ fn stays_put(answer: Answer) -> bool
     }
 }
 
-// Carries a plan out: its effect, and the thread's record.
-fn carry_out(f: Frame, b: &mut [u8], thread: u32, plan: Plan)
+// Carries a plan out, its effect and the thread's record; its answer.
+fn carry_out(f: Frame, b: &mut [u8], n: u32, plan: Plan) -> Answer
     requires { ⌜ Within f (length (now b)) ⌝ }
-    ensures { λ r. ⌜ now (b .exit) ≡ carriedOut f (now (b .entry)) thread plan ⌝ }
+    ensures { λ r. ⌜ Carried f (now (b .entry)) (now (b .exit)) n plan r ⌝ }
 {
     let answer = plan.answer;
     if stays_put(answer) {
-        return;
+        return answer;
     }
     let effect = plan.effect;
     let record = plan.thread;
     access::carry_out(f, b, effect);
-    f.store_thread(b, thread, record);
+    f.store_thread(b, n, record);
+    answer
 }
 
-// A turn of a thread, with its choice of a leaf. Refused 3, 7, 11 in that order; a refused or idle turn changes no byte.
-pub fn turn(f: Frame, b: &mut [u8], thread: u32, choice: u32) -> Answer
+// The same for a plan without effect: that of a place that only reads.
+fn keep(f: Frame, b: &mut [u8], n: u32, plan: Plan) -> Answer
+    requires { ⌜ KeepAsked f (length (now b)) plan ⌝ }
+    ensures { λ r. ⌜ Carried f (now (b .entry)) (now (b .exit)) n plan r ⌝ }
+{
+    let answer = plan.answer;
+    if stays_put(answer) {
+        return answer;
+    }
+    let record = plan.thread;
+    f.store_thread(b, n, record);
+    answer
+}
+
+// A turn of thread n, with its choice of a leaf. Refused 3, 7, 11 in that order; a refused or idle turn changes no byte. Each
+// arm loads the record for itself and ends by itself: so the compiled code of a place reads and writes the fields that it
+// needs and no others.
+pub fn turn(f: Frame, b: &mut [u8], n: u32, choice: u32) -> Answer
     requires { ⌜ Within f (length (now b)) ⌝ }
-    ensures { λ r. ⌜ Turned f (now (b .entry)) (now (b .exit)) thread choice r ⌝ }
+    ensures { λ r. ⌜ Turned f (now (b .entry)) (now (b .exit)) n choice r ⌝ }
 {
     let shape = f.shape;
-    if !region::is_between(1, thread, shape.threads) {
+    if !region::is_between(1, n, shape.threads) {
         return Answer::Refused(BAD_THREAD);
     }
-    let t = f.load_thread(b, thread);
-    let plan = decide(f, b, t, choice);
-    carry_out(f, b, thread, plan);
-    plan.answer
+    let here = f.load_thread(b, n);
+    let place = here.place;
+    match place {
+        Place::Idle => Answer::Idle,
+        Place::ReadDepth => keep(f, b, n, read_depth(f, b, f.load_thread(b, n))),
+        Place::ReadLeaf => keep(f, b, n, read_leaf(f, b, f.load_thread(b, n), choice)),
+        Place::ReadAncestor => keep(f, b, n, read_ancestor(f, b, f.load_thread(b, n))),
+        Place::GrowDepth => carry_out(f, b, n, grow_depth(f, b, f.load_thread(b, n))),
+        Place::ReadTarget => keep(f, b, n, read_target(f, b, f.load_thread(b, n))),
+        Place::InsertAtRoot => carry_out(f, b, n, insert_at_root(f, b, f.load_thread(b, n))),
+        Place::ReadParent => keep(f, b, n, read_parent(f, b, f.load_thread(b, n))),
+        Place::InsertBelow => carry_out(f, b, n, insert_below(f, b, f.load_thread(b, n))),
+        Place::ReadRoot => keep(f, b, n, read_root(f, b, f.load_thread(b, n))),
+        Place::RemoveHead => carry_out(f, b, n, remove_head(f, b, f.load_thread(b, n))),
+        Place::MendReadNode(w) => keep(f, b, n, mend_read_node(f, b, f.load_thread(b, n), w)),
+        Place::MendReadDepth(w) => keep(f, b, n, mend_read_depth(f, b, f.load_thread(b, n), w)),
+        Place::MendReadLeft(w) => keep(f, b, n, mend_read_left(f, b, f.load_thread(b, n), w)),
+        Place::MendReadRight(w) => keep(f, b, n, mend_read_right(f, b, f.load_thread(b, n), w)),
+        Place::MendSwap(w) => carry_out(f, b, n, mend_swap(f, b, f.load_thread(b, n), w)),
+        Place::MendClean(w) => carry_out(f, b, n, mend_clean(f, b, f.load_thread(b, n), w)),
+    }
 }
 
 // A turn by itself on a whole region: refused 7 where the region is not readable, then as `turn`.

@@ -1,10 +1,11 @@
 // The calls of the queue for a host in another language: numbers and byte slices, a slice as pointer and length. 0 is done
-// or yes, any other answer is the refusal's number. No call requires anything of its caller; what it cannot do it refuses.
+// or yes, any other answer is the refusal's number; a run answers its counts beside it. No call requires anything of its
+// caller; what it cannot do it refuses.
 ghost use mathlib.Core.Path.{_≡_};
 ghost use Rattle.layout.specs.Layout.{LaidOut};
 ghost use Rattle.readable.specs.Readable.{checkAnswer};
 ghost use Rattle.machine.specs.Begin.{PutBegun, TakeBegun};
-ghost use Rattle.queue.specs.Calls.{itemOf, shapeOf};
+ghost use Rattle.queue.specs.Calls.{PackAsked, RunDone, itemOf, packed, shapeOf};
 use region::Item;
 use region::Shape;
 
@@ -46,6 +47,31 @@ pub extern "C" fn mound_take(region: &mut [u8], thread: u32) -> u32
     ensures { λ r. ⌜ TakeBegun (now (region .entry)) (now (region .exit)) thread r ⌝ }
 {
     machine::begin_take(region, thread)
+}
+
+// A run's three numbers in one.
+fn pack(refusal: u32, turns: u32, accesses: u32) -> u64
+    requires { ⌜ PackAsked refusal turns accesses ⌝ }
+    ensures { λ r. ⌜ r ≡ packed refusal turns accesses ⌝ }
+{
+    refusal as u64 + 65536 * (turns as u64) + 4294967296 * (accesses as u64)
+}
+
+// Runs a schedule, turns of two words (thread, choice), up to a limit on accesses; each served turn's answer is three words
+// (code, key, tag) of answers. Bits 0 to 15 are the refusal or 0, bits 16 to 31 the turns served, bits 32 to 63 the accesses
+// made. Refusals 7, 6, 5.
+#[no_mangle]
+pub extern "C" fn mound_run(
+    region: &mut [u8],
+    schedule: &[u8],
+    limit: u32,
+    answers: &mut [u8],
+) -> u64
+    ensures { λ r. ⌜ RunDone (now (region .entry)) (now (region .exit)) (now (schedule .entry)) limit (now (answers .entry)) (now (answers .exit)) r ⌝ }
+{
+    let outcome = run::run(region, schedule, limit, answers);
+    let counts = outcome.counts;
+    pack(outcome.refusal, counts.turns, counts.accesses)
 }
 
 // Whether the region is readable: 0 for yes, else 7.

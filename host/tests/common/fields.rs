@@ -124,6 +124,12 @@ impl Words {
         region
     }
 
+    /// The words of a region's bytes.
+    pub fn of(bytes: &[u8]) -> Words {
+        let (words, _) = bytes.as_chunks();
+        Words { words: words.iter().map(|&word| u32::from_le_bytes(word)).collect() }
+    }
+
     pub fn bytes(&self) -> Vec<u8> {
         self.words.iter().flat_map(|word| word.to_le_bytes()).collect()
     }

@@ -3,4 +3,5 @@
 
 pub mod beginnings;
 pub mod fields;
+pub mod queue;
 pub mod random;

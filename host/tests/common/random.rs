@@ -65,4 +65,15 @@ impl Random {
             threshold: self.among_or_extreme(1..=16),
         }
     }
+
+    /// A shape whose operations meet often: at most seven levels, few tries, so many threads.
+    pub fn crowded_shape(&mut self, threads: RangeInclusive<u32>) -> Shape {
+        let depth = self.among(1..=7);
+        Shape {
+            depth,
+            cells: self.among_or_extreme(1..=1 << (depth - 1)),
+            threads: self.among(threads),
+            threshold: self.among(1..=4),
+        }
+    }
 }

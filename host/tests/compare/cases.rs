@@ -1,27 +1,186 @@
-//! The cases of document 01 that layout decides.
+//! The cases of document 01, from A to M.
 
-use mound::Shape;
+use mound::Answer::{self, Empty, Idle, Inserted, Moved, Took};
+use mound::{Served, Shape};
 
-use crate::both;
+use crate::both::{self, Ran};
+use crate::fields::{place, FIRST_FREE_CELL, PRESENT_DEPTH};
+use crate::queue::{Queue, SMALL};
 use crate::random::Random;
+use crate::runs::schedule;
 
-const SHAPE: Shape = Shape { depth: 2, cells: 2, threads: 2, threshold: 1 };
+const TOOK_5: Answer = Took { key: 5, tag: 0 };
 
-/// Lays a slice of that length out, all permissions 3.
+/// A queue of which the library's calls are made, each beside the plain implementation's.
+struct Case {
+    queue: Queue,
+    random: Random,
+}
+
+impl Case {
+    /// An empty queue.
+    fn laid_out(shape: Shape, permissions: &[u8]) -> Case {
+        let mut random = Random::new(1);
+        let mut bytes = random.bytes(shape.byte_len().expect("a shape in range"));
+        assert_eq!(both::layout(&mut random, &mut bytes, shape, permissions), 0);
+        Case { queue: Queue { bytes }, random }
+    }
+
+    /// An empty queue of the cases' shape.
+    fn fresh() -> Case {
+        Case::laid_out(SMALL, &[3, 3])
+    }
+
+    /// One that holds key 5 at its root.
+    fn with_root_5() -> Case {
+        let mut case = Case::fresh();
+        assert_eq!(case.put(1, 5), 0);
+        assert_eq!(case.turns(&[1; 4]), [Moved, Moved, Moved, Inserted]);
+        case
+    }
+
+    /// Begins a put with tag 0.
+    fn put(&mut self, thread: u32, key: u32) -> u32 {
+        both::put(&mut self.random, &mut self.queue.bytes, thread, key, 0)
+    }
+
+    fn take(&mut self, thread: u32) -> u32 {
+        both::take(&mut self.random, &mut self.queue.bytes, thread)
+    }
+
+    fn run(&mut self, turns: &[(u32, u32)], limit: u32) -> Ran {
+        let room = 12 * turns.len();
+        both::run(&mut self.random, &mut self.queue.bytes, &schedule(turns), limit, room)
+    }
+
+    /// Runs a turn of each of these threads, with choice 0.
+    fn turns(&mut self, threads: &[u32]) -> Vec<Answer> {
+        let turns: Vec<(u32, u32)> = threads.iter().map(|&thread| (thread, 0)).collect();
+        self.run(&turns, u32::MAX).answers
+    }
+}
+
+/// Lays out a slice of that length, permissions 3.
 fn layout(length: usize, shape: Shape) -> u32 {
-    both::layout(&mut Random::new(1), length, shape, &[3, 3])
+    both::layout(&mut Random::new(1), &mut vec![0xa5; length], shape, &[3, 3])
 }
 
 #[test]
 fn case_a_needs_348_bytes() {
-    assert_eq!(layout(348, SHAPE), 0);
-    assert_eq!(layout(344, SHAPE), 2);
+    assert_eq!(layout(348, SMALL), 0);
+    assert_eq!(layout(344, SMALL), 2);
 }
 
 #[test]
 fn case_b_has_at_most_two_cells_at_depth_2_and_no_depth_13() {
-    assert_eq!(layout(348, Shape { cells: 2, ..SHAPE }), 0);
-    assert_eq!(layout(348, Shape { cells: 3, ..SHAPE }), 1);
-    assert_eq!(layout(360, Shape { cells: 3, ..SHAPE }), 1);
-    assert_eq!(layout(348, Shape { depth: 13, ..SHAPE }), 1);
+    assert_eq!(layout(348, Shape { cells: 2, ..SMALL }), 0);
+    assert_eq!(layout(348, Shape { cells: 3, ..SMALL }), 1);
+    assert_eq!(layout(360, Shape { cells: 3, ..SMALL }), 1);
+    assert_eq!(layout(348, Shape { depth: 13, ..SMALL }), 1);
+}
+
+#[test]
+fn case_c_the_greatest_key() {
+    assert_eq!(Case::fresh().put(1, 4_294_967_294), 0);
+    assert_eq!(Case::fresh().put(1, 4_294_967_295), 4);
+}
+
+#[test]
+fn case_d_permission_0() {
+    let mut case = Case::laid_out(SMALL, &[0, 3]);
+    let before = case.queue.clone();
+    assert_eq!(case.put(1, 5), 8);
+    assert_eq!(case.take(1), 8);
+    assert_eq!(case.turns(&[1]), [Idle]);
+    assert!(case.queue == before);
+}
+
+#[test]
+fn cases_e_f_and_g_a_put_and_two_takes() {
+    let mut case = Case::fresh();
+    assert_eq!(case.put(1, 5), 0);
+    assert_eq!(case.turns(&[1; 4]), [Moved, Moved, Moved, Inserted]);
+    assert_eq!(case.queue.node(1), [1, 0, 1]);
+    assert_eq!(case.queue.cell(1), [5, 0, 0]);
+    assert_eq!(case.queue.word(FIRST_FREE_CELL), 2);
+
+    assert_eq!(case.take(1), 0);
+    assert_eq!(case.turns(&[1; 5]), [Moved, Moved, Moved, Moved, TOOK_5]);
+    // An update each by I6, E2 and M6, and the cell is as it was laid out.
+    assert_eq!(case.queue.node(1), [0, 0, 3]);
+    case.queue.set_words(case.queue.node_at(1), [0, 0, 0]);
+    assert!(case.queue == Case::fresh().queue);
+
+    assert_eq!(case.take(1), 0);
+    assert_eq!(case.turns(&[1]), [Empty]);
+    assert!(case.queue == Case::fresh().queue);
+}
+
+#[test]
+fn case_h_a_put_that_grows_the_tree() {
+    for choice in [0, 1, u32::MAX] {
+        let mut case = Case::with_root_5();
+        assert_eq!(case.queue.word(PRESENT_DEPTH), 1);
+        assert_eq!(case.put(1, 7), 0);
+        let answers = case.run(&[(1, choice); 9], u32::MAX).answers;
+        assert_eq!(answers[..8], [Moved; 8]);
+        assert_eq!(answers[8], Inserted);
+        assert_eq!(case.queue.word(PRESENT_DEPTH), 2);
+        assert_eq!(case.queue.node(2 + choice % 2), [2, 0, 1]);
+    }
+}
+
+#[test]
+fn case_i_a_put_crosses_a_take() {
+    let mut case = Case::with_root_5();
+    assert_eq!([case.take(1), case.put(2, 3)], [0, 0]);
+    let mut whole = Case { queue: case.queue.clone(), random: Random::new(2) };
+    assert_eq!(case.turns(&[1, 2, 2, 2, 2]), [Moved, Moved, Moved, Moved, Inserted]);
+    assert_eq!(case.queue.place(1), place::E2);
+    assert_eq!(case.turns(&[1]), [Moved]);
+    assert_eq!(case.queue.place(1), place::E1);
+    let took_3 = Took { key: 3, tag: 0 };
+    assert_eq!(case.turns(&[1; 5]), [Moved, Moved, Moved, Moved, took_3]);
+    assert_eq!(case.queue.items(), [(5, 0)]);
+
+    assert_eq!(whole.turns(&[1, 2, 2, 2, 2, 1, 1, 1, 1, 1, 1]).last(), Some(&took_3));
+    assert!(whole.queue == case.queue);
+}
+
+#[test]
+fn case_j_the_later_take_answers_first() {
+    let mut case = Case::with_root_5();
+    assert_eq!([case.take(1), case.take(2)], [0, 0]);
+    let answers = [Moved, Moved, Moved, Moved, Moved, Moved, Empty, Moved, TOOK_5];
+    assert_eq!(case.turns(&[1, 1, 2, 2, 2, 2, 2, 1, 1]), answers);
+}
+
+#[test]
+fn case_k_a_cell_is_free_again_at_e2() {
+    let mut case = Case::laid_out(Shape { depth: 1, cells: 1, ..SMALL }, &[3, 3]);
+    assert_eq!([case.put(1, 5), case.put(2, 6)], [0, 10]);
+    assert_eq!(case.turns(&[1; 4]).last(), Some(&Inserted));
+    assert_eq!([case.put(2, 6), case.take(1)], [10, 0]);
+    assert_eq!(case.turns(&[1]), [Moved]);
+    assert_eq!(case.put(2, 6), 10);
+    assert_eq!(case.turns(&[1]), [Moved]);
+    assert_eq!(case.put(2, 6), 0);
+    assert_eq!(case.turns(&[1; 3]), [Moved, Moved, TOOK_5]);
+}
+
+#[test]
+fn case_l_a_busy_thread() {
+    let mut case = Case::fresh();
+    assert_eq!([case.put(1, 5), case.put(1, 6)], [0, 9]);
+    assert_eq!([case.take(1), case.take(2)], [9, 0]);
+}
+
+#[test]
+fn case_m_a_limit_of_0() {
+    let mut case = Case::with_root_5();
+    assert_eq!(case.take(1), 0);
+    let before = case.queue.clone();
+    let none = Ran { result: Ok(Served { turns: 0, accesses: 0 }), answers: vec![] };
+    assert_eq!(case.run(&[(1, 0)], 0), none);
+    assert!(case.queue == before);
 }

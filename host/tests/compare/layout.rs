@@ -9,6 +9,12 @@ use crate::random::Random;
 const NUMBERS: [u32; 17] =
     [0, 1, 2, 12, 13, 16, 17, 31, 32, 33, 64, 65, 2048, 2049, 1 << 31, u32::MAX - 1, u32::MAX];
 
+/// Lays out random bytes of that length.
+fn lay_out(random: &mut Random, length: usize, shape: Shape, permissions: &[u8]) -> u32 {
+    let mut region = random.bytes(length);
+    both::layout(random, &mut region, shape, permissions)
+}
+
 fn length_of(shape: Shape) -> usize {
     shape.byte_len().expect("a shape in range")
 }
@@ -44,7 +50,7 @@ fn all_small_shapes_and_those_just_out_of_range() {
                     let shape = Shape { depth, cells, threads, threshold };
                     let permissions = random.permissions(shape);
                     let length = wrapped_length_of(shape);
-                    let number = both::layout(random, length, shape, &permissions);
+                    let number = lay_out(random, length, shape, &permissions);
                     assert_eq!(number, u32::from(!shape.is_in_range()), "{shape:?}");
                 }
             }
@@ -58,11 +64,8 @@ fn random_shapes_are_laid_out_and_readable() {
     let shapes: Vec<Shape> = (0..4000).map(|_| random.shape(12)).collect();
     for shape in shapes.into_iter().chain([Shape::LARGEST]) {
         let permissions = random.permissions(shape);
-        assert_eq!(both::layout(random, length_of(shape), shape, &permissions), 0);
-
-        let Shape { depth, cells, threads, threshold } = shape;
         let mut region = random.bytes(length_of(shape));
-        calls::layout(&mut region, depth, cells, threads, threshold, &permissions);
+        assert_eq!(both::layout(random, &mut region, shape, &permissions), 0);
         assert!(both::is_readable(&region), "{shape:?}");
     }
 }
@@ -76,8 +79,8 @@ fn numbers_out_of_range() {
                 let threshold = random.one_of(&NUMBERS);
                 let shape = Shape { depth, cells, threads, threshold };
                 let permissions = vec![3; threads.min(100) as usize];
-                both::layout(random, wrapped_length_of(shape), shape, &permissions);
-                both::layout(random, 0, shape, &permissions);
+                lay_out(random, wrapped_length_of(shape), shape, &permissions);
+                lay_out(random, 0, shape, &permissions);
             }
         }
     }
@@ -99,7 +102,7 @@ fn one_number_out_of_range() {
             for (shape, in_range) in changed {
                 let permissions = vec![0; shape.threads.min(70) as usize];
                 let length = wrapped_length_of(shape);
-                let number = both::layout(random, length, shape, &permissions);
+                let number = lay_out(random, length, shape, &permissions);
                 assert_eq!(number, u32::from(!in_range), "{shape:?}");
             }
         }
@@ -122,7 +125,7 @@ fn permission_lists_that_are_not_one_byte_of_0_to_3_a_thread() {
         for list in refused {
             // The list is looked at before the length.
             for length in [length_of(shape), length_of(shape) - 4, 0] {
-                assert_eq!(both::layout(random, length, shape, &list), 1);
+                assert_eq!(lay_out(random, length, shape, &list), 1);
             }
         }
     }
@@ -136,7 +139,7 @@ fn every_permission_byte_at_every_thread() {
         for permission in 0..=255 {
             let mut list = [1, 2, 3];
             list[thread] = permission;
-            let number = both::layout(random, length_of(shape), shape, &list);
+            let number = lay_out(random, length_of(shape), shape, &list);
             assert_eq!(number, u32::from(permission > 3));
         }
     }
@@ -151,7 +154,7 @@ fn slices_of_another_length() {
         let exact = length_of(shape);
         let around = (exact - 9..=exact + 9).filter(|&length| length != exact);
         for length in around.chain([0, 1, 4, 24, exact - 132, exact + 132, 2 * exact]) {
-            assert_eq!(both::layout(random, length, shape, &permissions), 2);
+            assert_eq!(lay_out(random, length, shape, &permissions), 2);
         }
     }
 }

@@ -3,14 +3,19 @@
 
 #[path = "../common/mod.rs"]
 mod common;
-use common::{fields, random};
+use common::{fields, queue, random};
 
+mod any_call;
 mod both;
+mod tally;
 
+mod any_region;
 mod beginnings;
 mod cases;
 mod damaged;
 mod dependent;
+mod histories;
 mod layout;
 mod length;
 mod readable;
+mod runs;

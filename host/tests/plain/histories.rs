@@ -2,7 +2,7 @@
 
 use std::ops::RangeInclusive;
 
-use mound::{Answer, Refusal, Shape};
+use mound::{Answer, Refusal};
 
 use crate::fields::{PERMISSION, PRESENT_DEPTH};
 use crate::ledger::{Ledger, Order};
@@ -21,13 +21,7 @@ struct History {
 impl History {
     /// An empty queue, its last thread with an empty permission list.
     fn start(random: &mut Random) -> History {
-        let depth = random.among(1..=7);
-        let shape = Shape {
-            depth,
-            cells: random.among_or_extreme(1..=1 << (depth - 1)),
-            threads: random.among(2..=16),
-            threshold: random.among(1..=4),
-        };
+        let shape = random.crowded_shape(2..=16);
         let mut permissions: Vec<u8> =
             (1..shape.threads).map(|_| random.one_of(&[0, 1, 2, 3, 3, 3, 3])).collect();
         permissions.push(0);

@@ -1,0 +1,180 @@
+-- The run over plain variables: one turn, the loop's invariant and its turns, the refusals in their order, and the whole call. Assumes nothing.
+use Prim.Native.Nat.{ℕ, zero, suc, _+_, _-_, _*_, _/_, _%_, _≤_, _<_}
+use native.Mathlib.Numerals.{add-one}
+use native.Mathlib.Omega.{arith}
+use mathlib.Core.Path.{_≡_, refl, sym, ap, subst, _∙_}
+use mathlib.Core.Bool.{Bool, true, false, not, _&&_}
+use mathlib.Core.List.{List, [], _∷_}
+use borrow.Author.Tests.{le-leb, lt-leb, eq-eqb, ne-eqb, not-true, not-false}
+use lib.Dec.{leb, eqb}
+use lib.ListN.{length}
+use Rattle.words.specs.Word.{word, setWords}
+use Rattle.region.specs.Answer.{answerCode, answerKey, answerTag, answerWords, done, shortAnswers, badSchedule, unreadable}
+use Rattle.region.specs.Frame.{Within, frameOf}
+use Rattle.region.specs.Pick.{pick}
+use Rattle.region.specs.declared.answer.Answer.{Answer}
+use Rattle.region.specs.declared.frame.Frame.{Frame}
+use Rattle.readable.specs.Readable.{readable, shapeIn}
+use Rattle.readable.proofs.Laws.{readable-within}
+use Rattle.machine.specs.Run.{accessesOf, runRefusal, runResult, serve, serveAll, soFar, turnAt, turnsFrom}
+use Rattle.machine.specs.Turn.{Turned, turnAnswer, turnBytes}
+use Rattle.run.specs.Ran.{Ran, RunAsked, TurnAsked}
+use Rattle.run.specs.declared.Counts.{Counts}
+use Rattle.run.proofs.Laws.{one-access, passed}
+
+-- One turn.
+pub answer-stored : (a a′ : List ℕ) (k p q r : ℕ) (x : Answer) → p ≡ answerCode x → q ≡ answerKey x → r ≡ answerTag x
+    → a′ ≡ setWords a (3 * k) (p ∷ q ∷ r ∷ []) → a′ ≡ setWords a (3 * k) (answerWords x)
+answer-stored a a′ k p q r x ep eq er ea = ea ∙ (λ i. setWords a (3 * k) (ep i ∷ eq i ∷ er i ∷ []))
+
+pub one-served : (f : Frame) (b b′ s a a′ : List ℕ) (k n t c r : ℕ) (x : Answer) → t ≡ word s (2 * k) → c ≡ word s (2 * k + 1)
+    → Turned f b b′ t c x → a′ ≡ setWords a (3 * k) (answerWords x) → r ≡ accessesOf x
+    → soFar b′ a′ (k + 1) (n + r) ≡ serve f (turnAt s k) (soFar b a k n)
+unfolding serve
+one-served f b b′ s a a′ k n t c r x et ec h ea er =
+    let ex : x ≡ turnAnswer f b (word s (2 * k)) (word s (2 * k + 1)) = h .answer ∙ (λ i. turnAnswer f b (et i) (ec i)) in
+    let eb : b′ ≡ turnBytes f b (word s (2 * k)) (word s (2 * k + 1)) = h .bytes ∙ (λ i. turnBytes f b (et i) (ec i)) in
+    λ i.
+    soFar (eb i) ((ea ∙ ap (λ y. setWords a (3 * k) (answerWords y)) ex) i) (k + 1) (n + (er ∙ ap accessesOf ex) i)
+
+-- The loop: serving the turns that are left, from here, gives the whole.
+pub record Serving (f : Frame) (limit count : ℕ) (s b₀ a₀ b a : List ℕ) (k n : ℕ) : Type 0 where
+  pub asked : RunAsked f (length b₀) (length s) (length a₀)
+  pub total : count ≡ length s / 8
+  pub within : k ≤ count
+  pub made : n ≤ k
+  pub region-same : length b ≡ length b₀
+  pub answers-same : length a ≡ length a₀
+  pub left : serveAll f limit (turnsFrom s k (count - k)) (soFar b a k n) ≡ serveAll f limit (turnsFrom s 0 count) (soFar b₀ a₀ 0 0)
+
+pub serve-start : (f : Frame) (limit : ℕ) (s b a : List ℕ) → RunAsked f (length b) (length s) (length a)
+    → Serving f limit (length s / 8) s b a b a 0 0
+serve-start f limit s b a h =
+    record {
+      asked = h;
+      total = refl;
+      within = omega arith;
+      made = omega arith;
+      region-same = refl;
+      answers-same = refl;
+      left = ap (λ m. serveAll f limit (turnsFrom s 0 m) (soFar b a 0 0)) (omega arith);
+    }
+
+module _ {f : Frame} {limit count : ℕ} {s b₀ a₀ b a : List ℕ} {k n : ℕ} (e : Serving f limit count s b₀ a₀ b a k n) where
+  pub serve-asks : k < count → TurnAsked f (length b) (length s) (length a) k n
+  serve-asks h =
+      record {
+        within = subst (Within f) (sym (e .region-same)) (e .asked .within);
+        turn = omega arith;
+        answer = omega arith;
+        few = omega arith;
+        made = e .made;
+      }
+
+  -- the next turn is served, unless the limit is reached
+  next : k < count → serveAll f limit (turnsFrom s k (count - k)) (soFar b a k n)
+      ≡ pick (eqb n limit) (soFar b a k n)
+      (serveAll f limit (turnsFrom s (k + 1) (count - (k + 1))) (serve f (turnAt s k) (soFar b a k n)))
+  unfolding serveAll turnsFrom
+  next h =
+      let m : count - k ≡ suc (count - (k + 1)) = omega arith in
+      ap (λ j. serveAll f limit (turnsFrom s k j) (soFar b a k n)) m
+      ∙ ap (λ j. pick (eqb n limit) (soFar b a k n)
+      (serveAll f limit (turnsFrom s j (count - (k + 1))) (serve f (turnAt s k) (soFar b a k n)))) (sym (add-one k))
+
+  pub serve-stop : k < count → n ≡ limit → soFar b a k n ≡ serveAll f limit (turnsFrom s 0 count) (soFar b₀ a₀ 0 0)
+  unfolding pick
+  serve-stop h g =
+      let rest = serveAll f limit (turnsFrom s (k + 1) (count - (k + 1))) (serve f (turnAt s k) (soFar b a k n)) in
+      ap (λ q. pick q (soFar b a k n) rest) (sym (eq-eqb n limit g)) ∙ sym (next h) ∙ e .left
+
+  pub serve-more : {b′ a′ : List ℕ} {r : ℕ} → k < count → (n ≡ limit → ⊥) → length b′ ≡ length b → length a′ ≡ length a
+      → soFar b′ a′ (k + 1) r ≡ serve f (turnAt s k) (soFar b a k n) → Serving f limit count s b₀ a₀ b′ a′ (k + 1) r
+  unfolding pick serve
+  serve-more {b′} {a′} {r} h g eb ea er =
+      let rest = serveAll f limit (turnsFrom s (k + 1) (count - (k + 1))) (serve f (turnAt s k) (soFar b a k n)) in
+      let x = turnAnswer f b (turnAt s k .thread) (turnAt s k .choice) in
+      let more : r ≡ n + accessesOf x = ap (λ z. z .accesses) er in
+      record {
+        asked = e .asked;
+        total = e .total;
+        within = omega arith;
+        made = omega (arith, one-access x);
+        region-same = eb ∙ e .region-same;
+        answers-same = ea ∙ e .answers-same;
+        left =
+            ap (serveAll f limit (turnsFrom s (k + 1) (count - (k + 1)))) er
+            ∙ ap (λ q. pick q (soFar b a k n) rest) (sym (ne-eqb n limit g))
+            ∙ sym (next h)
+            ∙ e .left;
+      }
+
+  pub serve-end : count ≤ k → soFar b a k n ≡ serveAll f limit (turnsFrom s 0 count) (soFar b₀ a₀ 0 0)
+  unfolding serveAll turnsFrom
+  serve-end h =
+      let m : 0 ≡ count - k = omega arith in
+      ap (λ j. serveAll f limit (turnsFrom s k j) (soFar b a k n)) m ∙ e .left
+
+-- The refusals: the first test that fails decides.
+module _ (b s : List ℕ) (l : ℕ) (q : Bool) (eq : q ≡ readable b) where
+  pub run-unreadable : not q ≡ true → unreadable ≡ runRefusal b s l
+  unfolding runRefusal pick
+  run-unreadable g = rw (← eq, not-true q g) refl
+
+  module _ (gq : not q ≡ false) where
+    pub part-of-turn : (length s % 8 ≡ 0 → ⊥) → badSchedule ≡ runRefusal b s l
+    unfolding runRefusal pick
+    part-of-turn n = rw (← eq, not-false q gq, ne-eqb (length s % 8) 0 n) refl
+
+    module _ (whole : length s % 8 ≡ 0) where
+      pub too-many : 4096 < length s / 8 → badSchedule ≡ runRefusal b s l
+      unfolding runRefusal pick
+      too-many h = rw (← eq, not-false q gq, eq-eqb (length s % 8) 0 whole, lt-leb (length s / 8) 4096 h) refl
+
+      module _ (few : length s / 8 ≤ 4096) where
+        pub no-room : l < 12 * (length s / 8) → shortAnswers ≡ runRefusal b s l
+        unfolding runRefusal pick
+        no-room h =
+            rw
+            (← eq, not-false q gq, eq-eqb (length s % 8) 0 whole, le-leb (length s / 8) 4096 few, lt-leb (12 * (length s / 8)) l h)
+            refl
+
+        pub run-accepted : 12 * (length s / 8) ≤ l → done ≡ runRefusal b s l
+        unfolding runRefusal pick
+        run-accepted h =
+            rw
+            (← eq, not-false q gq, eq-eqb (length s % 8) 0 whole, le-leb (length s / 8) 4096 few, le-leb (12 * (length s / 8)) l h)
+            refl
+
+-- The whole call: a refused one leaves both slices, another serves its turns.
+module _ (b s a : List ℕ) (limit r : ℕ) (e : r ≡ runRefusal b s (length a)) where
+  pub run-refused : (r ≡ done → ⊥) → Ran b b s limit a a (record { refusal = r; counts = record { turns = 0; accesses = 0 } })
+  unfolding runResult pick
+  run-refused n = record { refusal = e; served = rw (← e, ne-eqb r done n) refl }
+
+  module _ (d : r ≡ done) where
+    pub run-readable : readable b ≡ true
+    run-readable = passed b s (length a) (sym e ∙ d) .region
+
+    module _ (f : Frame) (ef : f ≡ frameOf (shapeIn b)) where
+      pub run-asks : RunAsked f (length b) (length s) (length a)
+      run-asks =
+          let h = passed b s (length a) (sym e ∙ d) in
+          record {
+            within = subst (λ g. Within g (length b)) (sym ef) (readable-within b (h .region));
+            few = h .few;
+            answers = h .room;
+          }
+
+      pub run-served : (b′ a′ : List ℕ) (n : Counts)
+          → soFar b′ a′ (n .turns) (n .accesses) ≡ serveAll f limit (turnsFrom s 0 (length s / 8)) (soFar b a 0 0)
+          → Ran b b′ s limit a a′ (record { refusal = r; counts = n })
+      unfolding runResult pick
+      run-served b′ a′ n h =
+          record {
+            refusal = e;
+            served =
+                rw
+                (← e, eq-eqb r done d)
+                (h ∙ ap (λ g. serveAll g limit (turnsFrom s 0 (length s / 8)) (soFar b a 0 0)) ef);
+          }

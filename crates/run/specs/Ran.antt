@@ -1,0 +1,28 @@
+-- What the functions of the run ask, and what a run answers and leaves (document 01, A run).
+use Prim.Native.Nat.{ℕ, _+_, _*_, _/_, _<_, _≤_}
+use mathlib.Core.Path.{_≡_}
+use mathlib.Core.List.{List}
+use lib.ListN.{length}
+use Rattle.region.specs.Frame.{Within}
+use Rattle.region.specs.declared.frame.Frame.{Frame}
+use Rattle.machine.specs.Run.{runRefusal, runResult, soFar}
+use Rattle.run.specs.declared.Outcome.{Outcome}
+
+-- for one turn: the frame lies within b bytes, turn k within s bytes of schedule, its answer within a bytes; n accesses were made
+pub record TurnAsked (f : Frame) (b s a k n : ℕ) : Type 0 where
+  pub within : Within f b
+  pub turn : 8 * k + 8 ≤ s
+  pub answer : 12 * k + 12 ≤ a
+  pub few : k < 4096
+  pub made : n ≤ k
+
+-- for all turns: what a run that is not refused has
+pub record RunAsked (f : Frame) (b s a : ℕ) : Type 0 where
+  pub within : Within f b
+  pub few : s / 8 ≤ 4096
+  pub answers : 12 * (s / 8) ≤ a
+
+-- b, a are the region and the answers, b′, a′ afterwards
+pub record Ran (b b′ schedule : List ℕ) (limit : ℕ) (a a′ : List ℕ) (r : Outcome) : Type 0 where
+  pub refusal : r .refusal ≡ runRefusal b schedule (length a)
+  pub served : soFar b′ a′ (r .counts .turns) (r .counts .accesses) ≡ runResult b schedule limit a

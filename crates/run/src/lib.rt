@@ -1,0 +1,134 @@
+// A run: the turns of a schedule, served in order until it ends or the accesses made equal the limit.
+ghost use mathlib.Core.Path.{_≡_};
+ghost use Prim.Native.Nat.{_+_, _*_, _/_, _≤_};
+ghost use lib.ListN.{length};
+ghost use Rattle.words.specs.Word.{setWords};
+ghost use Rattle.region.specs.Answer.{answerWords};
+ghost use Rattle.machine.specs.Run.{accessesOf, runRefusal, serve, serveAll, soFar, turnAt, turnsFrom};
+ghost use Rattle.run.specs.Ran.{Ran, RunAsked, TurnAsked};
+use region::Answer;
+use region::BAD_SCHEDULE;
+use region::DONE;
+use region::Frame;
+use region::SHORT_ANSWERS;
+use region::UNREADABLE;
+
+// The turns served and the accesses made.
+pub struct Counts {
+    pub turns: u32,
+    pub accesses: u32,
+}
+
+// What a run answers: done or its refusal, and the counts, 0 where it is refused.
+pub struct Outcome {
+    pub refusal: u32,
+    pub counts: Counts,
+}
+
+// The accesses of a turn with this answer.
+fn accesses_of(answer: Answer) -> u32
+    ensures { λ r. ⌜ r ≡ accessesOf answer ⌝ }
+{
+    match answer {
+        Answer::Moved => 1,
+        Answer::Idle => 0,
+        Answer::Inserted => 1,
+        Answer::Took(_) => 1,
+        Answer::Empty => 1,
+        Answer::Refused(_) => 0,
+    }
+}
+
+// Stores the answer of turn k.
+fn store_answer(answers: &mut [u8], k: usize, answer: Answer)
+    requires { ⌜ 12 * k + 12 ≤ length (now answers) ⌝ }
+    ensures { λ r. ⌜ now (answers .exit) ≡ setWords (now (answers .entry)) (3 * k) (answerWords answer) ⌝ }
+{
+    let words = [answer.code(), answer.key(), answer.tag()];
+    words::store_words(answers, 3 * k, &words);
+}
+
+// Serves the next turn, where so many turns were served and accesses made; the accesses made with it.
+fn serve(
+    f: Frame,
+    b: &mut [u8],
+    schedule: &[u8],
+    answers: &mut [u8],
+    turns: usize,
+    accesses: u32,
+) -> u32
+    requires { ⌜ TurnAsked f (length (now b)) (length (now schedule)) (length (now answers)) turns accesses ⌝ }
+    ensures { λ r. ⌜ soFar (now (b .exit)) (now (answers .exit)) (turns + 1) r ≡ serve f (turnAt (now (schedule .entry)) turns) (soFar (now (b .entry)) (now (answers .entry)) turns accesses) ⌝ }
+{
+    let thread = words::load_word(schedule, 2 * turns);
+    let choice = words::load_word(schedule, 2 * turns + 1);
+    let answer = machine::turn(f, b, thread, choice);
+    store_answer(answers, turns, answer);
+    accesses + accesses_of(answer)
+}
+
+// Serves the turns of the schedule until it ends or the limit is reached.
+fn serve_all(f: Frame, b: &mut [u8], schedule: &[u8], limit: u32, answers: &mut [u8]) -> Counts
+    requires { ⌜ RunAsked f (length (now b)) (length (now schedule)) (length (now answers)) ⌝ }
+    ensures { λ r. ⌜ soFar (now (b .exit)) (now (answers .exit)) (r .turns) (r .accesses) ≡ serveAll f limit (turnsFrom (now (schedule .entry)) 0 (length (now (schedule .entry)) / 8)) (soFar (now (b .entry)) (now (answers .entry)) 0 0) ⌝ }
+{
+    let count = schedule.len() / 8;
+    let mut turns = 0;
+    let mut accesses = 0;
+    while turns < count {
+        if accesses == limit {
+            return Counts {
+                turns: turns as u32,
+                accesses,
+            };
+        }
+        accesses = serve(f, b, schedule, answers, turns, accesses);
+        turns += 1;
+    }
+    Counts {
+        turns: turns as u32,
+        accesses,
+    }
+}
+
+// The refusal of a run, or done.
+fn refusal(b: &[u8], schedule: &[u8], room: usize) -> u32
+    ensures { λ r. ⌜ r ≡ runRefusal (now (b .entry)) (now (schedule .entry)) room ⌝ }
+{
+    if !readable::is_readable(b) {
+        return UNREADABLE;
+    }
+    let count = schedule.len() / 8;
+    if schedule.len() % 8 != 0 {
+        return BAD_SCHEDULE;
+    }
+    if 4096 < count {
+        return BAD_SCHEDULE;
+    }
+    if room < 12 * count {
+        return SHORT_ANSWERS;
+    }
+    DONE
+}
+
+// Runs a schedule on a region. Refused 7, 6, 5 in that order; a refused run changes no byte.
+pub fn run(b: &mut [u8], schedule: &[u8], limit: u32, answers: &mut [u8]) -> Outcome
+    ensures { λ r. ⌜ Ran (now (b .entry)) (now (b .exit)) (now (schedule .entry)) limit (now (answers .entry)) (now (answers .exit)) r ⌝ }
+{
+    let refused = refusal(b, schedule, answers.len());
+    if refused != DONE {
+        return Outcome {
+            refusal: refused,
+            counts: Counts {
+                turns: 0,
+                accesses: 0,
+            },
+        };
+    }
+    let f = readable::frame_of(b);
+    let counts = serve_all(f, b, schedule, limit, answers);
+    Outcome {
+        refusal: refused,
+        counts,
+    }
+}

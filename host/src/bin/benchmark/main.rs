@@ -1,0 +1,131 @@
+//! How fast the proved library is beside the plain Rust implementation, both in this one program:
+//! ratios, and times for orientation.
+
+mod heap;
+mod measure;
+mod play;
+mod record;
+mod work;
+
+use measure::{measure, Times, ROUNDS};
+use mound::Shape;
+use work::{Work, PAIRS};
+
+const SMALL: Shape = Shape { depth: 4, cells: 8, threads: 4, threshold: 2 };
+const LARGE: Shape = Shape { threshold: 2, ..Shape::LARGEST };
+
+const TURNS: &str = "
+A turn in a run. The share is that of the turns that make an access; the others are idle. Puts
+that find no leaf are always given the same one, which holds a lesser key, and go on for ever.";
+
+const PAIRS_OF_CALLS: &str = "
+A put and a take by one thread, T 4, half of the cells in use: four calls, each run with just the
+turns that it takes. Beside them a push and a pop of a Mutex<BinaryHeap> with as many items.";
+
+const CHECKS: &str = "
+A check at the largest shape, of 82,188 bytes.";
+
+const GROWTH: &str = "
+How cost grows with D, T 4: a check looks at the whole region, a turn at one place of it. The turn
+is one of 4,096 in a run of puts that find no leaf, all of them accesses.";
+
+fn main() {
+    println!("The proved library beside the plain Rust implementation.");
+    if cfg!(debug_assertions) {
+        println!("The plain Rust is a DEBUG build: these ratios mean nothing. Use --release.");
+    } else {
+        println!("Both are release builds, run in turn in this one process on the same bytes.");
+    }
+    println!("Nanoseconds: medians of {ROUNDS} rounds. Ratio: library / plain, the median of the");
+    println!("rounds' own. Regions are set up anew before each round, which is not timed.");
+    turns();
+    pairs();
+    checks();
+    growth();
+}
+
+/// A turn, in long runs and in runs of one.
+fn turns() {
+    println!("{TURNS}");
+    println!("{:<42}{:>6}{:>7}{:>9}{:>9}{:>8}", "", "turns", "share", "library", "plain", "ratio");
+    let answered = Work::crossing_operations(SMALL, 4096).accesses;
+    let long = |shape| Work::crossing_operations(shape, 4096);
+    let endless = |shape| Work::endless_puts(shape, 4096);
+    let single = |shape, turns| Work::crossing_operations(shape, turns).one_turn_a_run();
+    row("D 4 T 4: puts that find no leaf", 4096, endless(SMALL));
+    row("D 4 T 4: 2 puts and 2 takes, then idle", 4096, long(SMALL));
+    row("D 4 T 4: 2 puts and 2 takes", answered, Work::crossing_operations(SMALL, answered));
+    row("D 4 T 4: 2 puts and 2 takes", 1, single(SMALL, answered));
+    row("D 12 T 64: puts that find no leaf", 4096, endless(LARGE));
+    row("D 12 T 64: 32 puts and 32 takes", 4096, long(LARGE));
+    row("D 12 T 64: 32 puts and 32 takes", 1, single(LARGE, 64));
+}
+
+fn row(name: &str, turns: u32, work: Work) {
+    let Times { library, plain, ratio } = measure(&work, work.turns);
+    let share = f64::from(work.accesses) / f64::from(work.turns);
+    println!("{name:<42}{turns:>6}{share:>7.2}{library:>9.1}{plain:>9.1}{ratio:>8.2}");
+}
+
+/// A put and a take, each begun and then run until it is answered.
+fn pairs() {
+    println!("{PAIRS_OF_CALLS}");
+    println!(
+        "{:>4}{:>8}{:>10}{:>10}{:>10}{:>8}{:>8}",
+        "D", "items", "accesses", "library", "plain", "ratio", "heap"
+    );
+    for depth in [2, 4, 8, 12] {
+        let shape = of_depth(depth);
+        let items = shape.cells / 2;
+        let work = Work::pairs(shape, items);
+        let accesses = f64::from(work.accesses) / f64::from(PAIRS);
+        let Times { library, plain, ratio } = measure(&work, PAIRS);
+        let heap = heap::pair(items);
+        println!(
+            "{depth:>4}{items:>8}{accesses:>10.1}{library:>10.0}{plain:>10.0}{ratio:>8.2}{heap:>8.0}"
+        );
+    }
+}
+
+/// Checks at the largest shape.
+fn checks() {
+    println!("{CHECKS}");
+    println!("{:<20}{:>10}{:>10}{:>8}", "", "library", "plain", "ratio");
+    let readable = Work::checks(Shape::LARGEST, 20);
+    let mut bad_first_word = Work::checks(Shape::LARGEST, 20_000);
+    bad_first_word.start[0] = 13;
+    for (name, work) in [("readable", readable), ("bad first word", bad_first_word)] {
+        let Times { library, plain, ratio } = measure(&work, work.calls.len() as u32);
+        println!("{name:<20}{library:>10.1}{plain:>10.1}{ratio:>8.2}");
+    }
+}
+
+/// A check and a turn by the greatest depth.
+fn growth() {
+    println!("{GROWTH}");
+    println!(
+        "{:>4}{:>9}{:>12}{:>10}{:>8}{:>12}{:>10}{:>8}",
+        "D", "bytes", "check: lib.", "plain", "ratio", "turn: lib.", "plain", "ratio"
+    );
+    for depth in [4, 6, 8, 10, 12] {
+        let shape = of_depth(depth);
+        let checks = Work::checks(shape, 100);
+        let turns = Work::endless_puts(shape, 4096);
+        let check = measure(&checks, 100);
+        let turn = measure(&turns, turns.turns);
+        println!(
+            "{depth:>4}{:>9}{:>12.1}{:>10.1}{:>8.2}{:>12.1}{:>10.1}{:>8.2}",
+            checks.start.len(),
+            check.library,
+            check.plain,
+            check.ratio,
+            turn.library,
+            turn.plain,
+            turn.ratio
+        );
+    }
+}
+
+fn of_depth(depth: u32) -> Shape {
+    Shape { depth, cells: 1 << (depth - 1), threads: 4, threshold: 2 }
+}

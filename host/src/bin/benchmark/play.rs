@@ -1,0 +1,87 @@
+//! Calls played on a region, by the library or by the plain implementation.
+
+use std::hint::black_box;
+use std::ops::Range;
+
+use mound::{calls, plain};
+
+use crate::work::Work;
+
+/// A call on a region.
+#[derive(Clone)]
+pub enum Call {
+    Put {
+        thread: u32,
+        key: u32,
+    },
+    Take {
+        thread: u32,
+    },
+    /// A run of these turns of the work's schedule, without a limit.
+    Run(Range<usize>),
+    Check,
+}
+
+/// An implementation of the calls. What they answer is looked at by no one, but computed.
+pub trait Queue {
+    fn put(region: &mut [u8], thread: u32, key: u32);
+    fn take(region: &mut [u8], thread: u32);
+    fn run(region: &mut [u8], schedule: &[u8], answers: &mut [u8]);
+    fn check(region: &[u8]);
+}
+
+/// The proved library.
+pub struct Library;
+
+impl Queue for Library {
+    fn put(region: &mut [u8], thread: u32, key: u32) {
+        black_box(calls::put(region, thread, key, 0));
+    }
+
+    fn take(region: &mut [u8], thread: u32) {
+        black_box(calls::take(region, thread));
+    }
+
+    fn run(region: &mut [u8], schedule: &[u8], answers: &mut [u8]) {
+        black_box(calls::run(region, schedule, u32::MAX, answers));
+    }
+
+    fn check(region: &[u8]) {
+        black_box(calls::check(black_box(region)));
+    }
+}
+
+/// The plain Rust implementation.
+pub struct Plain;
+
+impl Queue for Plain {
+    fn put(region: &mut [u8], thread: u32, key: u32) {
+        _ = black_box(plain::put(region, thread, key, 0));
+    }
+
+    fn take(region: &mut [u8], thread: u32) {
+        _ = black_box(plain::take(region, thread));
+    }
+
+    fn run(region: &mut [u8], schedule: &[u8], answers: &mut [u8]) {
+        _ = black_box(plain::run(region, schedule, u32::MAX, answers));
+    }
+
+    fn check(region: &[u8]) {
+        _ = black_box(plain::check(black_box(region)));
+    }
+}
+
+/// Makes the calls of a work, one after the other.
+pub fn play<Q: Queue>(work: &Work, region: &mut [u8], answers: &mut [u8]) {
+    for call in &work.calls {
+        match call {
+            Call::Put { thread, key } => Q::put(region, *thread, *key),
+            Call::Take { thread } => Q::take(region, *thread),
+            Call::Run(turns) => {
+                Q::run(region, &work.schedule[8 * turns.start..8 * turns.end], answers)
+            }
+            Call::Check => Q::check(region),
+        }
+    }
+}

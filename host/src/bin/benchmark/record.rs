@@ -1,0 +1,155 @@
+//! Works made by playing them once on the plain implementation, so that each run has the turns that
+//! its operations take.
+
+use mound::{plain, Answer, Shape};
+
+use crate::play::Call;
+use crate::work::Work;
+
+/// Numbers that are the same in each run of the program: a linear congruential generator.
+pub struct Random {
+    state: u64,
+}
+
+impl Random {
+    pub fn new() -> Random {
+        Random { state: 1 }
+    }
+
+    /// Any number but the greatest, which is no key.
+    pub fn next(&mut self) -> u32 {
+        self.state = self.state.wrapping_mul(6_364_136_223_846_793_005).wrapping_add(1);
+        ((self.state >> 32) as u32).min(u32::MAX - 1)
+    }
+}
+
+/// A region, and the calls made on it so far.
+pub struct Recorder {
+    region: Vec<u8>,
+    shape: Shape,
+    random: Random,
+    work: Work,
+}
+
+impl Recorder {
+    /// A queue that holds so many items of random keys.
+    pub fn holding(shape: Shape, items: u32) -> Recorder {
+        let mut recorder = Recorder::laid_out(shape);
+        for _ in 0..items {
+            recorder.put_and_run();
+        }
+        recorder.started()
+    }
+
+    /// A queue that holds an item at each node of the leftmost path, of the keys 1, 2, .. downwards.
+    pub fn with_leftmost_path(shape: Shape) -> Recorder {
+        let mut recorder = Recorder::laid_out(shape);
+        for key in 1..=shape.depth {
+            recorder.put(1, key);
+            recorder.run_until(|recorder| recorder.turn(1, 0) == Answer::Inserted);
+        }
+        recorder.started()
+    }
+
+    fn laid_out(shape: Shape) -> Recorder {
+        let mut region = vec![0; shape.byte_len().expect("a shape in range")];
+        plain::layout(&mut region, shape, &vec![3; shape.threads as usize]).expect("its length");
+        Recorder { region, shape, random: Random::new(), work: Work::default() }
+    }
+
+    /// The same region; what is recorded starts here.
+    pub fn started(mut self) -> Recorder {
+        self.work = Work { start: self.region.clone(), ..Work::default() };
+        self
+    }
+
+    pub fn work(self) -> Work {
+        self.work
+    }
+
+    /// Begins a take with every second thread, from thread 1 on, and a put with each other one.
+    pub fn begin_takes_and_puts(&mut self) {
+        for thread in 1..=self.shape.threads {
+            if thread % 2 == 1 {
+                self.take(thread);
+            } else {
+                let key = self.random.next();
+                self.put(thread, key);
+            }
+        }
+    }
+
+    /// Begins a put of the greatest key with every thread.
+    pub fn begin_greatest_puts(&mut self) {
+        for thread in 1..=self.shape.threads {
+            self.put(thread, u32::MAX - 1);
+        }
+    }
+
+    /// Runs so many turns of threads drawn from those that are not answered, or from all when none is
+    /// left.
+    pub fn run_crossing(&mut self, turns: u32) {
+        let all: Vec<u32> = (1..=self.shape.threads).collect();
+        let mut busy = all.clone();
+        let end = self.work.turns + turns;
+        self.run_until(|recorder| {
+            let among = if busy.is_empty() { &all } else { &busy };
+            let thread = among[recorder.random.next() as usize % among.len()];
+            let choice = recorder.random.next();
+            if recorder.turn(thread, choice) != Answer::Moved {
+                busy.retain(|&other| other != thread);
+            }
+            recorder.work.turns == end
+        });
+    }
+
+    /// Runs so many turns of all threads one after the other, each with choice 0.
+    pub fn run_in_turn(&mut self, turns: u32) {
+        let end = self.work.turns + turns;
+        self.run_until(|recorder| {
+            recorder.turn(recorder.work.turns % recorder.shape.threads + 1, 0);
+            recorder.work.turns == end
+        });
+    }
+
+    /// Puts an item of a random key by thread 1.
+    pub fn put_and_run(&mut self) {
+        let key = self.random.next();
+        self.put(1, key);
+        self.run_until(|recorder| {
+            let choice = recorder.random.next();
+            recorder.turn(1, choice) == Answer::Inserted
+        });
+    }
+
+    /// Takes an item by thread 1.
+    pub fn take_and_run(&mut self) {
+        self.take(1);
+        self.run_until(|recorder| matches!(recorder.turn(1, 0), Answer::Took { .. }));
+    }
+
+    fn put(&mut self, thread: u32, key: u32) {
+        plain::put(&mut self.region, thread, key, 0).expect("it is idle and a cell is free");
+        self.work.calls.push(Call::Put { thread, key });
+    }
+
+    fn take(&mut self, thread: u32) {
+        plain::take(&mut self.region, thread).expect("it is idle");
+        self.work.calls.push(Call::Take { thread });
+    }
+
+    /// Makes one run of turns, until the last is told.
+    fn run_until(&mut self, mut is_last_turn: impl FnMut(&mut Recorder) -> bool) {
+        let first = self.work.turns as usize;
+        while !is_last_turn(self) {}
+        self.work.calls.push(Call::Run(first..self.work.turns as usize));
+    }
+
+    fn turn(&mut self, thread: u32, choice: u32) -> Answer {
+        let answer = plain::turn(&mut self.region, thread, choice);
+        self.work.schedule.extend([thread, choice].into_iter().flat_map(u32::to_le_bytes));
+        self.work.turns += 1;
+        self.work.accesses += u32::from(answer.is_access());
+        answer
+    }
+}

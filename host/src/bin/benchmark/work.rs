@@ -1,0 +1,68 @@
+//! What is measured: calls on a region, with the region as it stands before them.
+
+use mound::Shape;
+
+use crate::play::Call;
+use crate::record::Recorder;
+
+/// Puts and takes of a work of pairs.
+pub const PAIRS: u32 = 32;
+
+/// Calls to be made on a region.
+#[derive(Default)]
+pub struct Work {
+    /// The region before the calls.
+    pub start: Vec<u8>,
+    pub calls: Vec<Call>,
+    /// The turns of all runs, eight bytes each.
+    pub schedule: Vec<u8>,
+    /// The turns of all runs, and how many of them are accesses.
+    pub turns: u32,
+    pub accesses: u32,
+}
+
+impl Work {
+    /// One run in which every second thread has begun a take and each other one a put, with half of
+    /// the cells in use. Each turn is that of a thread drawn from those that are not answered, or from
+    /// all when none is left.
+    pub fn crossing_operations(shape: Shape, turns: u32) -> Work {
+        let mut recorder = Recorder::holding(shape, shape.cells / 2);
+        recorder.begin_takes_and_puts();
+        let mut recorder = recorder.started();
+        recorder.run_crossing(turns);
+        recorder.work()
+    }
+
+    /// One run of puts that never end: their choice is always the leftmost leaf, which holds a lesser
+    /// key.
+    pub fn endless_puts(shape: Shape, turns: u32) -> Work {
+        let mut recorder = Recorder::with_leftmost_path(shape);
+        recorder.begin_greatest_puts();
+        let mut recorder = recorder.started();
+        recorder.run_in_turn(turns);
+        recorder.work()
+    }
+
+    /// Puts and takes by thread 1, in turn, in a queue that holds so many items.
+    pub fn pairs(shape: Shape, items: u32) -> Work {
+        let mut recorder = Recorder::holding(shape, items);
+        for _ in 0..PAIRS {
+            recorder.put_and_run();
+            recorder.take_and_run();
+        }
+        recorder.work()
+    }
+
+    /// So many checks of a region that is laid out.
+    pub fn checks(shape: Shape, checks: usize) -> Work {
+        let mut work = Recorder::holding(shape, 0).work();
+        work.calls = vec![Call::Check; checks];
+        work
+    }
+
+    /// The same turns, each in a run of its own.
+    pub fn one_turn_a_run(self) -> Work {
+        let calls = (0..self.turns as usize).map(|turn| Call::Run(turn..turn + 1)).collect();
+        Work { calls, ..self }
+    }
+}

@@ -1,0 +1,219 @@
+//! A queue under test: the calls of the plain implementation, and each word of the region.
+
+use mound::{plain, Answer, Refusal, Shape};
+
+use super::fields::{
+    place, COPIES, FIRST_FREE_CELL, HEADING, NODE, OWN_CELL, PLACE, PRESENT_DEPTH, RECORD, THREAD,
+};
+
+/// A key with a tag.
+pub type Item = (u32, u32);
+
+/// The beginning of an operation.
+#[derive(Clone, Copy, Debug, PartialEq, Eq, Hash)]
+pub enum Call {
+    Put(Item),
+    Take,
+}
+
+/// The value of an empty node; among keys it stands for no list.
+pub const EMPTY: u32 = u32::MAX;
+
+/// The shape of document 01's cases.
+pub const SMALL: Shape = Shape { depth: 2, cells: 2, threads: 2, threshold: 1 };
+
+/// A region that the plain implementation works on.
+#[derive(Clone, PartialEq, Eq, Hash)]
+pub struct Queue {
+    pub bytes: Vec<u8>,
+}
+
+impl Queue {
+    /// An empty queue.
+    pub fn laid_out(shape: Shape, permissions: &[u8]) -> Queue {
+        let mut bytes = vec![0; shape.byte_len().expect("a shape in range")];
+        plain::layout(&mut bytes, shape, permissions).expect("the shape's length");
+        Queue { bytes }
+    }
+
+    /// An empty queue whose threads may all put and take.
+    pub fn open_to_all(shape: Shape) -> Queue {
+        Queue::laid_out(shape, &vec![3; shape.threads as usize])
+    }
+
+    /// The same queue after thread 1 has put these items one by one, the choice one more each time.
+    pub fn holding(mut self, items: &[Item]) -> Queue {
+        for (choice, &(key, tag)) in (0..).zip(items) {
+            assert_eq!(self.put(1, key, tag), Ok(()));
+            let mut answers = (0..100).map(|_| self.turn(1, choice));
+            assert!(answers.any(|answer| answer == Answer::Inserted), "never inserted");
+        }
+        self
+    }
+
+    /// A queue of depth 3 with lists of one cell, of these keys, at nodes 1, 2 and 3, each updated nine
+    /// times; thread 1 stands at a place with cell 4 as its own and these fields.
+    pub fn with_thread_at(place: u32, fields: &[(usize, u32)], keys: [u32; 3]) -> Queue {
+        let mut queue = Queue::open_to_all(Shape { depth: 3, cells: 4, threads: 2, threshold: 1 });
+        queue.set_word(PRESENT_DEPTH, 3);
+        queue.set_word(FIRST_FREE_CELL, 0);
+        for (number, key) in (1..).zip(keys).filter(|&(_, key)| key != EMPTY) {
+            queue.set_words(queue.node_at(number), [number, 0, 9]);
+            queue.set_words(queue.cell_at(number), [key, 0, 0]);
+        }
+        for &(field, value) in [(PLACE, place), (OWN_CELL, 4)].iter().chain(fields) {
+            queue.set_field(1, field, value);
+        }
+        queue
+    }
+
+    pub fn put(&mut self, thread: u32, key: u32, tag: u32) -> Result<(), Refusal> {
+        plain::put(&mut self.bytes, thread, key, tag)
+    }
+
+    pub fn take(&mut self, thread: u32) -> Result<(), Refusal> {
+        plain::take(&mut self.bytes, thread)
+    }
+
+    pub fn begin(&mut self, thread: u32, call: Call) -> Result<(), Refusal> {
+        match call {
+            Call::Put((key, tag)) => self.put(thread, key, tag),
+            Call::Take => self.take(thread),
+        }
+    }
+
+    pub fn turn(&mut self, thread: u32, choice: u32) -> Answer {
+        plain::turn(&mut self.bytes, thread, choice)
+    }
+
+    /// Serves a turn of thread 1, which moves on, and gives these fields of it.
+    pub fn moved<const N: usize>(mut self, fields: [usize; N]) -> [u32; N] {
+        assert_eq!(self.turn(1, 0), Answer::Moved);
+        fields.map(|field| self.field(1, field))
+    }
+
+    /// Serves a turn of each of these threads, one after the other, with choice 0.
+    pub fn turns(&mut self, threads: &[u32]) -> Vec<Answer> {
+        threads.iter().map(|&thread| self.turn(thread, 0)).collect()
+    }
+
+    pub fn shape(&self) -> Shape {
+        let [depth, cells, threads, threshold] = [0, 1, 2, 3].map(|at| self.word(at));
+        Shape { depth, cells, threads, threshold }
+    }
+
+    pub fn word(&self, at: usize) -> u32 {
+        let word = self.bytes[4 * at..].first_chunk().expect("the word is in the region");
+        u32::from_le_bytes(*word)
+    }
+
+    pub fn set_word(&mut self, at: usize, value: u32) {
+        self.bytes[4 * at..4 * at + 4].copy_from_slice(&value.to_le_bytes());
+    }
+
+    pub fn set_words(&mut self, at: usize, values: [u32; 3]) {
+        for (at, value) in (at..).zip(values) {
+            self.set_word(at, value);
+        }
+    }
+
+    /// Where the record of a node starts.
+    pub fn node_at(&self, node: u32) -> usize {
+        HEADING + RECORD * (node as usize - 1)
+    }
+
+    /// Where the record of a cell starts.
+    pub fn cell_at(&self, cell: u32) -> usize {
+        self.node_at(1 << self.word(0)) + RECORD * (cell as usize - 1)
+    }
+
+    /// Where the record of a thread starts.
+    pub fn thread_at(&self, thread: u32) -> usize {
+        self.cell_at(self.word(1) + 1) + THREAD * (thread as usize - 1)
+    }
+
+    pub fn node(&self, node: u32) -> [u32; 3] {
+        self.words(self.node_at(node))
+    }
+
+    pub fn cell(&self, cell: u32) -> [u32; 3] {
+        self.words(self.cell_at(cell))
+    }
+
+    /// The bytes of a thread's record.
+    pub fn record(&self, thread: u32) -> &[u8] {
+        &self.bytes[4 * self.thread_at(thread)..][..4 * THREAD]
+    }
+
+    pub fn field(&self, thread: u32, field: usize) -> u32 {
+        self.word(self.thread_at(thread) + field)
+    }
+
+    pub fn set_field(&mut self, thread: u32, field: usize, value: u32) {
+        self.set_word(self.thread_at(thread) + field, value);
+    }
+
+    /// The copies that the update at the thread's place compares, each as the word at which it
+    /// starts, with its node. Of M5's children both are given, though it changes one.
+    pub fn compared(&self, thread: u32) -> Vec<(usize, u32)> {
+        let node = self.field(thread, NODE);
+        let nodes = match self.place(thread) {
+            place::I6 | place::E2 => vec![1],
+            place::I8 => vec![node, node / 2],
+            place::M5 => vec![node, 2 * node, 2 * node + 1],
+            place::M6 => vec![node],
+            _ => vec![],
+        };
+        let copies = COPIES.iter().map(|copy| self.thread_at(thread) + copy);
+        let in_the_tree = |&(_, node): &(usize, u32)| (1..1 << self.word(0)).contains(&node);
+        copies.zip(nodes).filter(in_the_tree).collect()
+    }
+
+    /// Makes those copies equal to their nodes, and the copied heads to the nodes' heads.
+    pub fn match_copies(&mut self, thread: u32) {
+        for (copy, node) in self.compared(thread) {
+            let words = self.node(node);
+            let head = if words[0] == 0 { [0; 3] } else { self.cell(words[0]) };
+            self.set_words(copy, words);
+            self.set_words(copy + 3, head);
+        }
+    }
+
+    pub fn place(&self, thread: u32) -> u32 {
+        self.field(thread, PLACE)
+    }
+
+    /// The item of the root's head cell.
+    pub fn head_of_root(&self) -> Option<Item> {
+        let [first_cell, ..] = self.node(1);
+        (first_cell != 0).then(|| self.item(first_cell))
+    }
+
+    /// The items in the lists of all nodes, in order: each list from its first cell by next cells to
+    /// 0, at most as many as there are cells.
+    pub fn items(&self) -> Vec<Item> {
+        let Shape { depth, cells, .. } = self.shape();
+        let mut items = Vec::new();
+        for node in 1..1 << depth {
+            let [mut cell, ..] = self.node(node);
+            for _ in 0..cells {
+                if cell == 0 {
+                    break;
+                }
+                items.push(self.item(cell));
+                [_, _, cell] = self.cell(cell);
+            }
+        }
+        items.sort_unstable();
+        items
+    }
+
+    fn item(&self, cell: u32) -> Item {
+        let [key, tag, _] = self.cell(cell);
+        (key, tag)
+    }
+
+    fn words(&self, at: usize) -> [u32; 3] {
+        [at, at + 1, at + 2].map(|at| self.word(at))
+    }
+}

@@ -1,0 +1,9 @@
+//! The safe types: what a Rust program sees of a queue.
+
+use mound::{Permission, Shape};
+
+mod regions;
+mod runs;
+
+const SHAPE: Shape = Shape { depth: 2, cells: 2, threads: 2, threshold: 1 };
+const BOTH: [Permission; 2] = [Permission::PUT_AND_TAKE; 2];

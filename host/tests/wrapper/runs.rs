@@ -1,0 +1,137 @@
+//! Runs: turns in, answers out.
+
+use mound::{Answer, Permission, Refusal, Region, Run, Served, Shape, Turn};
+
+use crate::{BOTH, SHAPE};
+
+/// A turn of each of these threads, with choice 0.
+fn turns_of<const N: usize>(threads: [u32; N]) -> [Turn; N] {
+    threads.map(|thread| Turn { thread, choice: 0 })
+}
+
+/// A region in which thread 1 has begun a put of key 5 and tag 9.
+fn putting(bytes: &mut Vec<u8>) -> Result<Region<'_>, Refusal> {
+    bytes.resize(SHAPE.byte_len()?, 0);
+    let mut region = Region::layout(bytes, SHAPE, &BOTH)?;
+    region.put(1, 5, 9)?;
+    Ok(region)
+}
+
+#[test]
+fn turns_come_as_an_array_a_slice_or_an_iterator() -> Result<(), Refusal> {
+    let mut bytes = vec![];
+    let mut region = putting(&mut bytes)?;
+    let turns = turns_of([1, 2]);
+    assert!(region.run(turns, u32::MAX)?.answers().eq([Answer::Moved, Answer::Idle]));
+    assert!(region.run(&turns[..], u32::MAX)?.answers().eq([Answer::Moved, Answer::Idle]));
+    assert!(region.run(turns.iter().rev(), u32::MAX)?.answers().eq([Answer::Idle, Answer::Moved]));
+    let one = std::iter::once(Turn { thread: 1, choice: 7 });
+    assert!(region.run(one, u32::MAX)?.answers().eq([Answer::Inserted]));
+    assert_eq!(region.run([] as [Turn; 0], u32::MAX)?.answers().len(), 0);
+    Ok(())
+}
+
+#[test]
+fn a_run_has_an_answer_for_each_turn_served() -> Result<(), Refusal> {
+    let mut bytes = vec![];
+    let mut region = putting(&mut bytes)?;
+    region.take(2)?;
+    let run = region.run(turns_of([1, 2, 3, 2, 1]), 3)?;
+    assert_eq!(run.served(), Served { turns: 5, accesses: 3 });
+    let no_thread = Answer::Refused(Refusal::Thread);
+    let answers = [Answer::Moved, Answer::Empty, no_thread, Answer::Idle, Answer::Moved];
+    assert!(run.answers().eq(answers));
+    assert_eq!(run.answers().len(), 5);
+    assert!(run.answers().rev().eq(answers.into_iter().rev()));
+    assert!(format!("{run:?}").contains("Moved, Empty, Refused(Thread), Idle, Moved"));
+
+    let run = region.run(turns_of([1, 1, 1]), 0)?;
+    assert_eq!((run.served(), run.answers().len()), (Served::default(), 0));
+    let run = region.run(turns_of([1, 1, 1]), 2)?;
+    assert_eq!(run.served(), Served { turns: 2, accesses: 2 });
+    assert_eq!(run.answers().last(), Some(Answer::Inserted));
+    Ok(())
+}
+
+#[test]
+fn a_run_has_at_most_4096_turns() -> Result<(), Refusal> {
+    let mut bytes = vec![];
+    let mut region = putting(&mut bytes)?;
+    let turn = Turn { thread: 1, choice: 0 };
+    let before = region.as_bytes().to_vec();
+    assert_eq!(region.run([turn; 4097], u32::MAX).err(), Some(Refusal::Schedule));
+    assert_eq!(region.run(std::iter::repeat(turn), 1).err(), Some(Refusal::Schedule));
+    assert_eq!(region.as_bytes(), before);
+    let run = region.run([turn; Turn::MOST], u32::MAX)?;
+    assert_eq!(run.served(), Served { turns: 4096, accesses: 4 });
+    Ok(())
+}
+
+#[test]
+fn a_run_is_used_again() -> Result<(), Refusal> {
+    let mut bytes = vec![];
+    let mut region = putting(&mut bytes)?;
+    let mut run = Run::default();
+    assert_eq!(run.answers().len(), 0);
+    let served = region.run_into(&mut run, turns_of([2, 2, 2, 1]), u32::MAX)?;
+    assert_eq!((served, run.served()), (Served { turns: 4, accesses: 1 }, served));
+    region.run_into(&mut run, turns_of([1]), u32::MAX)?;
+    assert!(run.answers().eq([Answer::Moved]));
+    let refused = region.run_into(&mut run, [Turn { thread: 1, choice: 0 }; 4097], u32::MAX);
+    assert_eq!(refused, Err(Refusal::Schedule));
+    assert_eq!((run.served(), run.answers().len()), (Served::default(), 0));
+    region.run_into(&mut run, turns_of([1, 1, 1]), u32::MAX)?;
+    assert!(run.answers().eq([Answer::Moved, Answer::Inserted, Answer::Idle]));
+    Ok(())
+}
+
+#[test]
+fn every_answer_has_words_of_its_own() {
+    let refused = (1..=11).filter_map(Refusal::from_number).map(Answer::Refused);
+    let took = [(0, 0), (5, 9), (u32::MAX, u32::MAX)].map(|(key, tag)| Answer::Took { key, tag });
+    let others = [Answer::Moved, Answer::Idle, Answer::Inserted, Answer::Empty];
+    for answer in refused.chain(took).chain(others) {
+        assert_eq!(Answer::from_words(answer.words()), Some(answer));
+    }
+    let unused = [0, 1, 2, 4].into_iter().flat_map(|code| [[code, 1, 0], [code, 0, 1]]);
+    let no_refusal = [[5, 0, 0], [5, 12, 0], [5, u32::MAX, 0], [5, 3, 1]];
+    for words in unused.chain(no_refusal).chain([[6, 0, 0], [u32::MAX; 3]]) {
+        assert_eq!(Answer::from_words(words), None, "{words:?}");
+    }
+}
+
+/// Eight threads put 800 items, each thread its next one as soon as it is idle; then they all come
+/// out in the order of their keys.
+#[test]
+fn wake_ups_come_out_in_order() -> Result<(), Refusal> {
+    let shape = Shape { depth: 11, cells: 1024, threads: 8, threshold: 2 };
+    let mut bytes = vec![0; shape.byte_len()?];
+    let mut region = Region::layout(&mut bytes, shape, &[Permission::PUT_AND_TAKE; 8])?;
+    let mut keys: Vec<u32> = (0..800u32).map(|n| n.wrapping_mul(2_654_435_761) >> 8).collect();
+    let turns: Vec<Turn> =
+        (0..64u32).map(|n| Turn { thread: n % 8 + 1, choice: n.wrapping_mul(40_503) }).collect();
+
+    let mut run = Run::default();
+    let (mut idle, mut inserted) = ((1..=8).collect::<Vec<u32>>(), 0);
+    let mut waiting = keys.iter();
+    while inserted < keys.len() {
+        for thread in idle.drain(..) {
+            if let Some(&key) = waiting.next() {
+                region.put(thread, key, key & 0xffff)?;
+            }
+        }
+        region.run_into(&mut run, &turns, u32::MAX)?;
+        let ended = turns.iter().zip(run.answers()).filter(|(_, a)| *a == Answer::Inserted);
+        idle.extend(ended.map(|(turn, _)| turn.thread));
+        inserted += idle.len();
+    }
+
+    keys.sort_unstable();
+    for key in keys {
+        region.take(3)?;
+        region.run_into(&mut run, [Turn { thread: 3, choice: 0 }; 5 * 11], u32::MAX)?;
+        let took = Answer::Took { key, tag: key & 0xffff };
+        assert!(run.answers().any(|answer| answer == took), "{key} did not come");
+    }
+    Ok(())
+}
