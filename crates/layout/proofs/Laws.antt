@@ -74,7 +74,7 @@ module _ (s : Shape) (ps : List ℕ) (r : InRange s) (a : atMost 3 ps ≡ true) 
   laid-fit k zero = tt
   laid-fit k (suc n) = (omega (arith, laid-most k), laid-fit (suc k) n)
 
-laid-long : (s : Shape) (ps : List ℕ) (k n : ℕ) → length (laidWords s ps k n) ≡ n
+pub laid-long : (s : Shape) (ps : List ℕ) (k n : ℕ) → length (laidWords s ps k n) ≡ n
 unfolding laidWords
 laid-long s ps k zero = refl
 laid-long s ps k (suc n) = ap suc (laid-long s ps (suc k) n)

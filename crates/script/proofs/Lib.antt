@@ -1,0 +1,11 @@
+-- What the crates above and the functions' proofs cite.
+mod Decimals
+pub mod Laws
+mod Lines
+pub mod NoLineLeftOut
+mod Readings
+mod Runs
+mod Setups
+mod Texts
+mod Whole
+pub mod WorkedExample

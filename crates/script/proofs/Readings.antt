@@ -1,0 +1,248 @@
+-- Reading the opening and a line: each way out of the functions, over plain variables; and a line that can be read takes ten bytes or more.
+-- Assumes nothing.
+use Prim.Native.Nat.{ℕ, suc, _+_, _^_, _≤_, _<_}
+use native.Mathlib.Omega.{arith}
+use mathlib.Core.Path.{_≡_, refl, sym, ap, subst, _∙_}
+use mathlib.Core.Bool.{Bool, true, false, not, _&&_}
+use mathlib.Core.List.{List}
+use mir.Syntax.{w64}
+use mir.Val.{Fits}
+use borrow.Author.Tests.{le-leb, lt-leb, eq-eqb, ne-eqb, not-true, not-false}
+use lib.Dec.{leb, eqb}
+use lib.ListN.{length}
+use Rattle.region.specs.Pick.{pick}
+use Rattle.script.specs.Text.{ascii, textAt}
+use Rattle.script.specs.Reading.{fieldThen, fieldsAt, headedOpening, lineHeading, numberThen, putLine, readLine, readOpening, shapeAt, shapeHeading, takeLine, turnLine}
+use Rattle.script.specs.declared.numbers.Number.{Number}
+use Rattle.script.specs.declared.numbers.Number.the-variants.{Read, Unreadable}
+use Rattle.script.specs.declared.reading.Fields.{Fields}
+use Rattle.script.specs.declared.reading.Fields.the-variants.{Read as AllRead, Unreadable as NotFields}
+use Rattle.script.specs.declared.reading.What.the-variants.{Put, Take, Turn}
+use Rattle.script.specs.declared.reading.Line.{Line}
+use Rattle.script.specs.declared.reading.Line.the-variants.{Read as LineRead, Unreadable as NotLine}
+use Rattle.script.specs.declared.reading.ScriptLine.{ScriptLine}
+use Rattle.script.specs.declared.reading.Opening.{Opening}
+use Rattle.script.specs.declared.reading.Opening.the-variants.{Read as OpeningRead, Unreadable as NotOpening}
+use Rattle.script.specs.declared.reading.Setup.{Setup}
+use Rattle.script.proofs.Decimals.{field-next, line-ends, space-ends}
+use Rattle.script.proofs.Texts.{text-room}
+
+-- The three fields.
+module _ (s : List ℕ) (at : ℕ) (r₁ : Number) (e₁ : r₁ ≡ numberThen s at 32) where
+  pub no-thread : r₁ ≡ Unreadable → NotFields ≡ fieldsAt s at
+  unfolding fieldsAt
+  no-thread g = rw (← e₁, g) refl
+
+  module _ (t at₁ : ℕ) (g₁ : r₁ ≡ Read t at₁) (r₂ : Number) (e₂ : r₂ ≡ numberThen s at₁ 32) where
+    pub no-a : r₂ ≡ Unreadable → NotFields ≡ fieldsAt s at
+    unfolding fieldsAt
+    no-a g = rw (← e₁, g₁, ← e₂, g) refl
+
+    module _ (a at₂ : ℕ) (g₂ : r₂ ≡ Read a at₂) (r₃ : Number) (e₃ : r₃ ≡ numberThen s at₂ 10) where
+      pub no-b : r₃ ≡ Unreadable → NotFields ≡ fieldsAt s at
+      unfolding fieldsAt
+      no-b g = rw (← e₁, g₁, ← e₂, g₂, ← e₃, g) refl
+
+      pub all-fields : (b at₃ : ℕ) → r₃ ≡ Read b at₃ → AllRead t a b at₃ ≡ fieldsAt s at
+      unfolding fieldsAt
+      all-fields b at₃ g₃ = rw (← e₁, g₁, ← e₂, g₂, ← e₃, g₃) refl
+
+-- What the fields mean.
+module _ (f : Fields) (t a b n : ℕ) (e : f ≡ AllRead t a b n) where
+  pub put-read : LineRead (record { what = Put (record { key = a; tag = b }); thread = t; next = n }) ≡ putLine f
+  put-read = rw e refl
+
+  pub take-a : (a ≡ 0 → ⊥) → NotLine ≡ takeLine f
+  unfolding pick
+  take-a h = rw (e, ne-eqb a 0 h) refl
+
+  pub take-b : a ≡ 0 → (b ≡ 0 → ⊥) → NotLine ≡ takeLine f
+  unfolding pick
+  take-b g h = rw (e, eq-eqb a 0 g, ne-eqb b 0 h) refl
+
+  pub take-read : a ≡ 0 → b ≡ 0 → LineRead (record { what = Take; thread = t; next = n }) ≡ takeLine f
+  unfolding pick
+  take-read g h = rw (e, eq-eqb a 0 g, eq-eqb b 0 h) refl
+
+  pub turn-b : (b ≡ 0 → ⊥) → NotLine ≡ turnLine f
+  unfolding pick
+  turn-b h = rw (e, ne-eqb b 0 h) refl
+
+  pub turn-read : b ≡ 0 → LineRead (record { what = Turn a; thread = t; next = n }) ≡ turnLine f
+  unfolding pick
+  turn-read h = rw (e, eq-eqb b 0 h) refl
+
+-- A line, by its first word.
+module _ (s : List ℕ) (at : ℕ) (q : Bool) (long : length s < 2 ^ 64) (g : q ≡ true) where
+  pub put-fits : q ≡ textAt s at (ascii "put ") → Fits w64 (at + 4)
+  put-fits e = record { fits = omega (arith, text-room s at (ascii "put ") (sym e ∙ g) (omega arith)) }
+
+  pub take-fits : q ≡ textAt s at (ascii "take ") → Fits w64 (at + 5)
+  take-fits e = record { fits = omega (arith, text-room s at (ascii "take ") (sym e ∙ g) (omega arith)) }
+
+  pub turn-fits : q ≡ textAt s at (ascii "turn ") → Fits w64 (at + 5)
+  turn-fits e = record { fits = omega (arith, text-room s at (ascii "turn ") (sym e ∙ g) (omega arith)) }
+
+module _ (s : List ℕ) (at : ℕ) (q₁ : Bool) (e₁ : q₁ ≡ textAt s at (ascii "put ")) where
+  pub put-line : q₁ ≡ true → (f : Fields) → f ≡ fieldsAt s (at + 4) → (r : Line) → r ≡ putLine f → r ≡ readLine s at
+  unfolding readLine pick
+  put-line g f ef r er = rw (← e₁, g, ← ef) er
+
+  module _ (g₁ : q₁ ≡ false) (q₂ : Bool) (e₂ : q₂ ≡ textAt s at (ascii "take ")) where
+    pub take-line : q₂ ≡ true → (f : Fields) → f ≡ fieldsAt s (at + 5) → (r : Line) → r ≡ takeLine f → r ≡ readLine s at
+    unfolding readLine pick
+    take-line g f ef r er = rw (← e₁, g₁, ← e₂, g, ← ef) er
+
+    module _ (g₂ : q₂ ≡ false) (q₃ : Bool) (e₃ : q₃ ≡ textAt s at (ascii "turn ")) where
+      pub turn-line : q₃ ≡ true → (f : Fields) → f ≡ fieldsAt s (at + 5) → (r : Line) → r ≡ turnLine f → r ≡ readLine s at
+      unfolding readLine pick
+      turn-line g f ef r er = rw (← e₁, g₁, ← e₂, g₂, ← e₃, g, ← ef) er
+
+      pub other-line : q₃ ≡ false → NotLine ≡ readLine s at
+      unfolding readLine pick
+      other-line g = rw (← e₁, g₁, ← e₂, g₂, ← e₃, g) refl
+
+-- A field that was read, where what it leads to is not the refusal.
+record FieldRead {A : Type 0} (r : Number) (f : ℕ → ℕ → A) (x : A) : Type 0 where
+  value : ℕ
+  after : ℕ
+  read : r ≡ Read value after
+  rest : f value after ≡ x
+
+field-read : {A : Type 0} (r : Number) (bad x : A) (f : ℕ → ℕ → A) → (bad ≡ x → ⊥) → fieldThen r bad f ≡ x → FieldRead r f x
+field-read Unreadable bad x f other e = absurd (other e)
+field-read (Read v n) bad x f other e = record { value = v; after = n; read = refl; rest = e }
+
+no-fields : {t a b n : ℕ} → NotFields ≡ AllRead t a b n → ⊥
+no-fields e = let z : _≡_ {A = ℕ} 0 1 = cc in omega arith
+
+no-line : {l : ScriptLine} → NotLine ≡ LineRead l → ⊥
+no-line e = let z : _≡_ {A = ℕ} 0 1 = cc in omega arith
+
+-- A line that can be read takes ten bytes or more.
+fields-next : (s : List ℕ) (at t a b n : ℕ) → fieldsAt s at ≡ AllRead t a b n → at + 6 ≤ n
+unfolding fieldsAt
+fields-next s at t a b n e =
+    let x : Fields = AllRead t a b n in
+    let r₁ = field-read (numberThen s at 32) NotFields x _ no-fields e in
+    let r₂ = field-read (numberThen s (r₁ .after) 32) NotFields x _ no-fields (r₁ .rest) in
+    let r₃ = field-read (numberThen s (r₂ .after) 10) NotFields x _ no-fields (r₂ .rest) in
+    let end : AllRead (r₁ .value) (r₂ .value) (r₃ .value) (r₃ .after) ≡ AllRead t a b n = r₃ .rest in
+    let last : r₃ .after ≡ n = cc in
+    omega (
+      arith,
+      field-next s at 32 (r₁ .value) (r₁ .after) space-ends (r₁ .read),
+      field-next s (r₁ .after) 32 (r₂ .value) (r₂ .after) space-ends (r₂ .read),
+      field-next s (r₂ .after) 10 (r₃ .value) (r₃ .after) line-ends (r₃ .read),
+    )
+
+-- the fields of a line that was read
+record OfFields (f : Fields) (l : ScriptLine) : Type 0 where
+  t : ℕ
+  a : ℕ
+  b : ℕ
+  read : f ≡ AllRead t a b (l .next)
+
+put-fields : (f : Fields) (l : ScriptLine) → putLine f ≡ LineRead l → OfFields f l
+put-fields NotFields l e = absurd (no-line e)
+put-fields (AllRead t a b n) l e =
+    let last : n ≡ l .next = cc in
+    record { t = t; a = a; b = b; read = ap (AllRead t a b) last }
+
+take-fields : (f : Fields) (l : ScriptLine) → takeLine f ≡ LineRead l → OfFields f l
+unfolding pick
+take-fields NotFields l e = absurd (no-line e)
+take-fields (AllRead t a b n) l e = ways (eqb a 0 && eqb b 0) e
+  where
+    ways : (q : Bool) → pick q (LineRead (record { what = Take; thread = t; next = n })) NotLine ≡ LineRead l → OfFields (AllRead t a b n) l
+    ways true e = let last : n ≡ l .next = cc in record { t = t; a = a; b = b; read = ap (AllRead t a b) last }
+    ways false e = absurd (no-line e)
+
+turn-fields : (f : Fields) (l : ScriptLine) → turnLine f ≡ LineRead l → OfFields f l
+unfolding pick
+turn-fields NotFields l e = absurd (no-line e)
+turn-fields (AllRead t a b n) l e = ways (eqb b 0) e
+  where
+    ways : (q : Bool) → pick q (LineRead (record { what = Turn a; thread = t; next = n })) NotLine ≡ LineRead l → OfFields (AllRead t a b n) l
+    ways true e = let last : n ≡ l .next = cc in record { t = t; a = a; b = b; read = ap (AllRead t a b) last }
+    ways false e = absurd (no-line e)
+
+fields-long : (s : List ℕ) (at : ℕ) (l : ScriptLine) → OfFields (fieldsAt s at) l → at + 6 ≤ l .next
+fields-long s at l o = fields-next s at (o .t) (o .a) (o .b) (l .next) (o .read)
+
+pub line-long : (s : List ℕ) (at : ℕ) (l : ScriptLine) → readLine s at ≡ LineRead l → at + 10 ≤ l .next
+unfolding readLine pick
+line-long s at l e = ways (textAt s at (ascii "put ")) (textAt s at (ascii "take ")) (textAt s at (ascii "turn ")) e
+  where
+    ways : (p q r : Bool)
+        → pick p (putLine (fieldsAt s (at + 4))) (pick q (takeLine (fieldsAt s (at + 5))) (pick r (turnLine (fieldsAt s (at + 5))) NotLine))
+        ≡ LineRead l → at + 10 ≤ l .next
+    ways true q r e = omega (arith, fields-long s (at + 4) l (put-fields (fieldsAt s (at + 4)) l e))
+    ways false true r e = omega (arith, fields-long s (at + 5) l (take-fields (fieldsAt s (at + 5)) l e))
+    ways false false true e = omega (arith, fields-long s (at + 5) l (turn-fields (fieldsAt s (at + 5)) l e))
+    ways false false false e = absurd (no-line e)
+
+-- The line of five numbers.
+module _ (s : List ℕ) (at : ℕ) (r₁ : Number) (e₁ : r₁ ≡ numberThen s at 32) where
+  pub no-depth : r₁ ≡ Unreadable → NotOpening ≡ shapeAt s at
+  unfolding shapeAt
+  no-depth g = rw (← e₁, g) refl
+
+  module _ (d at₁ : ℕ) (g₁ : r₁ ≡ Read d at₁) (r₂ : Number) (e₂ : r₂ ≡ numberThen s at₁ 32) where
+    pub no-cells : r₂ ≡ Unreadable → NotOpening ≡ shapeAt s at
+    unfolding shapeAt
+    no-cells g = rw (← e₁, g₁, ← e₂, g) refl
+
+    module _ (c at₂ : ℕ) (g₂ : r₂ ≡ Read c at₂) (r₃ : Number) (e₃ : r₃ ≡ numberThen s at₂ 32) where
+      pub no-threads : r₃ ≡ Unreadable → NotOpening ≡ shapeAt s at
+      unfolding shapeAt
+      no-threads g = rw (← e₁, g₁, ← e₂, g₂, ← e₃, g) refl
+
+      module _ (t at₃ : ℕ) (g₃ : r₃ ≡ Read t at₃) (r₄ : Number) (e₄ : r₄ ≡ numberThen s at₃ 32) where
+        pub no-threshold : r₄ ≡ Unreadable → NotOpening ≡ shapeAt s at
+        unfolding shapeAt
+        no-threshold g = rw (← e₁, g₁, ← e₂, g₂, ← e₃, g₃, ← e₄, g) refl
+
+        module _ (h at₄ : ℕ) (g₄ : r₄ ≡ Read h at₄) (r₅ : Number) (e₅ : r₅ ≡ numberThen s at₄ 10) where
+          pub no-permission : r₅ ≡ Unreadable → NotOpening ≡ shapeAt s at
+          unfolding shapeAt
+          no-permission g = rw (← e₁, g₁, ← e₂, g₂, ← e₃, g₃, ← e₄, g₄, ← e₅, g) refl
+
+          pub shape-read : (p at₅ : ℕ) → r₅ ≡ Read p at₅
+              → OpeningRead (record { shape = record { depth = d; cells = c; threads = t; threshold = h }; permission = p; next = at₅ })
+              ≡ shapeAt s at
+          unfolding shapeAt
+          shape-read p at₅ g₅ = rw (← e₁, g₁, ← e₂, g₂, ← e₃, g₃, ← e₄, g₄, ← e₅, g₅) refl
+
+-- The opening.
+pub too-long : (s : List ℕ) → 60000 < length s → NotOpening ≡ readOpening s
+unfolding readOpening pick
+too-long s h = rw (lt-leb (length s) 60000 h) refl
+
+module _ (s : List ℕ) (h : length s ≤ 60000) (q₁ : Bool) (e₁ : q₁ ≡ textAt s 0 shapeHeading) where
+  pub no-heading : not q₁ ≡ true → NotOpening ≡ readOpening s
+  unfolding readOpening pick
+  no-heading g = rw (le-leb (length s) 60000 h, ← e₁, not-true q₁ g) refl
+
+  module _ (g₁ : not q₁ ≡ false) (r : Opening) (e₂ : r ≡ shapeAt s 41) where
+    headed : headedOpening s r ≡ readOpening s
+    unfolding readOpening pick
+    headed = rw (le-leb (length s) 60000 h, ← e₁, not-false q₁ g₁, e₂) refl
+
+    pub no-shape : r ≡ NotOpening → NotOpening ≡ readOpening s
+    no-shape g = ap (headedOpening s) (sym g) ∙ headed
+
+    module _ (u : Setup) (g₂ : r ≡ OpeningRead u) (q₂ : Bool) (e₃ : q₂ ≡ textAt s (u .next) lineHeading) where
+      pub no-line-heading : not q₂ ≡ true → NotOpening ≡ readOpening s
+      unfolding pick
+      no-line-heading g = rw (g₂, ← e₃, not-true q₂ g) at headed
+
+      pub opening-read : not q₂ ≡ false
+          → OpeningRead (record { shape = u .shape; permission = u .permission; next = u .next + 16 }) ≡ readOpening s
+      unfolding pick
+      opening-read g = rw (g₂, ← e₃, not-false q₂ g) at headed
+
+pub opening-fits : (s : List ℕ) (u : Setup) (q : Bool) → q ≡ textAt s (u .next) lineHeading → not q ≡ false → length s < 2 ^ 64
+    → Fits w64 (u .next + 16)
+opening-fits s u q e g f =
+    record { fits = omega (arith, text-room s (u .next) lineHeading (sym e ∙ not-false q g) (omega arith)) }

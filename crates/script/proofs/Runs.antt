@@ -1,0 +1,210 @@
+-- The lines of a script: a line's call, and one turn of the loop over the lines. Assumes nothing.
+use Prim.Native.Nat.{ℕ, zero, suc, _+_, _-_, _*_, _≤_, _<_}
+use native.Mathlib.Nat.{add-zero}
+use native.Mathlib.Numerals.{add-one}
+use native.Mathlib.Omega.{arith}
+use mathlib.Core.Path.{_≡_, refl, sym, ap, subst, _∙_}
+use mathlib.Core.List.{List, [], _∷_, _++_, append-nil}
+use borrow.Author.Tests.{lt-ltb, le-ltb, eq-eqb, ne-eqb}
+use mir.Syntax.{w32}
+use mir.Val.{Fits}
+use lib.ListN.{length, length-append}
+use lib.Seq.{sets}
+use Rattle.region.specs.Answer.{done}
+use Rattle.region.specs.Pick.{pick}
+use Rattle.region.specs.declared.answer.Answer.{Answer}
+use Rattle.region.specs.declared.answer.Answer.the-variants.{Refused}
+use Rattle.region.specs.declared.record.Item.{Item}
+use Rattle.machine.specs.Begin.{PutBegun, TakeBegun}
+use Rattle.machine.specs.Turn.{TurnedOn}
+use Rattle.script.specs.Text.{Wrote}
+use Rattle.script.specs.Reading.{readLine}
+use Rattle.script.specs.Printing.{lineText}
+use Rattle.script.specs.Script.{Ran, after, begunOr, callBytes, callOutcome, linesFrom, nothingMore}
+use Rattle.script.specs.Promises.{CallMade, LinesRan}
+use Rattle.script.specs.declared.printing.Outcome.{Outcome}
+use Rattle.script.specs.declared.printing.Outcome.the-variants.{Begun, Answered, Unreadable}
+use Rattle.script.specs.declared.reading.What.{What}
+use Rattle.script.specs.declared.reading.What.the-variants.{Put, Take, Turn}
+use Rattle.script.specs.declared.reading.Line.{Line}
+use Rattle.script.specs.declared.reading.Line.the-variants.{Read as LineRead, Unreadable as NotLine}
+use Rattle.script.specs.declared.reading.ScriptLine.{ScriptLine}
+use Rattle.script.proofs.Lines.{line-most}
+use Rattle.script.proofs.Readings.{line-long}
+use Rattle.script.proofs.Texts.{sets-append, wrote-length}
+
+-- A line's call.
+pub begun : (n : ℕ) → n ≡ done → Begun ≡ begunOr n
+unfolding pick
+begun n e = rw (eq-eqb n done e) refl
+
+pub not-begun : (n : ℕ) → (n ≡ done → ⊥) → Answered (Refused n) ≡ begunOr n
+unfolding pick
+not-begun n h = rw (ne-eqb n done h) refl
+
+module _ (b b′ : List ℕ) (what : What) (t : ℕ) where
+  made : (p : What) → what ≡ p → (r : Outcome) → r ≡ callOutcome b p t → b′ ≡ callBytes b p t → CallMade b b′ what t r
+  made p e r er eb =
+      record {
+        outcome = er ∙ ap (λ w. callOutcome b w t) (sym e);
+        bytes = eb ∙ ap (λ w. callBytes b w t) (sym e);
+      }
+
+  pub put-made : (i : Item) → what ≡ Put i → (n : ℕ) → PutBegun b b′ t i n → (r : Outcome) → r ≡ begunOr n → CallMade b b′ what t r
+  put-made i e n p r er = made (Put i) e r (er ∙ ap begunOr (p .answer)) (p .bytes)
+
+  pub take-made : what ≡ Take → (n : ℕ) → TakeBegun b b′ t n → (r : Outcome) → r ≡ begunOr n → CallMade b b′ what t r
+  take-made e n p r er = made Take e r (er ∙ ap begunOr (p .answer)) (p .bytes)
+
+  pub turn-made : (c : ℕ) → what ≡ Turn c → (x : Answer) → TurnedOn b b′ t c x → CallMade b b′ what t (Answered x)
+  turn-made c e x p = made (Turn c) e (Answered x) (ap Answered (p .answer)) (p .bytes)
+
+-- The lines from a position on: none are left, one cannot be read, one is read.
+module _ (s : List ℕ) (at line : ℕ) (b : List ℕ) where
+  pub lines-over : (n : ℕ) → length s ≤ at → linesFrom n s at line b ≡ nothingMore b
+  unfolding linesFrom pick
+  lines-over zero h = refl
+  lines-over (suc n) h = rw (le-ltb at (length s) h) refl
+
+  module _ (n : ℕ) (h : at < length s) where
+    pub lines-unreadable : readLine s at ≡ NotLine → linesFrom (suc n) s at line b ≡ after (lineText line 0 Unreadable) (nothingMore b)
+    unfolding linesFrom pick
+    lines-unreadable e = rw (lt-ltb at (length s) h, e) refl
+
+    pub lines-read : (l : ScriptLine) → readLine s at ≡ LineRead l
+        → linesFrom (suc n) s at line b
+        ≡ after (lineText line (l .thread) (callOutcome b (l .what) (l .thread))) (linesFrom n s (l .next) (suc line) (callBytes b (l .what) (l .thread)))
+    unfolding linesFrom pick
+    lines-read l e = rw (lt-ltb at (length s) h, e) refl
+
+-- The loop: what is left from here gives the whole. Line n is the nth, so of as many lines as bytes that many are left.
+pub whole : List ℕ → ℕ → List ℕ → Ran
+whole s start b = linesFrom (length s) s start 1 b
+
+pub rest : List ℕ → ℕ → ℕ → List ℕ → Ran
+rest s at line b = linesFrom (suc (length s) - line) s at line b
+
+pub record Running (s : List ℕ) (start : ℕ) (b₀ out₀ : List ℕ) (a : ℕ) (b out : List ℕ) (at line k : ℕ) : Type 0 where
+  pub short : length s ≤ 60000
+  pub room : a + 330055 ≤ length out₀
+  pub same : length out ≡ length out₀
+  pub same-region : length b ≡ length b₀
+  pub first : 1 ≤ line
+  pub counted : 10 * line ≤ at + 10
+  pub used : k + 55 ≤ a + 55 * line
+  pub within : k ≤ length out
+  pub bytes : sets out k (rest s at line b .printed) ≡ sets out₀ a (whole s start b₀ .printed)
+  pub count : k + length (rest s at line b .printed) ≡ a + length (whole s start b₀ .printed)
+  pub region : rest s at line b .region ≡ whole s start b₀ .region
+
+pub run-start : (s : List ℕ) (start : ℕ) (b out : List ℕ) (a : ℕ) → (length s ≤ 60000) × (a + 330055 ≤ length out)
+    → Running s start b out a b out start 1 a
+unfolding whole rest
+run-start s start b out a h =
+    let e : suc (length s) - 1 ≡ length s = omega arith in
+    record {
+      short = h .0;
+      room = h .1;
+      same = refl;
+      same-region = refl;
+      first = omega arith;
+      counted = omega arith;
+      used = omega arith;
+      within = omega (arith, h .1);
+      bytes = ap (λ n. sets out a (linesFrom n s start 1 b .printed)) e;
+      count = ap (λ n. a + length (linesFrom n s start 1 b .printed)) e;
+      region = ap (λ n. linesFrom n s start 1 b .region) e;
+    }
+
+module _ {s : List ℕ} {start : ℕ} {b₀ out₀ : List ℕ} {a : ℕ} {b out : List ℕ} {at line k : ℕ} (e : Running s start b₀ out₀ a b out at line k) where
+  -- printing xs, after which `next` is left, keeps the whole
+  printed-more : (next : Ran) {out′ : List ℕ} {k′ : ℕ} (xs : List ℕ) → rest s at line b ≡ after xs next → Wrote out out′ k k′ xs
+      → sets out′ k′ (next .printed) ≡ sets out₀ a (whole s start b₀ .printed)
+  printed-more next {out′} {k′} xs er w =
+      ap (λ l. sets l k′ (next .printed)) (w .bytes)
+      ∙ ap (λ n. sets (sets out k xs) n (next .printed)) (w .next)
+      ∙ sym (sets-append xs (next .printed) out k)
+      ∙ ap (λ r. sets out k (r .printed)) (sym er)
+      ∙ e .bytes
+
+  counted-more : (next : Ran) {out′ : List ℕ} {k′ : ℕ} (xs : List ℕ) → rest s at line b ≡ after xs next → Wrote out out′ k k′ xs
+      → k′ + length (next .printed) ≡ a + length (whole s start b₀ .printed)
+  counted-more next xs er w =
+      omega (arith, e .count, ap (λ r. length (r .printed)) er, length-append xs (next .printed), w .next)
+
+  -- nothing is left
+  run-over : rest s at line b ≡ nothingMore b → LinesRan s start b₀ b out₀ out a k
+  unfolding whole
+  run-over er =
+      record {
+        output =
+            record {
+              next = omega (arith, e .count, ap (λ r. length (r .printed)) er);
+              within = omega (arith, e .within, e .same);
+              bytes = ap (λ r. sets out k (r .printed)) (sym er) ∙ e .bytes;
+            };
+        region = ap (λ r. r .region) (sym er) ∙ e .region;
+      }
+
+  pub run-end : length s ≤ at → LinesRan s start b₀ b out₀ out a k
+  unfolding rest
+  run-end h = run-over (lines-over s at line b (suc (length s) - line) h)
+
+  module _ (h : at < length s) where
+    pub line-room : k + 55 ≤ length out
+    line-room = omega (arith, e .used, e .counted, e .short, e .room, e .same)
+
+    pub line-fits : Fits w32 (line + 1)
+    line-fits = record { fits = omega (arith, e .counted, e .short) }
+
+    one-less : suc (length s) - line ≡ suc (suc (length s) - (line + 1))
+    one-less = omega (arith, e .counted)
+
+    module _ (r : Line) (er : r ≡ readLine s at) where
+      pub run-unreadable : r ≡ NotLine → {out′ : List ℕ} {k′ : ℕ} → Wrote out out′ k k′ (lineText line 0 Unreadable)
+          → LinesRan s start b₀ b out₀ out′ a k′
+      unfolding whole rest
+      run-unreadable g {out′} {k′} w =
+          let l : rest s at line b ≡ after (lineText line 0 Unreadable) (nothingMore b) =
+          ap (λ n. linesFrom n s at line b) one-less ∙ lines-unreadable s at line b (suc (length s) - (line + 1)) h (sym er ∙ g) in
+          record {
+            output =
+                record {
+                  next = omega (arith, counted-more (nothingMore b) (lineText line 0 Unreadable) l w);
+                  within = omega (arith, w .within, e .same);
+                  bytes = printed-more (nothingMore b) (lineText line 0 Unreadable) l w;
+                };
+            region = ap (λ r. r .region) (sym l) ∙ e .region;
+          }
+
+      module _ (l : ScriptLine) (g : r ≡ LineRead l) where
+        line-next : at + 10 ≤ l .next
+        line-next = line-long s at l (sym er ∙ g)
+
+        pub run-less : length s - l .next < length s - at
+        run-less = omega (arith, line-next)
+
+        pub run-more : {b′ : List ℕ} (o : Outcome) → CallMade b b′ (l .what) (l .thread) o → length b′ ≡ length b → {out′ : List ℕ} {k′ : ℕ}
+            → Wrote out out′ k k′ (lineText line (l .thread) o) → Running s start b₀ out₀ a b′ out′ (l .next) (line + 1) k′
+        unfolding rest
+        run-more {b′} o m z {out′} {k′} w =
+            let text : List ℕ = lineText line (l .thread) o in
+            let left : rest s at line b ≡ after text (rest s (l .next) (line + 1) b′) =
+            ap (λ n. linesFrom n s at line b) one-less
+            ∙ lines-read s at line b (suc (length s) - (line + 1)) h l (sym er ∙ g)
+            ∙ ap (λ x. after (lineText line (l .thread) x) (linesFrom (suc (length s) - (line + 1)) s (l .next) (suc line) (callBytes b (l .what) (l .thread)))) (sym (m .outcome))
+            ∙ ap (λ x. after text (linesFrom (suc (length s) - (line + 1)) s (l .next) (suc line) x)) (sym (m .bytes))
+            ∙ ap (λ n. after text (linesFrom (suc (length s) - (line + 1)) s (l .next) n b′)) (sym (add-one line)) in
+            record {
+              short = e .short;
+              room = e .room;
+              same = wrote-length w ∙ e .same;
+              same-region = z ∙ e .same-region;
+              first = omega arith;
+              counted = omega (arith, e .counted, line-next);
+              used = omega (arith, e .used, line-most line (l .thread) o, w .next);
+              within = omega (arith, w .within, wrote-length w);
+              bytes = printed-more (rest s (l .next) (line + 1) b′) text left w;
+              count = counted-more (rest s (l .next) (line + 1) b′) text left w;
+              region = ap (λ r. r .region) (sym left) ∙ e .region;
+            }

@@ -1,0 +1,73 @@
+-- The whole script: its heading, then what its opening leads to. Assumes nothing.
+use Prim.Native.Nat.{ℕ, _+_, _≤_}
+use native.Mathlib.Omega.{arith}
+use mathlib.Core.Path.{_≡_, refl, sym, ap, subst, _∙_}
+use mathlib.Core.Bool.{Bool, true, false, _&&_}
+use mathlib.Core.List.{List, [], _++_, append-nil}
+use borrow.Author.Tests.{leb-true}
+use lib.Dec.{leb}
+use lib.ListN.{length, drop}
+use lib.Seq.{sets-eq}
+use Rattle.region.specs.Pick.{pick}
+use Rattle.region.proofs.Shapes.{and-left}
+use Rattle.script.specs.Text.{Wrote, textAt}
+use Rattle.script.specs.Reading.{headedOpening, readOpening, shapeAt, shapeHeading}
+use Rattle.script.specs.Printing.{lineText}
+use Rattle.script.specs.Script.{Ran, after, nothingMore, openingThen, outputHeading, scriptRun, setupThen}
+use Rattle.script.specs.Promises.{ScriptRan, SetupRan}
+use Rattle.script.specs.declared.printing.Outcome.the-variants.{Unreadable}
+use Rattle.script.specs.declared.reading.Opening.{Opening}
+use Rattle.script.specs.declared.reading.Opening.the-variants.{Read as OpeningRead, Unreadable as NotOpening}
+use Rattle.script.specs.declared.reading.Setup.{Setup}
+use Rattle.script.proofs.Texts.{wrote-length, wrote-more}
+
+-- A script whose opening can be read is short enough.
+pub opening-short : (s : List ℕ) (u : Setup) (r : Opening) → r ≡ readOpening s → r ≡ OpeningRead u → length s ≤ 60000
+unfolding readOpening pick
+opening-short s u r e g =
+    ways (leb (length s) 60000 && textAt s 0 shapeHeading) refl (sym e ∙ g)
+  where
+    ways : (q : Bool) → leb (length s) 60000 && textAt s 0 shapeHeading ≡ q
+        → pick q (headedOpening s (shapeAt s (length shapeHeading))) NotOpening ≡ OpeningRead u → length s ≤ 60000
+    ways true f e = leb-true (length s) 60000 (and-left (leb (length s) 60000) (textAt s 0 shapeHeading) f)
+    ways false f e = let z : _≡_ {A = ℕ} 0 1 = cc in absurd (omega arith)
+
+-- What was written from the start on, with the rest as it was.
+written : (l l′ : List ℕ) (k : ℕ) (xs : List ℕ) → Wrote l l′ 0 k xs → l′ ≡ xs ++ drop k l
+written l l′ k xs w =
+    let n : 0 + length xs ≡ k = sym (w .next) in
+    w .bytes ∙ sets-eq xs l 0 (omega (arith, w .within)) ∙ ap (λ m. xs ++ drop m l) n
+
+module _ (s out out₁ g : List ℕ) (k : ℕ) (w : Wrote out out₁ 0 k outputHeading) (r : Opening) (e : r ≡ readOpening s) where
+  pub heading-room : length out ≡ 330082 → k + 330055 ≤ length out₁
+  heading-room h = omega (arith, w .next, wrote-length w)
+
+  run-is : (x : Ran) → openingThen s r ≡ x → scriptRun s ≡ after outputHeading x
+  unfolding scriptRun
+  run-is x ex = ap (λ o. after outputHeading (openingThen s o)) (sym e) ∙ ap (after outputHeading) ex
+
+  -- the whole from what the opening leads to
+  whole-ran : (x : Ran) → openingThen s r ≡ x → (out′ g′ : List ℕ) (m : ℕ) → Wrote out₁ out′ k m (x .printed)
+      → g′ ≡ x .region ++ drop (length (x .region)) g → ScriptRan s out out′ g g′ m
+  whole-ran x ex out′ g′ m v eg =
+      let all : scriptRun s ≡ after outputHeading x = run-is x ex in
+      let done : Wrote out out′ 0 m (scriptRun s .printed) = subst (λ y. Wrote out out′ 0 m (y .printed)) (sym all) (wrote-more w v) in
+      record {
+        count = omega (arith, done .next);
+        output = written out out′ m (scriptRun s .printed) done;
+        region = eg ∙ ap (λ y. y .region ++ drop (length (y .region)) g) (sym all);
+      }
+
+  pub not-opened : r ≡ NotOpening → (out′ : List ℕ) (m : ℕ) → Wrote out₁ out′ k m (lineText 0 0 Unreadable) → ScriptRan s out out′ g g m
+  not-opened n out′ m v =
+      whole-ran
+      (openingThen s NotOpening)
+      (ap (openingThen s) n)
+      out′
+      g
+      m
+      (subst (Wrote out₁ out′ k m) (sym (append-nil (lineText 0 0 Unreadable))) v)
+      refl
+
+  pub opened : (u : Setup) → r ≡ OpeningRead u → (out′ g′ : List ℕ) (m : ℕ) → SetupRan s u g g′ out₁ out′ k m → ScriptRan s out out′ g g′ m
+  opened u n out′ g′ m v = whole-ran (setupThen s u) (ap (openingThen s) n) out′ g′ m (v .output) (v .region)
