@@ -14,7 +14,7 @@ use Rattle.region.specs.Frame.{Within, frameOf}
 use Rattle.region.specs.Pick.{pick}
 use Rattle.region.specs.Place.{placeNumber}
 use Rattle.region.specs.Shape.{between}
-use Rattle.region.specs.Shared.{Shared, loadEntry, sharedIn, cellIn, setCellIn, threadIn, setThreadIn}
+use Rattle.region.specs.Shared.{loadEntry, sharedIn, cellIn, setCellIn, threadIn, setThreadIn}
 use Rattle.region.specs.Thread.{begunPut, begunTake, idleThread}
 use Rattle.region.specs.declared.answer.Answer.{Answer}
 use Rattle.region.specs.declared.answer.Answer.the-variants.{Idle, Refused}
@@ -23,7 +23,6 @@ use Rattle.region.specs.declared.place.Place.{Place}
 use Rattle.region.specs.declared.place.Place.the-variants.{Idle as AtRest}
 use Rattle.region.specs.declared.record.Cell.{Cell}
 use Rattle.region.specs.declared.record.Item.{Item}
-use Rattle.region.specs.declared.shape.Shape.{Shape}
 use Rattle.region.specs.declared.thread.Thread.{Thread}
 use Rattle.region.proofs.Views.{length-setCellIn}
 use Rattle.access.specs.Effect.{effectBytes}

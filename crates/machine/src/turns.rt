@@ -70,9 +70,9 @@ fn keep(f: Frame, b: &mut [u8], n: u32, plan: Plan) -> Answer
     answer
 }
 
-// A turn of thread n, with its choice of a leaf. Refused 3, 7, 11 in that order; a refused or idle turn changes no byte. Each
-// arm loads the record for itself and ends by itself: so the compiled code of a place reads and writes the fields that it
-// needs and no others.
+// A turn of thread n, with its choice of a leaf. Refused 3, 7, 11 in that order; a refused or idle turn changes no byte. The
+// first load is for the place alone. Each arm loads the record for itself and ends by itself, so that the compiled code of a
+// place reads and writes the fields that it needs and no others.
 pub fn turn(f: Frame, b: &mut [u8], n: u32, choice: u32) -> Answer
     requires { ⌜ Within f (length (now b)) ⌝ }
     ensures { λ r. ⌜ Turned f (now (b .entry)) (now (b .exit)) n choice r ⌝ }

@@ -1,5 +1,5 @@
 -- The number that a run answers tells its refusal, turns and accesses, since each keeps to its own bits. Assumes nothing.
-use Prim.Native.Nat.{ℕ, _/_, _%_, _≤_}
+use Prim.Native.Nat.{ℕ}
 use native.Mathlib.Omega.{arith}
 use Rattle.queue.specs.Calls.{PackAsked, packed, runAnswer}
 use Rattle.queue.specs.Theorems.{RunAnswerTellsAll, Tells}

@@ -19,6 +19,7 @@ itemOf k t = record { key = k; tag = t }
 abbrev pub packed : ℕ → ℕ → ℕ → ℕ
 packed refusal turns accesses = refusal + 65536 * turns + 4294967296 * accesses
 
+-- each keeps to its own bits
 pub record PackAsked (refusal turns accesses : ℕ) : Type 0 where
   pub known : refusal ≤ 7
   pub few-turns : turns ≤ 4096

@@ -1,10 +1,10 @@
 -- What a run that is not refused has, and how great its counts can be. Assumes nothing.
 use Prim.Native.Nat.{ℕ, zero, suc, _+_, _*_, _/_, _%_, _≤_}
 use native.Mathlib.Omega.{arith}
-use mathlib.Core.Path.{_≡_, refl, sym, ap, _∙_}
+use mathlib.Core.Path.{_≡_, refl, ap}
 use mathlib.Core.Bool.{Bool, true, false, _&&_}
 use mathlib.Core.List.{List, [], _∷_}
-use borrow.Author.Tests.{leb-true, eqb-true, eqb-false, ne-eqb}
+use borrow.Author.Tests.{leb-true, eqb-true}
 use lib.Dec.{leb, eqb}
 use lib.ListN.{length}
 use Rattle.region.specs.Answer.{done, shortAnswers, badSchedule, unreadable}
@@ -59,11 +59,11 @@ refusal-most b s l = go (readable b) (eqb (length s % 8) 0 && leb (length s / 8)
     go false w x = omega arith
 
 -- a run serves at most the turns of its list, and a turn makes at most one access
-pub record Counted (ts : List Turn) (r r′ : Served) : Type 0 where
-  pub turns : r′ .turns ≤ r .turns + length ts
-  pub accesses : r′ .accesses + r .turns ≤ r .accesses + r′ .turns
+record Counted (ts : List Turn) (r r′ : Served) : Type 0 where
+  turns : r′ .turns ≤ r .turns + length ts
+  accesses : r′ .accesses + r .turns ≤ r .accesses + r′ .turns
 
-pub counted : (f : Frame) (limit : ℕ) (ts : List Turn) (r : Served) → Counted ts r (serveAll f limit ts r)
+counted : (f : Frame) (limit : ℕ) (ts : List Turn) (r : Served) → Counted ts r (serveAll f limit ts r)
 unfolding serveAll serve pick
 counted f limit [] r = record { turns = omega arith; accesses = omega arith }
 counted f limit (t ∷ ts) r = go (eqb (r .accesses) limit) (counted f limit ts (serve f t r))

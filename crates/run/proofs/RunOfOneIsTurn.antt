@@ -2,7 +2,7 @@
 use Prim.Native.Nat.{ℕ, _/_, _≤_}
 use native.Mathlib.Nat.{zero-add}
 use native.Mathlib.Omega.{arith}
-use mathlib.Core.Path.{_≡_, refl, sym, ap, _∙_}
+use mathlib.Core.Path.{_≡_, refl, ap, _∙_}
 use mathlib.Core.Bool.{Bool, true, false}
 use mathlib.Core.List.{List}
 use borrow.Author.Tests.{le-leb, ne-eqb}
@@ -11,13 +11,12 @@ use lib.ListN.{length}
 use Rattle.words.specs.Word.{word, setWords}
 use Rattle.region.specs.Answer.{answerWords, done, unreadable}
 use Rattle.region.specs.Pick.{pick}
-use Rattle.region.specs.declared.answer.Answer.{Answer}
 use Rattle.region.specs.declared.answer.Answer.the-variants.{Refused}
 use Rattle.readable.specs.Readable.{readable}
 use Rattle.machine.specs.Begin.{frameIn}
 use Rattle.machine.specs.Run.{accessesOf, runRefusal, runResult, serve, serveAll, soFar, turnAt, turnsFrom}
 use Rattle.machine.specs.Turn.{turnAnswer, turnBytes, turnOnAnswer, turnOnBytes}
-use Rattle.run.specs.Theorems.{IsTurn, RunOfOneIsTurn}
+use Rattle.run.specs.Theorems.{RunOfOneIsTurn}
 
 by-refusal : {A : Type 0} (q : Bool) (x y : A) → pick (eqb (pick q done unreadable) done) x y ≡ pick q x y
 unfolding pick

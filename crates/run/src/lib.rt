@@ -54,16 +54,17 @@ fn serve(
     b: &mut [u8],
     schedule: &[u8],
     answers: &mut [u8],
-    turns: usize,
+    turns: u32,
     accesses: u32,
 ) -> u32
     requires { ⌜ TurnAsked f (length (now b)) (length (now schedule)) (length (now answers)) turns accesses ⌝ }
     ensures { λ r. ⌜ soFar (now (b .exit)) (now (answers .exit)) (turns + 1) r ≡ serve f (turnAt (now (schedule .entry)) turns) (soFar (now (b .entry)) (now (answers .entry)) turns accesses) ⌝ }
 {
-    let thread = words::load_word(schedule, 2 * turns);
-    let choice = words::load_word(schedule, 2 * turns + 1);
+    let k = turns as usize;
+    let thread = words::load_word(schedule, 2 * k);
+    let choice = words::load_word(schedule, 2 * k + 1);
     let answer = machine::turn(f, b, thread, choice);
-    store_answer(answers, turns, answer);
+    store_answer(answers, k, answer);
     accesses + accesses_of(answer)
 }
 
@@ -72,23 +73,17 @@ fn serve_all(f: Frame, b: &mut [u8], schedule: &[u8], limit: u32, answers: &mut 
     requires { ⌜ RunAsked f (length (now b)) (length (now schedule)) (length (now answers)) ⌝ }
     ensures { λ r. ⌜ soFar (now (b .exit)) (now (answers .exit)) (r .turns) (r .accesses) ≡ serveAll f limit (turnsFrom (now (schedule .entry)) 0 (length (now (schedule .entry)) / 8)) (soFar (now (b .entry)) (now (answers .entry)) 0 0) ⌝ }
 {
-    let count = schedule.len() / 8;
+    let count = (schedule.len() / 8) as u32;
     let mut turns = 0;
     let mut accesses = 0;
     while turns < count {
         if accesses == limit {
-            return Counts {
-                turns: turns as u32,
-                accesses,
-            };
+            return Counts { turns, accesses };
         }
         accesses = serve(f, b, schedule, answers, turns, accesses);
         turns += 1;
     }
-    Counts {
-        turns: turns as u32,
-        accesses,
-    }
+    Counts { turns, accesses }
 }
 
 // The refusal of a run, or done.

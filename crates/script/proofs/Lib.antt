@@ -1,6 +1,7 @@
 -- What the crates above and the functions' proofs cite.
 mod Decimals
 pub mod Laws
+mod Layouts
 mod Lines
 pub mod NoLineLeftOut
 mod Readings

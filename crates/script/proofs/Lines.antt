@@ -1,8 +1,8 @@
 -- A line of the output, field by field, and the room that it takes. Assumes nothing.
 use Prim.Native.Nat.{ℕ, _+_, _≤_}
 use native.Mathlib.Omega.{arith}
-use mathlib.Core.Path.{_≡_, ap, subst, sym}
-use mathlib.Core.List.{List, _++_}
+use mathlib.Core.Path.{_≡_, subst, sym}
+use mathlib.Core.List.{List}
 use lib.ListN.{length, length-append}
 use Rattle.region.specs.declared.answer.Answer.{Answer}
 use Rattle.region.specs.declared.answer.Answer.the-variants.{Moved, Idle, Inserted, Took, Empty, Refused}

@@ -1,14 +1,14 @@
 -- Reading the opening and a line: each way out of the functions, over plain variables; and a line that can be read takes ten bytes or more.
 -- Assumes nothing.
-use Prim.Native.Nat.{ℕ, suc, _+_, _^_, _≤_, _<_}
+use Prim.Native.Nat.{ℕ, _+_, _^_, _≤_, _<_}
 use native.Mathlib.Omega.{arith}
-use mathlib.Core.Path.{_≡_, refl, sym, ap, subst, _∙_}
+use mathlib.Core.Path.{_≡_, refl, sym, ap, _∙_}
 use mathlib.Core.Bool.{Bool, true, false, not, _&&_}
 use mathlib.Core.List.{List}
 use mir.Syntax.{w64}
 use mir.Val.{Fits}
 use borrow.Author.Tests.{le-leb, lt-leb, eq-eqb, ne-eqb, not-true, not-false}
-use lib.Dec.{leb, eqb}
+use lib.Dec.{eqb}
 use lib.ListN.{length}
 use Rattle.region.specs.Pick.{pick}
 use Rattle.script.specs.Text.{ascii, textAt}
@@ -17,6 +17,7 @@ use Rattle.script.specs.declared.numbers.Number.{Number}
 use Rattle.script.specs.declared.numbers.Number.the-variants.{Read, Unreadable}
 use Rattle.script.specs.declared.reading.Fields.{Fields}
 use Rattle.script.specs.declared.reading.Fields.the-variants.{Read as AllRead, Unreadable as NotFields}
+use Rattle.script.specs.declared.reading.What.{What}
 use Rattle.script.specs.declared.reading.What.the-variants.{Put, Take, Turn}
 use Rattle.script.specs.declared.reading.Line.{Line}
 use Rattle.script.specs.declared.reading.Line.the-variants.{Read as LineRead, Unreadable as NotLine}
@@ -143,29 +144,26 @@ record OfFields (f : Fields) (l : ScriptLine) : Type 0 where
   b : ℕ
   read : f ≡ AllRead t a b (l .next)
 
-put-fields : (f : Fields) (l : ScriptLine) → putLine f ≡ LineRead l → OfFields f l
-put-fields NotFields l e = absurd (no-line e)
-put-fields (AllRead t a b n) l e =
+fields-of : (q : Bool) (what : What) (t a b n : ℕ) (l : ScriptLine)
+    → pick q (LineRead (record { what = what; thread = t; next = n })) NotLine ≡ LineRead l → OfFields (AllRead t a b n) l
+unfolding pick
+fields-of true what t a b n l e =
     let last : n ≡ l .next = cc in
     record { t = t; a = a; b = b; read = ap (AllRead t a b) last }
+fields-of false what t a b n l e = absurd (no-line e)
+
+put-fields : (f : Fields) (l : ScriptLine) → putLine f ≡ LineRead l → OfFields f l
+unfolding pick
+put-fields NotFields l e = absurd (no-line e)
+put-fields (AllRead t a b n) l e = fields-of true (Put (record { key = a; tag = b })) t a b n l e
 
 take-fields : (f : Fields) (l : ScriptLine) → takeLine f ≡ LineRead l → OfFields f l
-unfolding pick
 take-fields NotFields l e = absurd (no-line e)
-take-fields (AllRead t a b n) l e = ways (eqb a 0 && eqb b 0) e
-  where
-    ways : (q : Bool) → pick q (LineRead (record { what = Take; thread = t; next = n })) NotLine ≡ LineRead l → OfFields (AllRead t a b n) l
-    ways true e = let last : n ≡ l .next = cc in record { t = t; a = a; b = b; read = ap (AllRead t a b) last }
-    ways false e = absurd (no-line e)
+take-fields (AllRead t a b n) l e = fields-of (eqb a 0 && eqb b 0) Take t a b n l e
 
 turn-fields : (f : Fields) (l : ScriptLine) → turnLine f ≡ LineRead l → OfFields f l
-unfolding pick
 turn-fields NotFields l e = absurd (no-line e)
-turn-fields (AllRead t a b n) l e = ways (eqb b 0) e
-  where
-    ways : (q : Bool) → pick q (LineRead (record { what = Turn a; thread = t; next = n })) NotLine ≡ LineRead l → OfFields (AllRead t a b n) l
-    ways true e = let last : n ≡ l .next = cc in record { t = t; a = a; b = b; read = ap (AllRead t a b) last }
-    ways false e = absurd (no-line e)
+turn-fields (AllRead t a b n) l e = fields-of (eqb b 0) (Turn a) t a b n l e
 
 fields-long : (s : List ℕ) (at : ℕ) (l : ScriptLine) → OfFields (fieldsAt s at) l → at + 6 ≤ l .next
 fields-long s at l o = fields-next s at (o .t) (o .a) (o .b) (l .next) (o .read)

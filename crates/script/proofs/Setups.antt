@@ -1,26 +1,22 @@
--- Laying out a script's region and running the whole script: each way out of the functions, over plain variables. Assumes nothing.
-use Prim.Native.Nat.{ℕ, zero, suc, _+_, _-_, _*_, _/_, _%_, _^_, _≤_, _<_}
-use native.Mathlib.Nat.{add-zero, add-suc, suc-add}
-use native.Mathlib.Numerals.{add-one, add-two, add-three}
+-- Laying out a script's region and running its lines there: each way out of the functions, over plain variables. Assumes nothing.
+use Prim.Native.Nat.{ℕ, zero, suc, _-_, _*_, _≤_, _<_}
 use native.Mathlib.Omega.{arith}
 use mathlib.Core.Path.{_≡_, refl, sym, ap, subst, _∙_}
-use mathlib.Core.Bool.{Bool, true, false, not, _&&_}
+use mathlib.Core.Bool.{Bool, true, false, not}
 use mathlib.Core.List.{List, [], _∷_, _++_, append-nil}
 use mir.Syntax.{w8, w64}
 use mir.Val.{Fits}
-use borrow.Author.Tests.{le-leb, lt-leb, eq-eqb, ne-eqb, eqb-true, leb-true, not-true, not-false}
+use borrow.Author.Tests.{le-leb, lt-leb, eq-eqb, ne-eqb, leb-true, not-true, not-false}
 use lib.Dec.{leb, eqb}
-use lib.ListN.{length, take, drop, set, replicate, length-append, length-replicate}
+use lib.ListN.{length, take, drop, replicate, length-replicate}
 use lib.Pow.{pow-mono}
-use lib.Seq.{sets, sets-eq, drop-at, drop-length, length-take-le, take-at}
-use Rattle.words.specs.Word.{setWord, setWords}
+use lib.Seq.{drop-at, length-take-le, take-at}
 use Rattle.region.specs.Answer.{done, badShape}
 use Rattle.region.specs.Pick.{pick}
 use Rattle.region.specs.Shape.{InRange, regionWords, shapeFits}
-use Rattle.region.specs.declared.shape.Shape.{Shape}
-use Rattle.region.proofs.Shapes.{and-both, and-left, and-not-left, and-not-right, and-right, in-range}
-use Rattle.layout.specs.Layout.{LaidOut, atMost, laidWords, layoutBytes, layoutRefusal, permissionsFit}
-use Rattle.layout.proofs.Laws.{laid-length as laid-exactly, laid-long, laid-permissions, laid-shape}
+use Rattle.region.proofs.Shapes.{and-both, and-left, and-not-left, and-not-right, in-range}
+use Rattle.layout.specs.Layout.{LaidOut, atMost, layoutBytes, layoutRefusal, permissionsFit}
+use Rattle.layout.proofs.Laws.{laid-length as laid-exactly, laid-permissions, laid-shape}
 use Rattle.region.specs.declared.answer.Answer.the-variants.{Refused}
 use Rattle.script.specs.Text.{Wrote}
 use Rattle.script.specs.Printing.{lineText}
@@ -28,41 +24,7 @@ use Rattle.script.specs.Script.{after, laidRegion, linesFrom, nothingMor
 use Rattle.script.specs.Promises.{LinesRan, SetUp, SetupRan}
 use Rattle.script.specs.declared.printing.Outcome.the-variants.{Answered}
 use Rattle.script.specs.declared.reading.Setup.{Setup}
-
--- A layout that is not refused leaves the same bytes whatever it found: stores of words are stores of their bytes.
-bytesOf : List ℕ → List ℕ
-bytesOf [] = []
-bytesOf (v ∷ vs) = v % 256 ∷ v / 256 % 256 ∷ v / 65536 % 256 ∷ v / 16777216 % 256 ∷ bytesOf vs
-
-bytes-long : (vs : List ℕ) → length (bytesOf vs) ≡ 4 * length vs
-unfolding bytesOf
-bytes-long [] = refl
-bytes-long (v ∷ vs) = omega (arith, bytes-long vs)
-
-words-bytes : (vs b : List ℕ) (k : ℕ) → setWords b k vs ≡ sets b (4 * k) (bytesOf vs)
-unfolding bytesOf setWord
-words-bytes [] b k = refl
-words-bytes (v ∷ vs) b k =
-    words-bytes vs (setWord b k v) (suc k)
-    ∙ rw (add-one, add-two, add-three) (ap (λ n. sets (set (set (set (set b (4 * k) (v % 256)) (suc (4 * k)) (v / 256 % 256)) (suc (suc (4 * k))) (v / 65536 % 256)) (suc (suc (suc (4 * k)))) (v / 16777216 % 256)) n (bytesOf vs)) (omega arith))
-
-words-all : (vs b : List ℕ) → length b ≡ 4 * length vs → setWords b 0 vs ≡ bytesOf vs
-words-all vs b h =
-    let n = bytes-long vs in
-    let whole : 0 + length (bytesOf vs) ≡ length b = omega arith in
-    words-bytes vs b 0
-    ∙ sets-eq (bytesOf vs) b 0 (omega arith)
-    ∙ ap (λ k. bytesOf vs ++ drop k b) whole
-    ∙ ap (λ l. bytesOf vs ++ l) (drop-length b)
-    ∙ append-nil (bytesOf vs)
-
-laid-all : (s : Shape) (ps b : List ℕ) → length b ≡ 4 * regionWords s → layoutRefusal s ps (4 * regionWords s) ≡ done
-    → layoutBytes s ps b ≡ bytesOf (laidWords s ps 0 (regionWords s))
-unfolding layoutBytes pick
-laid-all s ps b h e =
-    rw
-    (h, eq-eqb (layoutRefusal s ps (4 * regionWords s)) done e)
-    (words-all (laidWords s ps 0 (regionWords s)) b (h ∙ ap (λ n. 4 * n) (sym (laid-long s ps 0 (regionWords s)))))
+use Rattle.script.proofs.Layouts.{laid-all}
 
 -- The permissions, the same for every thread.
 most-same : (m p n : ℕ) → p ≤ m → atMost m (replicate n p) ≡ true

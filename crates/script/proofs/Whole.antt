@@ -3,7 +3,7 @@ use Prim.Native.Nat.{ℕ, _+_, _≤_}
 use native.Mathlib.Omega.{arith}
 use mathlib.Core.Path.{_≡_, refl, sym, ap, subst, _∙_}
 use mathlib.Core.Bool.{Bool, true, false, _&&_}
-use mathlib.Core.List.{List, [], _++_, append-nil}
+use mathlib.Core.List.{List, _++_, append-nil}
 use borrow.Author.Tests.{leb-true}
 use lib.Dec.{leb}
 use lib.ListN.{length, drop}
@@ -13,7 +13,7 @@ use Rattle.region.proofs.Shapes.{and-left}
 use Rattle.script.specs.Text.{Wrote, textAt}
 use Rattle.script.specs.Reading.{headedOpening, readOpening, shapeAt, shapeHeading}
 use Rattle.script.specs.Printing.{lineText}
-use Rattle.script.specs.Script.{Ran, after, nothingMore, openingThen, outputHeading, scriptRun, setupThen}
+use Rattle.script.specs.Script.{Ran, after, openingThen, outputHeading, scriptRun, setupThen}
 use Rattle.script.specs.Promises.{ScriptRan, SetupRan}
 use Rattle.script.specs.declared.printing.Outcome.the-variants.{Unreadable}
 use Rattle.script.specs.declared.reading.Opening.{Opening}

@@ -24,5 +24,5 @@ use Rattle.script.specs.Script.{laidRegion, linesFrom, scriptRun, setupR
 use Rattle.script.specs.Theorems.{WorkedExample}
 
 pub worked-example : WorkedExample
-unfolding word setWord frameOf digits level ancestor pick upd nodeAt setNodeAt cellAt setCellAt between shapeFits regionWords loadEntry storeEntry nodeIn setNodeIn cellIn setCellIn threadIn setThreadIn sharedIn threadAt setThreadAt goneIdle atPlace withItem withOwn withDepth withSearch withNode withAfter withResult withCopies withFirst withSecond withThird begunPut begunTake mending returned effectBytes freedBytes pushBytes itemLe itemLt valueOf plan moved onTo refused readNode sameNode isDirty isSpent updated isNode isLevel readDepth searchOn leafOf nextTries failedPlace leafFailed leafRead readLeaf ancestorRead middleLevel readAncestor growDepth targetPlace readTarget insertAt insertAtRoot readParent bothSame insertBelow atMost permissionsFit layoutRefusal cellWord threadWord laidWord laidWords layoutBytes triesMost waitingMost bounded threadReadable allRecords treeReadable fieldsReadable readable mayPut isIdle isItem putBusy putRefusal putBegun putBytes decide turnPlan turnAnswer carriedOut turnBytes turnOnAnswer turnOnBytes decimal decimals isDigit startsWith textAt digitsThen fieldsAt numberThen readLine readOpening shapeAt lineText numberText outcomeText laidRegion linesFrom scriptRun setupRefusal setupThen
+unfolding word setWord frameOf digits level ancestor pick nodeAt cellAt setCellAt between shapeFits regionWords loadEntry storeEntry nodeIn cellIn setCellIn threadIn setThreadIn sharedIn threadAt setThreadAt goneIdle atPlace withDepth withSearch withNode withCopies withFirst begunPut effectBytes pushBytes itemLe itemLt valueOf plan moved onTo readNode sameNode isSpent updated isNode isLevel readDepth searchOn leafOf leafRead readLeaf targetPlace readTarget insertAt insertAtRoot atMost permissionsFit layoutRefusal cellWord threadWord laidWord laidWords layoutBytes bounded threadReadable allRecords treeReadable fieldsReadable readable mayPut isIdle isItem putBusy putRefusal putBegun putBytes decide turnPlan turnAnswer carriedOut turnBytes turnOnAnswer turnOnBytes decimal decimals isDigit startsWith textAt digitsThen fieldsAt numberThen readLine readOpening shapeAt lineText numberText outcomeText laidRegion linesFrom scriptRun setupRefusal setupThen
 worked-example = refl

@@ -1,13 +1,12 @@
 -- What a script prints, and the region that it leaves, from its bytes (document 01, The script program): `scriptRun`, below all it is made of.
-use Prim.Native.Nat.{ℕ, zero, suc, _+_, _*_}
-use mathlib.Core.List.{List, [], _∷_, _++_}
+use Prim.Native.Nat.{ℕ, zero, suc, _*_}
+use mathlib.Core.List.{List, [], _++_}
 use lib.Dec.{leb, ltb, eqb}
 use lib.ListN.{length, replicate}
 use Rattle.region.specs.Answer.{done, badShape}
 use Rattle.region.specs.Pick.{pick}
 use Rattle.region.specs.Shape.{regionWords}
 use Rattle.region.specs.declared.answer.Answer.the-variants.{Refused}
-use Rattle.region.specs.declared.shape.Shape.{Shape}
 use Rattle.layout.specs.Layout.{layoutRefusal, layoutBytes}
 use Rattle.machine.specs.Begin.{putRefusal, putBytes, takeRefusal, takeBytes}
 use Rattle.machine.specs.Turn.{turnOnAnswer, turnOnBytes}

@@ -1,36 +1,27 @@
+-- `run::refusal` meets its contract: the first test that fails decides. Assumes nothing.
 use borrow.Author.Needs.{needs}
 use Rattle.run.proofs.refusal.Statement.{statement}
 use Rattle.run.proofs.refusal.Tie as tie
 use Rattle.run.proofs.Turns.{run-unreadable, part-of-turn, too-many, no-room, run-accepted}
-use Rattle.run.proofs.refusal.Reads as reads
-use Rattle.run.proofs.refusal.Lts as lts
-use Rattle.readable.proofs.is_readable.Reads as is-readable-reads
 
--- src/lib.rt:91:9
 is-readable-requires : tie.Need-is-readable-requires
 is-readable-requires c κs = search needs
 
--- src/lib.rt:92:9
 returns : tie.Need-returns
 returns c = search run-unreadable
 
--- src/lib.rt:96:9
 returns-2 : tie.Need-returns-2
 returns-2 c = search part-of-turn
 
--- src/lib.rt:99:9
 returns-3 : tie.Need-returns-3
 returns-3 c = search too-many
 
--- src/lib.rt:101:15
 mul-if4 : tie.Need-mul-if4
 mul-if4 c = search needs
 
--- src/lib.rt:102:9
 returns-4 : tie.Need-returns-4
 returns-4 c = search no-room
 
--- src/lib.rt:88:1
 returns-5 : tie.Need-returns-5
 returns-5 c = search run-accepted
 
