@@ -1,7 +1,7 @@
 -- The ways out of the functions, over plain variables. Assumes nothing.
 use Prim.Native.Nat.{ℕ, _+_, _≤_, _<_, _^_}
 use native.Mathlib.Omega.{arith}
-use mathlib.Core.Path.{_≡_, refl, sym, ap, _∙_}
+use mathlib.Core.Path.{_≡_, refl, sym, ap, subst, _∙_}
 use mathlib.Core.Bool.{Bool, true, false}
 use mathlib.Core.List.{List}
 use borrow.Author.Tests.{eq-eqb, ne-eqb, eqb-false}
@@ -17,7 +17,7 @@ use Rattle.region.specs.declared.record.Node.{Node}
 use Rattle.region.specs.declared.record.NodeCopy.{NodeCopy}
 use Rattle.region.specs.declared.shape.Shape.{Shape}
 use Rattle.region.proofs.Shapes.{below, from-least}
-use Rattle.access.specs.Effect.{effectBytes, freedBytes, pushBytes}
+use Rattle.access.specs.Effect.{Only, OnlyAsked, effectBytes, freedBytes, pushBytes}
 use Rattle.access.specs.Order.{topItem, valueOf}
 use Rattle.access.specs.Read.{isNode, isSpent, readNode, sameNode}
 use Rattle.access.specs.declared.effect.Effect.{Effect}
@@ -104,3 +104,20 @@ module _ (f : Frame) (b : List ℕ) where
     pub cleaned : (b′ : List ℕ) (n : ℕ) (v : Node) → e ≡ Clean n v → b′ ≡ setNodeIn f b n v → b′ ≡ effectBytes f b e
     unfolding effectBytes
     cleaned b′ n v p q = rw p q
+
+    -- an effect of another kind does not come
+    module _ (l k : ℕ) (h : OnlyAsked f l k e) where
+      pub no-growth : (d : ℕ) → e ≡ Grow d → (k ≡ 1 → ⊥) → b ≡ effectBytes f b e
+      no-growth d p n = absurd (n (subst (Only k) p (h .only)))
+
+      pub no-push : (n : ℕ) (v : Node) (c x : ℕ) → e ≡ Push n v c x → (k ≡ 2 → ⊥) → b ≡ effectBytes f b e
+      no-push n v c x p z = absurd (z (subst (Only k) p (h .only)))
+
+      pub no-pop : (v : Node) (c : ℕ) → e ≡ Pop v c → (k ≡ 3 → ⊥) → b ≡ effectBytes f b e
+      no-pop v c p z = absurd (z (subst (Only k) p (h .only)))
+
+      pub no-exchange : (n : ℕ) (v : Node) (c : ℕ) (w : Node) → e ≡ Exchange n v c w → (k ≡ 4 → ⊥) → b ≡ effectBytes f b e
+      no-exchange n v c w p z = absurd (z (subst (Only k) p (h .only)))
+
+      pub no-cleaning : (n : ℕ) (v : Node) → e ≡ Clean n v → (k ≡ 5 → ⊥) → b ≡ effectBytes f b e
+      no-cleaning n v p z = absurd (z (subst (Only k) p (h .only)))

@@ -1,8 +1,8 @@
-// What a turn does to shared memory, as a value, and the one function that carries it out on the lent bytes.
+// What a turn does to shared memory, as a value, and the functions that carry it out on the lent bytes.
 ghost use mathlib.Core.Path.{_≡_};
 ghost use lib.ListN.{length};
 ghost use Rattle.region.specs.Frame.{Within};
-ghost use Rattle.access.specs.Effect.{effectBytes, freedBytes, pushBytes};
+ghost use Rattle.access.specs.Effect.{OnlyAsked, effectBytes, freedBytes, pushBytes};
 use region::Cell;
 use region::Frame;
 use region::Item;
@@ -60,24 +60,66 @@ fn push(f: Frame, b: &mut [u8], node: u32, value: Node, cell: u32, next: u32)
     f.store_cell(b, cell, Cell { next, ..held });
 }
 
-// Carries an effect out on the bytes.
-pub fn carry_out(f: Frame, b: &mut [u8], effect: Effect)
-    requires { ⌜ Within f (length (now b)) ⌝ }
+// Carries an effect out that can be of one kind only, or nothing: short enough for the compiler to copy into each place.
+pub fn carry_growth(f: Frame, b: &mut [u8], effect: Effect)
+    requires { ⌜ OnlyAsked f (length (now b)) 1 effect ⌝ }
     ensures { λ r. ⌜ now (b .exit) ≡ effectBytes f (now (b .entry)) effect ⌝ }
 {
     match effect {
         Effect::Nothing => {}
         Effect::Grow(depth) => f.store_depth(b, depth),
+        Effect::Push { .. } => {}
+        Effect::Pop { .. } => {}
+        Effect::Exchange { .. } => {}
+        Effect::Clean { .. } => {}
+    }
+}
+
+pub fn carry_push(f: Frame, b: &mut [u8], effect: Effect)
+    requires { ⌜ OnlyAsked f (length (now b)) 2 effect ⌝ }
+    ensures { λ r. ⌜ now (b .exit) ≡ effectBytes f (now (b .entry)) effect ⌝ }
+{
+    match effect {
+        Effect::Nothing => {}
+        Effect::Grow(_) => {}
         Effect::Push {
             node,
             value,
             cell,
             next,
         } => push(f, b, node, value, cell, next),
+        Effect::Pop { .. } => {}
+        Effect::Exchange { .. } => {}
+        Effect::Clean { .. } => {}
+    }
+}
+
+pub fn carry_pop(f: Frame, b: &mut [u8], effect: Effect)
+    requires { ⌜ OnlyAsked f (length (now b)) 3 effect ⌝ }
+    ensures { λ r. ⌜ now (b .exit) ≡ effectBytes f (now (b .entry)) effect ⌝ }
+{
+    match effect {
+        Effect::Nothing => {}
+        Effect::Grow(_) => {}
+        Effect::Push { .. } => {}
         Effect::Pop { value, cell } => {
             f.store_node(b, 1, value);
             free_cell(f, b, cell);
         }
+        Effect::Exchange { .. } => {}
+        Effect::Clean { .. } => {}
+    }
+}
+
+pub fn carry_exchange(f: Frame, b: &mut [u8], effect: Effect)
+    requires { ⌜ OnlyAsked f (length (now b)) 4 effect ⌝ }
+    ensures { λ r. ⌜ now (b .exit) ≡ effectBytes f (now (b .entry)) effect ⌝ }
+{
+    match effect {
+        Effect::Nothing => {}
+        Effect::Grow(_) => {}
+        Effect::Push { .. } => {}
+        Effect::Pop { .. } => {}
         Effect::Exchange {
             node,
             value,
@@ -87,6 +129,20 @@ pub fn carry_out(f: Frame, b: &mut [u8], effect: Effect)
             f.store_node(b, node, value);
             f.store_node(b, child, below);
         }
+        Effect::Clean { .. } => {}
+    }
+}
+
+pub fn carry_cleaning(f: Frame, b: &mut [u8], effect: Effect)
+    requires { ⌜ OnlyAsked f (length (now b)) 5 effect ⌝ }
+    ensures { λ r. ⌜ now (b .exit) ≡ effectBytes f (now (b .entry)) effect ⌝ }
+{
+    match effect {
+        Effect::Nothing => {}
+        Effect::Grow(_) => {}
+        Effect::Push { .. } => {}
+        Effect::Pop { .. } => {}
+        Effect::Exchange { .. } => {}
         Effect::Clean { node, value } => f.store_node(b, node, value),
     }
 }

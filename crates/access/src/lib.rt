@@ -5,7 +5,11 @@ mod plan;
 mod read;
 
 pub use effect::Effect;
-pub use effect::carry_out;
+pub use effect::carry_cleaning;
+pub use effect::carry_exchange;
+pub use effect::carry_growth;
+pub use effect::carry_pop;
+pub use effect::carry_push;
 pub use order::item_le;
 pub use order::item_lt;
 pub use order::value_of;

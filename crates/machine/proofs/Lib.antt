@@ -1,4 +1,4 @@
--- What the crates above cite of `machine` beside its contracts, which places' plans have no effect, and the ways out of its functions.
+-- What the crates above cite of `machine` beside its contracts, which effects each place's plan can have, and the ways out of its functions.
 pub mod Laws
-mod NoEffect
+mod PlaceEffects
 mod Ways

@@ -16,7 +16,7 @@ use Rattle.region.specs.declared.place.Place.{Place}
 use Rattle.region.specs.declared.place.Place.the-variants.{Idle as AtRest, ReadDepth, ReadLeaf, ReadAncestor, GrowDepth, ReadTarget, InsertAtRoot, ReadParent, InsertBelow, ReadRoot, RemoveHead, MendReadNode, MendReadDepth, MendReadLeft, MendReadRight, MendSwap, MendClean}
 use Rattle.region.specs.declared.shape.Shape.{Shape}
 use Rattle.region.specs.declared.thread.Thread.{Thread}
-use Rattle.access.specs.Effect.{effectBytes}
+use Rattle.access.specs.Effect.{Only, effectBytes}
 use Rattle.access.specs.Plan.{plan, refused}
 use Rattle.access.specs.declared.effect.Effect.the-variants.{Nothing}
 use Rattle.access.specs.declared.plan.Plan.{Plan}
@@ -79,6 +79,11 @@ carriedOut f b t p = pick (staysPut (p .answer)) b (setThreadIn f (effectBytes f
 pub record Carried (f : Frame) (b b′ : List ℕ) (t : ℕ) (p : Plan) (r : Answer) : Type 0 where
   pub answer : r ≡ p .answer
   pub bytes : b′ ≡ carriedOut f b t p
+
+-- what carrying a plan out asks, within l bytes: its effect is of kind k, or nothing
+pub record EndAsked (f : Frame) (l k : ℕ) (p : Plan) : Type 0 where
+  pub within : Within f l
+  pub only : Only k (p .effect)
 
 -- what storing the record alone asks, within l bytes: the plan leaves shared memory as it is
 pub record KeepAsked (f : Frame) (l : ℕ) (p : Plan) : Type 0 where

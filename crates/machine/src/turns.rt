@@ -2,7 +2,7 @@
 ghost use mathlib.Core.Path.{_≡_};
 ghost use lib.ListN.{length};
 ghost use Rattle.region.specs.Frame.{Within};
-ghost use Rattle.machine.specs.Turn.{Carried, KeepAsked, Turned, TurnedOn, staysPut};
+ghost use Rattle.machine.specs.Turn.{Carried, EndAsked, KeepAsked, Turned, TurnedOn, staysPut};
 use access::Plan;
 use extract::read_root;
 use extract::remove_head;
@@ -40,9 +40,10 @@ fn stays_put(answer: Answer) -> bool
     }
 }
 
-// Carries a plan out, its effect and the thread's record; its answer.
-fn carry_out(f: Frame, b: &mut [u8], n: u32, plan: Plan) -> Answer
-    requires { ⌜ Within f (length (now b)) ⌝ }
+// Carries a plan out, its effect and the thread's record; its answer. One function for each kind of effect, which is short enough
+// for the compiler to copy into each place.
+fn end_growth(f: Frame, b: &mut [u8], n: u32, plan: Plan) -> Answer
+    requires { ⌜ EndAsked f (length (now b)) 1 plan ⌝ }
     ensures { λ r. ⌜ Carried f (now (b .entry)) (now (b .exit)) n plan r ⌝ }
 {
     let answer = plan.answer;
@@ -51,7 +52,67 @@ fn carry_out(f: Frame, b: &mut [u8], n: u32, plan: Plan) -> Answer
     }
     let effect = plan.effect;
     let record = plan.thread;
-    access::carry_out(f, b, effect);
+    access::carry_growth(f, b, effect);
+    f.store_thread(b, n, record);
+    answer
+}
+
+fn end_push(f: Frame, b: &mut [u8], n: u32, plan: Plan) -> Answer
+    requires { ⌜ EndAsked f (length (now b)) 2 plan ⌝ }
+    ensures { λ r. ⌜ Carried f (now (b .entry)) (now (b .exit)) n plan r ⌝ }
+{
+    let answer = plan.answer;
+    if stays_put(answer) {
+        return answer;
+    }
+    let effect = plan.effect;
+    let record = plan.thread;
+    access::carry_push(f, b, effect);
+    f.store_thread(b, n, record);
+    answer
+}
+
+fn end_pop(f: Frame, b: &mut [u8], n: u32, plan: Plan) -> Answer
+    requires { ⌜ EndAsked f (length (now b)) 3 plan ⌝ }
+    ensures { λ r. ⌜ Carried f (now (b .entry)) (now (b .exit)) n plan r ⌝ }
+{
+    let answer = plan.answer;
+    if stays_put(answer) {
+        return answer;
+    }
+    let effect = plan.effect;
+    let record = plan.thread;
+    access::carry_pop(f, b, effect);
+    f.store_thread(b, n, record);
+    answer
+}
+
+fn end_exchange(f: Frame, b: &mut [u8], n: u32, plan: Plan) -> Answer
+    requires { ⌜ EndAsked f (length (now b)) 4 plan ⌝ }
+    ensures { λ r. ⌜ Carried f (now (b .entry)) (now (b .exit)) n plan r ⌝ }
+{
+    let answer = plan.answer;
+    if stays_put(answer) {
+        return answer;
+    }
+    let effect = plan.effect;
+    let record = plan.thread;
+    access::carry_exchange(f, b, effect);
+    f.store_thread(b, n, record);
+    answer
+}
+
+fn end_cleaning(f: Frame, b: &mut [u8], n: u32, plan: Plan) -> Answer
+    requires { ⌜ EndAsked f (length (now b)) 5 plan ⌝ }
+    ensures { λ r. ⌜ Carried f (now (b .entry)) (now (b .exit)) n plan r ⌝ }
+{
+    let answer = plan.answer;
+    if stays_put(answer) {
+        return answer;
+    }
+    let effect = plan.effect;
+    let record = plan.thread;
+    access::carry_cleaning(f, b, effect);
     f.store_thread(b, n, record);
     answer
 }
@@ -88,19 +149,19 @@ pub fn turn(f: Frame, b: &mut [u8], n: u32, choice: u32) -> Answer
         Place::ReadDepth => keep(f, b, n, read_depth(f, b, f.load_thread(b, n))),
         Place::ReadLeaf => keep(f, b, n, read_leaf(f, b, f.load_thread(b, n), choice)),
         Place::ReadAncestor => keep(f, b, n, read_ancestor(f, b, f.load_thread(b, n))),
-        Place::GrowDepth => carry_out(f, b, n, grow_depth(f, b, f.load_thread(b, n))),
+        Place::GrowDepth => end_growth(f, b, n, grow_depth(f, b, f.load_thread(b, n))),
         Place::ReadTarget => keep(f, b, n, read_target(f, b, f.load_thread(b, n))),
-        Place::InsertAtRoot => carry_out(f, b, n, insert_at_root(f, b, f.load_thread(b, n))),
+        Place::InsertAtRoot => end_push(f, b, n, insert_at_root(f, b, f.load_thread(b, n))),
         Place::ReadParent => keep(f, b, n, read_parent(f, b, f.load_thread(b, n))),
-        Place::InsertBelow => carry_out(f, b, n, insert_below(f, b, f.load_thread(b, n))),
+        Place::InsertBelow => end_push(f, b, n, insert_below(f, b, f.load_thread(b, n))),
         Place::ReadRoot => keep(f, b, n, read_root(f, b, f.load_thread(b, n))),
-        Place::RemoveHead => carry_out(f, b, n, remove_head(f, b, f.load_thread(b, n))),
+        Place::RemoveHead => end_pop(f, b, n, remove_head(f, b, f.load_thread(b, n))),
         Place::MendReadNode(w) => keep(f, b, n, mend_read_node(f, b, f.load_thread(b, n), w)),
         Place::MendReadDepth(w) => keep(f, b, n, mend_read_depth(f, b, f.load_thread(b, n), w)),
         Place::MendReadLeft(w) => keep(f, b, n, mend_read_left(f, b, f.load_thread(b, n), w)),
         Place::MendReadRight(w) => keep(f, b, n, mend_read_right(f, b, f.load_thread(b, n), w)),
-        Place::MendSwap(w) => carry_out(f, b, n, mend_swap(f, b, f.load_thread(b, n), w)),
-        Place::MendClean(w) => carry_out(f, b, n, mend_clean(f, b, f.load_thread(b, n), w)),
+        Place::MendSwap(w) => end_exchange(f, b, n, mend_swap(f, b, f.load_thread(b, n), w)),
+        Place::MendClean(w) => end_cleaning(f, b, n, mend_clean(f, b, f.load_thread(b, n), w)),
     }
 }
 

@@ -3,7 +3,7 @@
 use borrow.Author.Needs.{needs}
 use Rattle.machine.proofs.turns.turn.Statement.{statement}
 use Rattle.machine.proofs.turns.turn.Tie as tie
-use Rattle.machine.proofs.NoEffect.{keeps-read-depth, keeps-read-leaf, keeps-read-ancestor, keeps-read-target, keeps-read-parent, keeps-read-root, keeps-mend-read-node, keeps-mend-read-depth, keeps-mend-read-left, keeps-mend-read-right}
+use Rattle.machine.proofs.PlaceEffects.{keeps-read-depth, keeps-read-leaf, keeps-read-ancestor, keeps-read-target, keeps-read-parent, keeps-read-root, keeps-mend-read-node, keeps-mend-read-depth, keeps-mend-read-left, keeps-mend-read-right, cleans, exchanges, grows, pops, pushes-at-root, pushes-below}
 use Rattle.machine.proofs.Ways.{no-turn, rested, turned}
 
 is-between-requires : tie.Need-is-between-requires
@@ -63,8 +63,8 @@ load-thread-requires-5 c κs = search needs
 grow-depth-requires : tie.Need-grow-depth-requires
 grow-depth-requires c κs = search needs
 
-carry-out-requires : tie.Need-carry-out-requires
-carry-out-requires c κs = c .before .before .before .before .before .before .before .before .before .before .before .before .pre
+end-growth-requires : tie.Need-end-growth-requires
+end-growth-requires c κs = search (grows, c .before .before .before .before .before .before .before .before .before .before .before .before .pre)
 
 enum-told-6 : tie.Need-enum-told-6
 enum-told-6 c = search needs
@@ -87,8 +87,8 @@ load-thread-requires-7 c κs = search needs
 insert-at-root-requires : tie.Need-insert-at-root-requires
 insert-at-root-requires c κs = search needs
 
-carry-out-requires-2 : tie.Need-carry-out-requires-2
-carry-out-requires-2 c κs = c .before .before .before .before .before .before .before .before .before .before .before .before .pre
+end-push-requires : tie.Need-end-push-requires
+end-push-requires c κs = search (pushes-at-root, c .before .before .before .before .before .before .before .before .before .before .before .before .pre)
 
 enum-told-8 : tie.Need-enum-told-8
 enum-told-8 c = search needs
@@ -111,8 +111,8 @@ load-thread-requires-9 c κs = search needs
 insert-below-requires : tie.Need-insert-below-requires
 insert-below-requires c κs = search needs
 
-carry-out-requires-3 : tie.Need-carry-out-requires-3
-carry-out-requires-3 c κs = c .before .before .before .before .before .before .before .before .before .before .before .before .pre
+end-push-requires-2 : tie.Need-end-push-requires-2
+end-push-requires-2 c κs = search (pushes-below, c .before .before .before .before .before .before .before .before .before .before .before .before .pre)
 
 enum-told-10 : tie.Need-enum-told-10
 enum-told-10 c = search needs
@@ -135,8 +135,8 @@ load-thread-requires-11 c κs = search needs
 remove-head-requires : tie.Need-remove-head-requires
 remove-head-requires c κs = search needs
 
-carry-out-requires-4 : tie.Need-carry-out-requires-4
-carry-out-requires-4 c κs = c .before .before .before .before .before .before .before .before .before .before .before .before .pre
+end-pop-requires : tie.Need-end-pop-requires
+end-pop-requires c κs = search (pops, c .before .before .before .before .before .before .before .before .before .before .before .before .pre)
 
 enum-known-place : tie.Need-enum-known-place
 enum-known-place c = search needs
@@ -195,8 +195,8 @@ load-thread-requires-16 c κs = search needs
 mend-swap-requires : tie.Need-mend-swap-requires
 mend-swap-requires c κs = search needs
 
-carry-out-requires-5 : tie.Need-carry-out-requires-5
-carry-out-requires-5 c κs = c .before .before .before .before .before .before .before .before .before .before .before .before .before .pre
+end-exchange-requires : tie.Need-end-exchange-requires
+end-exchange-requires c κs = search (exchanges, c .before .before .before .before .before .before .before .before .before .before .before .before .before .pre)
 
 enum-known-place-6 : tie.Need-enum-known-place-6
 enum-known-place-6 c = search needs
@@ -207,8 +207,8 @@ load-thread-requires-17 c κs = search needs
 mend-clean-requires : tie.Need-mend-clean-requires
 mend-clean-requires c κs = search needs
 
-carry-out-requires-6 : tie.Need-carry-out-requires-6
-carry-out-requires-6 c κs = c .before .before .before .before .before .before .before .before .before .before .before .before .before .pre
+end-cleaning-requires : tie.Need-end-cleaning-requires
+end-cleaning-requires c κs = search (cleans, c .before .before .before .before .before .before .before .before .before .before .before .before .before .pre)
 
 same-length : tie.Need-same-length
 same-length c = search needs
@@ -335,7 +335,7 @@ turn-spec =
     enum-told-5
     load-thread-requires-5
     grow-depth-requires
-    carry-out-requires
+    end-growth-requires
     enum-told-6
     load-thread-requires-6
     read-target-requires
@@ -343,7 +343,7 @@ turn-spec =
     enum-told-7
     load-thread-requires-7
     insert-at-root-requires
-    carry-out-requires-2
+    end-push-requires
     enum-told-8
     load-thread-requires-8
     read-parent-requires
@@ -351,7 +351,7 @@ turn-spec =
     enum-told-9
     load-thread-requires-9
     insert-below-requires
-    carry-out-requires-3
+    end-push-requires-2
     enum-told-10
     load-thread-requires-10
     read-root-requires
@@ -359,7 +359,7 @@ turn-spec =
     enum-told-11
     load-thread-requires-11
     remove-head-requires
-    carry-out-requires-4
+    end-pop-requires
     enum-known-place
     load-thread-requires-12
     mend-read-node-requires
@@ -379,11 +379,11 @@ turn-spec =
     enum-known-place-5
     load-thread-requires-16
     mend-swap-requires
-    carry-out-requires-5
+    end-exchange-requires
     enum-known-place-6
     load-thread-requires-17
     mend-clean-requires
-    carry-out-requires-6
+    end-cleaning-requires
     same-length
     returns-2
     same-length-2

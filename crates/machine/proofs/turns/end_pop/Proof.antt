@@ -1,7 +1,7 @@
--- `machine::turns::carry_out` meets its contract: nothing, or the effect and then the record. Assumes nothing.
+-- `machine::turns::end_pop` meets its contract: nothing, or the effect and then the record. Assumes nothing.
 use borrow.Author.Needs.{needs}
-use Rattle.machine.proofs.turns.carry_out.Statement.{statement}
-use Rattle.machine.proofs.turns.carry_out.Tie as tie
+use Rattle.machine.proofs.turns.end_pop.Statement.{statement}
+use Rattle.machine.proofs.turns.end_pop.Tie as tie
 use Rattle.machine.proofs.Ways.{stayed, carried}
 
 stays-put-requires : tie.Need-stays-put-requires
@@ -10,8 +10,8 @@ stays-put-requires c κs = search needs
 returns : tie.Need-returns
 returns c = search stayed
 
-carry-out-requires : tie.Need-carry-out-requires
-carry-out-requires c κs = search needs
+carry-pop-requires : tie.Need-carry-pop-requires
+carry-pop-requires c κs = search needs
 
 store-thread-requires : tie.Need-store-thread-requires
 store-thread-requires c κs = search needs
@@ -22,13 +22,13 @@ same-length c = search needs
 returns-2 : tie.Need-returns-2
 returns-2 c = search carried
 
-pub carry-out-spec : {M : Type 1} → statement M
-carry-out-spec =
+pub end-pop-spec : {M : Type 1} → statement M
+end-pop-spec =
     tie.close
     (tie.spec
     stays-put-requires
     returns
-    carry-out-requires
+    carry-pop-requires
     store-thread-requires
     same-length
     returns-2)

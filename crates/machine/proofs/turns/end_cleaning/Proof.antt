@@ -1,0 +1,34 @@
+-- `machine::turns::end_cleaning` meets its contract: nothing, or the effect and then the record. Assumes nothing.
+use borrow.Author.Needs.{needs}
+use Rattle.machine.proofs.turns.end_cleaning.Statement.{statement}
+use Rattle.machine.proofs.turns.end_cleaning.Tie as tie
+use Rattle.machine.proofs.Ways.{stayed, carried}
+
+stays-put-requires : tie.Need-stays-put-requires
+stays-put-requires c κs = search needs
+
+returns : tie.Need-returns
+returns c = search stayed
+
+carry-cleaning-requires : tie.Need-carry-cleaning-requires
+carry-cleaning-requires c κs = search needs
+
+store-thread-requires : tie.Need-store-thread-requires
+store-thread-requires c κs = search needs
+
+same-length : tie.Need-same-length
+same-length c = search needs
+
+returns-2 : tie.Need-returns-2
+returns-2 c = search carried
+
+pub end-cleaning-spec : {M : Type 1} → statement M
+end-cleaning-spec =
+    tie.close
+    (tie.spec
+    stays-put-requires
+    returns
+    carry-cleaning-requires
+    store-thread-requires
+    same-length
+    returns-2)
