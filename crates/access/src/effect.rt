@@ -60,7 +60,10 @@ fn push(f: Frame, b: &mut [u8], node: u32, value: Node, cell: u32, next: u32)
     f.store_cell(b, cell, Cell { next, ..held });
 }
 
-// Carries an effect out that can be of one kind only, or nothing: short enough for the compiler to copy into each place.
+// Carrying an effect out, one function for each kind, which is short enough for the compiler to copy into each place. Each asks
+// that the effect is nothing or of its kind; the arms of the other kinds do not come.
+
+// The present depth grows (I4).
 pub fn carry_growth(f: Frame, b: &mut [u8], effect: Effect)
     requires { ⌜ OnlyAsked f (length (now b)) 1 effect ⌝ }
     ensures { λ r. ⌜ now (b .exit) ≡ effectBytes f (now (b .entry)) effect ⌝ }
@@ -75,6 +78,7 @@ pub fn carry_growth(f: Frame, b: &mut [u8], effect: Effect)
     }
 }
 
+// A cell becomes the head of a node's list (I6, I8).
 pub fn carry_push(f: Frame, b: &mut [u8], effect: Effect)
     requires { ⌜ OnlyAsked f (length (now b)) 2 effect ⌝ }
     ensures { λ r. ⌜ now (b .exit) ≡ effectBytes f (now (b .entry)) effect ⌝ }
@@ -94,6 +98,7 @@ pub fn carry_push(f: Frame, b: &mut [u8], effect: Effect)
     }
 }
 
+// The root's head leaves its list, and its cell is freed (E2).
 pub fn carry_pop(f: Frame, b: &mut [u8], effect: Effect)
     requires { ⌜ OnlyAsked f (length (now b)) 3 effect ⌝ }
     ensures { λ r. ⌜ now (b .exit) ≡ effectBytes f (now (b .entry)) effect ⌝ }
@@ -111,6 +116,7 @@ pub fn carry_pop(f: Frame, b: &mut [u8], effect: Effect)
     }
 }
 
+// A node and its child exchange lists (M5).
 pub fn carry_exchange(f: Frame, b: &mut [u8], effect: Effect)
     requires { ⌜ OnlyAsked f (length (now b)) 4 effect ⌝ }
     ensures { λ r. ⌜ now (b .exit) ≡ effectBytes f (now (b .entry)) effect ⌝ }
@@ -133,6 +139,7 @@ pub fn carry_exchange(f: Frame, b: &mut [u8], effect: Effect)
     }
 }
 
+// A node becomes clean (M6).
 pub fn carry_cleaning(f: Frame, b: &mut [u8], effect: Effect)
     requires { ⌜ OnlyAsked f (length (now b)) 5 effect ⌝ }
     ensures { λ r. ⌜ now (b .exit) ≡ effectBytes f (now (b .entry)) effect ⌝ }

@@ -62,7 +62,7 @@ pub record Row : Type 0 where
   pub says : List Says
   pub depth : ℕ
 
--- the region that a row leaves
+-- the slice after the row's layout
 abbrev laid : Row → List ℕ
 laid r = layoutBytes (r .shape) (r .permissions) (replicate (r .bytes) 0)
 

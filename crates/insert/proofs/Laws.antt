@@ -1,7 +1,7 @@
 -- What I8's comparison tells: the node and its parent are as in their copies. Assumes nothing.
-use mathlib.Core.Path.{_≡_}
-use mathlib.Core.Bool.{true, _&&_}
 use Prim.Native.Nat.{_/_}
+use mathlib.Core.Path.{_≡_}
+use mathlib.Core.Bool.{true}
 use Rattle.region.specs.Shared.{Shared}
 use Rattle.region.specs.declared.thread.Thread.{Thread}
 use Rattle.region.proofs.Shapes.{and-left, and-right}
@@ -11,8 +11,8 @@ use Rattle.insert.specs.Insert.{bothSame}
 module _ (m : Shared) (t : Thread) (e : bothSame m t ≡ true) where
   pub node-same : sameNode (m .node (t .node)) (t .copies .first .node) ≡ true
   unfolding bothSame
-  node-same = and-left (sameNode (m .node (t .node)) (t .copies .first .node)) (sameNode (m .node (t .node / 2)) (t .copies .second .node)) e
+  node-same = and-left (sameNode (m .node (t .node)) (t .copies .first .node)) _ e
 
   pub parent-same : sameNode (m .node (t .node / 2)) (t .copies .second .node) ≡ true
   unfolding bothSame
-  parent-same = and-right (sameNode (m .node (t .node)) (t .copies .first .node)) (sameNode (m .node (t .node / 2)) (t .copies .second .node)) e
+  parent-same = and-right (sameNode (m .node (t .node)) (t .copies .first .node)) _ e

@@ -1,4 +1,4 @@
--- One turn and the two beginnings, on a region's bytes.
+-- One turn, the two beginnings and a run, on a region's bytes.
 pub mod Begin
 pub mod Run
 pub mod Turn

@@ -40,8 +40,10 @@ fn stays_put(answer: Answer) -> bool
     }
 }
 
-// Carries a plan out, its effect and the thread's record; its answer. One function for each kind of effect, which is short enough
-// for the compiler to copy into each place.
+// Carrying a plan out, its effect and the thread's record; its answer. One function for each kind of effect, which is short
+// enough for the compiler to copy into each place.
+
+// Ends a turn at I4.
 fn end_growth(f: Frame, b: &mut [u8], n: u32, plan: Plan) -> Answer
     requires { ⌜ EndAsked f (length (now b)) 1 plan ⌝ }
     ensures { λ r. ⌜ Carried f (now (b .entry)) (now (b .exit)) n plan r ⌝ }
@@ -57,6 +59,7 @@ fn end_growth(f: Frame, b: &mut [u8], n: u32, plan: Plan) -> Answer
     answer
 }
 
+// Ends a turn at I6 or I8.
 fn end_push(f: Frame, b: &mut [u8], n: u32, plan: Plan) -> Answer
     requires { ⌜ EndAsked f (length (now b)) 2 plan ⌝ }
     ensures { λ r. ⌜ Carried f (now (b .entry)) (now (b .exit)) n plan r ⌝ }
@@ -72,6 +75,7 @@ fn end_push(f: Frame, b: &mut [u8], n: u32, plan: Plan) -> Answer
     answer
 }
 
+// Ends a turn at E2.
 fn end_pop(f: Frame, b: &mut [u8], n: u32, plan: Plan) -> Answer
     requires { ⌜ EndAsked f (length (now b)) 3 plan ⌝ }
     ensures { λ r. ⌜ Carried f (now (b .entry)) (now (b .exit)) n plan r ⌝ }
@@ -87,6 +91,7 @@ fn end_pop(f: Frame, b: &mut [u8], n: u32, plan: Plan) -> Answer
     answer
 }
 
+// Ends a turn at M5.
 fn end_exchange(f: Frame, b: &mut [u8], n: u32, plan: Plan) -> Answer
     requires { ⌜ EndAsked f (length (now b)) 4 plan ⌝ }
     ensures { λ r. ⌜ Carried f (now (b .entry)) (now (b .exit)) n plan r ⌝ }
@@ -102,6 +107,7 @@ fn end_exchange(f: Frame, b: &mut [u8], n: u32, plan: Plan) -> Answer
     answer
 }
 
+// Ends a turn at M6.
 fn end_cleaning(f: Frame, b: &mut [u8], n: u32, plan: Plan) -> Answer
     requires { ⌜ EndAsked f (length (now b)) 5 plan ⌝ }
     ensures { λ r. ⌜ Carried f (now (b .entry)) (now (b .exit)) n plan r ⌝ }
@@ -117,7 +123,7 @@ fn end_cleaning(f: Frame, b: &mut [u8], n: u32, plan: Plan) -> Answer
     answer
 }
 
-// The same for a plan without effect: that of a place that only reads.
+// Ends a turn at a place that only reads: its plan has no effect.
 fn keep(f: Frame, b: &mut [u8], n: u32, plan: Plan) -> Answer
     requires { ⌜ KeepAsked f (length (now b)) plan ⌝ }
     ensures { λ r. ⌜ Carried f (now (b .entry)) (now (b .exit)) n plan r ⌝ }
