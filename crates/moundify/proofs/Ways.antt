@@ -262,18 +262,33 @@ module _ (s : Shape) (m : Shared) (t : Thread) (w c : ℕ) (q : NodeCopy) (r : P
     exchange-tried h k ek er =
         rw (ne-eqb (t .node) 0 n, ← ep, not-false p h) (er ∙ ap (exchangeAt t w c q) ek)
 
-module _ (s : Shape) (m : Shared) (t : Thread) (w : ℕ) (l k : Item) (el : l ≡ valueOf (t .copies .second))
-    (ek : k ≡ valueOf (t .copies .third)) (q : Bool) (eq : q ≡ itemLe l k) (r : Plan) where
-  children-test : q ≡ itemLe (valueOf (t .copies .second)) (valueOf (t .copies .third))
-  children-test = eq ∙ (λ i. itemLe (el i) (ek i))
+pick-both : {A B C : Type 0} (f : A → B → C) (q : Bool) (a b : A) (x y : B)
+    → f (pick q a b) (pick q x y) ≡ pick q (f a x) (f b y)
+unfolding pick
+pick-both f true a b x y = refl
+pick-both f false a b x y = refl
 
-  pub left-swaps : q ≡ true → r ≡ exchangeWith s m t w (2 * t .node) (t .copies .second) → r ≡ mendSwap s m t w
-  unfolding mendSwap pick
-  left-swaps h er = rw (← children-test, h) er
+-- the left child, or the right
+module _ {A : Type 0} (left : Bool) (x y r : A) where
+  pub on-the-left : left ≡ true → r ≡ x → r ≡ pick left x y
+  unfolding pick
+  on-the-left h er = rw h er
 
-  pub right-swaps : q ≡ false → r ≡ exchangeWith s m t w (2 * t .node + 1) (t .copies .third) → r ≡ mendSwap s m t w
-  unfolding mendSwap pick
-  right-swaps h er = rw (← children-test, h) er
+  pub on-the-right : left ≡ false → r ≡ y → r ≡ pick left x y
+  unfolding pick
+  on-the-right h er = rw h er
+
+pub child-swaps : (s : Shape) (m : Shared) (t : Thread) (w : ℕ) (l k : Item) → l ≡ valueOf (t .copies .second)
+    → k ≡ valueOf (t .copies .third) → (q : Bool) → q ≡ itemLe l k → (c : ℕ) → c ≡ pick q (2 * t .node) (2 * t .node + 1)
+    → (x : NodeCopy) → x ≡ pick q (t .copies .second) (t .copies .third) → (r : Plan) → r ≡ exchangeWith s m t w c x
+    → r ≡ mendSwap s m t w
+unfolding mendSwap
+child-swaps s m t w l k el ek q eq c ec x ex r er =
+    er
+    ∙ (λ i. exchangeWith s m t w (ec i) (ex i))
+    ∙ pick-both (exchangeWith s m t w) q (2 * t .node) (2 * t .node + 1) (t .copies .second) (t .copies .third)
+    ∙ ap (λ p. pick p (exchangeWith s m t w (2 * t .node) (t .copies .second)) (exchangeWith s m t w (2 * t .node + 1) (t .copies .third)))
+    (eq ∙ (λ i. itemLe (el i) (ek i)))
 
 -- M6.
 module _ (t : Thread) (w : ℕ) (p : Bool) (ep : p ≡ isSpent (t .copies .first .node)) (r : Plan) where

@@ -1,8 +1,9 @@
 // The six places of mending, M1 to M6: each decides a plan and changes nothing itself. w are the levels that wait.
 ghost use mathlib.Core.Path.{_≡_};
-ghost use Prim.Native.Nat.{_≤_};
+ghost use Prim.Native.Nat.{_+_, _*_, _≤_};
 ghost use lib.ListN.{length};
 ghost use Rattle.region.specs.Frame.{Within};
+ghost use Rattle.region.specs.Pick.{pick};
 ghost use Rattle.region.specs.Shared.{sharedIn};
 ghost use Rattle.moundify.specs.Moundify.{ChildrenAsked, bothSame, childLess, childrenRead, cleanAt, depthRead, exchangeAt, exchangeWith, marked, mendClean, mendReadDepth, mendReadLeft, mendReadNode, mendReadRight, mendSwap, returnAnswer, returning};
 use access::Effect;
@@ -196,18 +197,37 @@ fn exchange_with(f: Frame, b: &[u8], t: Thread, w: u32, child: usize, q: NodeCop
     exchange_at(t, w, c, q, both_same(f, b, t, c, q))
 }
 
-// M5
+// The number of the left or the right child.
+fn child_of(node: u32, left: bool) -> usize
+    ensures { λ r. ⌜ r ≡ pick left (2 * node) (2 * node + 1) ⌝ }
+{
+    let first = 2 * (node as usize);
+    if left {
+        return first;
+    }
+    first + 1
+}
+
+// The left or the right child as it was copied.
+fn child_copy(t: Thread, left: bool) -> NodeCopy
+    ensures { λ r. ⌜ r ≡ pick left (t .copies .second) (t .copies .third) ⌝ }
+{
+    if left {
+        return t.copies.second;
+    }
+    t.copies.third
+}
+
+// M5. The child is chosen first, so that the exchange stands here once and is compiled into its place.
 pub fn mend_swap(f: Frame, b: &[u8], t: Thread, w: u32) -> Plan
     requires { ⌜ Within f (length (now b)) ⌝ }
     ensures { λ r. ⌜ r ≡ mendSwap (f .shape) (sharedIn f (now (b .entry))) t w ⌝ }
 {
-    let node = t.node as usize;
-    let left = t.copies.second;
-    let right = t.copies.third;
-    if access::item_le(access::value_of(left), access::value_of(right)) {
-        return exchange_with(f, b, t, w, 2 * node, left);
-    }
-    exchange_with(f, b, t, w, 2 * node + 1, right)
+    let left = access::item_le(
+        access::value_of(t.copies.second),
+        access::value_of(t.copies.third),
+    );
+    exchange_with(f, b, t, w, child_of(t.node, left), child_copy(t, left))
 }
 
 // The node becomes clean, where it is as it was copied.
