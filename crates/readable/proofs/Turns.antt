@@ -22,8 +22,8 @@ use Rattle.region.specs.declared.frame.Frame.{Frame}
 use Rattle.region.specs.declared.shape.Shape.{Shape}
 use Rattle.region.proofs.Frames.{frame-within}
 use Rattle.region.proofs.Levels.{level-most}
-use Rattle.region.proofs.Shapes.{in-range, shifted, words-most}
-use Rattle.readable.specs.Readable.{FieldsAsked, ThreadAsked, ThreadsAsked, anyWord, nodeMaxima, cellMaxima, threadMaxima, triesMost, waitingMost, bounded, threadReadable, allRecords, treeReadable, fieldsReadable, shapeIn, readable, checkAnswer}
+use Rattle.region.proofs.Shapes.{and-left, and-right, in-range, shifted, words-most}
+use Rattle.readable.specs.Readable.{FieldsAsked, ThreadAsked, ThreadsAsked, anyWord, nodeMaxima, cellMaxima, threadMaxima, triesMost, waitingMost, bounded, threadReadable, allRecords, treeReadable, fieldsReadable, shapeIn, isWhole, readable, checkAnswer}
 
 free : (b : List ℕ) (k : ℕ) → Bytes b → leb (word b k) anyWord ≡ true
 free b k h = le-leb (word b k) anyWord (omega (arith, word-fits b k h))
@@ -270,12 +270,12 @@ module _ (s : Shape) (b : List ℕ) (g : FieldsAsked s (length b)) (f : Frame) (
         (← tree-test, not-false t n)
         (er ∙ ap (λ x. allRecords (threadReadable s) 33 b (x .threads) (s .threads)) ef)
 
--- The whole region: the first test that fails decides.
-pub too-short : (b : List ℕ) → length b < 16 → false ≡ readable b
-unfolding readable regionWords
+-- The shape and the length: the first test that fails decides.
+pub too-short : (b : List ℕ) → length b < 16 → false ≡ isWhole b
+unfolding regionWords
 too-short b h = go (shapeFits (shapeIn b)) (eqb (length b) (4 * regionWords (shapeIn b))) refl
   where
-    go : (q m : Bool) → eqb (length b) (4 * regionWords (shapeIn b)) ≡ m → false ≡ q && m && fieldsReadable (shapeIn b) b
+    go : (q m : Bool) → eqb (length b) (4 * regionWords (shapeIn b)) ≡ m → false ≡ q && m
     go true true e = absurd (let l = eqb-true (length b) (4 * regionWords (shapeIn b)) e in omega arith)
     go true false e = refl
     go false m e = refl
@@ -284,8 +284,7 @@ module _ (b : List ℕ) (s : Shape) (es : s ≡ shapeIn b) (q : Bool) (eq : q �
   shape-test : q ≡ shapeFits (shapeIn b)
   shape-test = eq ∙ ap shapeFits es
 
-  pub shape-bad : not q ≡ true → false ≡ readable b
-  unfolding readable
+  pub shape-bad : not q ≡ true → false ≡ isWhole b
   shape-bad n = rw (← shape-test, not-true q n) refl
 
   module _ (gq : not q ≡ false) where
@@ -296,28 +295,50 @@ module _ (b : List ℕ) (s : Shape) (es : s ≡ shapeIn b) (q : Bool) (eq : q �
       pub few-words : w ≤ 20547
       few-words = omega (arith, words-most s shape-in-range)
 
-      count-test : w ≡ regionWords (shapeIn b)
-      count-test = ew ∙ ap regionWords es
+      pub length-decides : eqb (length b) (4 * w) ≡ isWhole b
+      length-decides = rw (← shape-test, not-false q gq) (ap (λ k. eqb (length b) (4 * k)) (ew ∙ ap regionWords es))
 
-      pub length-bad : (length b ≡ 4 * w → ⊥) → false ≡ readable b
-      unfolding readable
-      length-bad n = rw (← shape-test, not-false q gq, ← count-test, ne-eqb (length b) (4 * w) n) refl
+-- The whole region: the shape and the length, then the fields.
+module _ (b : List ℕ) (q : Bool) (eq : q ≡ isWhole b) where
+  pub not-whole : not q ≡ true → false ≡ readable b
+  unfolding readable
+  not-whole n = rw (← eq, not-true q n) refl
 
-      module _ (el : length b ≡ 4 * w) where
-        pub fields-asked : FieldsAsked s (length b)
-        fields-asked = record { shape = shape-in-range; exact = el ∙ ap (λ k. 4 * k) ew }
+  pub check-not-whole : not q ≡ true → 7 ≡ checkAnswer b
+  unfolding checkAnswer pick
+  check-not-whole n = rw (← not-whole n) refl
 
-        pub readable-rest : (r : Bool) → r ≡ fieldsReadable s b → r ≡ readable b
+  module _ (gq : not q ≡ false) where
+    whole : isWhole b ≡ true
+    whole = sym eq ∙ not-false q gq
+
+    exact-length : length b ≡ 4 * regionWords (shapeIn b)
+    exact-length =
+        eqb-true (length b) (4 * regionWords (shapeIn b))
+        (and-right (shapeFits (shapeIn b)) (eqb (length b) (4 * regionWords (shapeIn b))) whole)
+
+    pub long-enough : 16 ≤ length b
+    unfolding regionWords
+    long-enough = omega (arith, exact-length)
+
+    module _ (s : Shape) (es : s ≡ shapeIn b) where
+      pub fields-asked : FieldsAsked s (length b)
+      fields-asked =
+          subst (λ x. FieldsAsked x (length b)) (sym es)
+          (record {
+            shape = in-range (shapeIn b) (and-left (shapeFits (shapeIn b)) (eqb (length b) (4 * regionWords (shapeIn b))) whole);
+            exact = exact-length;
+          })
+
+      module _ (r : Bool) (er : r ≡ fieldsReadable s b) where
+        pub readable-rest : r ≡ readable b
         unfolding readable
-        readable-rest r er =
-            rw
-            (← shape-test, not-false q gq, ← count-test, eq-eqb (length b) (4 * w) el)
-            (er ∙ ap (λ x. fieldsReadable x b) es)
+        readable-rest = rw (← eq, not-false q gq) (er ∙ ap (λ x. fieldsReadable x b) es)
 
-pub check-yes : (b : List ℕ) (q : Bool) → q ≡ readable b → q ≡ true → 0 ≡ checkAnswer b
-unfolding checkAnswer pick
-check-yes b q e t = rw (← e, t) refl
+        pub check-yes : r ≡ true → 0 ≡ checkAnswer b
+        unfolding checkAnswer pick
+        check-yes t = rw (← readable-rest, t) refl
 
-pub check-no : (b : List ℕ) (q : Bool) → q ≡ readable b → q ≡ false → 7 ≡ checkAnswer b
-unfolding checkAnswer pick
-check-no b q e t = rw (← e, t) refl
+        pub check-no : r ≡ false → 7 ≡ checkAnswer b
+        unfolding checkAnswer pick
+        check-no t = rw (← readable-rest, t) refl

@@ -104,10 +104,13 @@ unfolding treeReadable threadReadable allRecords frameOf
 fieldsReadable s b =
     treeReadable (frameOf s) b && allRecords (threadReadable s) threadSize b (frameOf s .threads) (s .threads)
 
+-- the first words are a shape, and the bytes are as many as it asks
+abbrev pub isWhole : List ℕ → Bool
+isWhole b = shapeFits (shapeIn b) && eqb (length b) (4 * regionWords (shapeIn b))
+
 unfoldable pub readable : List ℕ → Bool
 unfolding fieldsReadable
-readable b =
-    shapeFits (shapeIn b) && eqb (length b) (4 * regionWords (shapeIn b)) && fieldsReadable (shapeIn b) b
+readable b = isWhole b && fieldsReadable (shapeIn b) b
 
 -- "Check answers yes or 7."
 unfoldable pub checkAnswer : List ℕ → ℕ

@@ -5,7 +5,7 @@ ghost use lib.ListN.{length};
 ghost use mathlib.Core.Bool.{true};
 ghost use Rattle.region.specs.Frame.{Within, frameOf};
 ghost use Rattle.region.specs.Shape.{InRange};
-ghost use Rattle.readable.specs.Readable.{FieldsAsked, ThreadAsked, ThreadsAsked, bounded, nodeMaxima, cellMaxima, threadMaxima, triesMost, waitingMost, threadReadable, allRecords, treeReadable, shapeIn, fieldsReadable, readable, checkAnswer};
+ghost use Rattle.readable.specs.Readable.{FieldsAsked, ThreadAsked, ThreadsAsked, bounded, nodeMaxima, cellMaxima, threadMaxima, triesMost, waitingMost, threadReadable, allRecords, treeReadable, shapeIn, fieldsReadable, isWhole, readable, checkAnswer};
 use region::DONE;
 use region::Frame;
 use region::Shape;
@@ -251,9 +251,9 @@ pub fn frame_of(b: &[u8]) -> Frame
     Frame::of(load_shape(b))
 }
 
-// Whether the region is readable.
-pub fn is_readable(b: &[u8]) -> bool
-    ensures { λ r. ⌜ r ≡ readable (now (b .entry)) ⌝ }
+// Whether the first words are a shape, and the bytes are as many as it asks.
+fn is_whole(b: &[u8]) -> bool
+    ensures { λ r. ⌜ r ≡ isWhole (now (b .entry)) ⌝ }
 {
     if b.len() < 16 {
         return false;
@@ -262,15 +262,29 @@ pub fn is_readable(b: &[u8]) -> bool
     if !shape.fits() {
         return false;
     }
-    if b.len() != 4 * shape.word_count() {
-        return false;
-    }
-    fields_readable(b, shape)
+    b.len() == 4 * shape.word_count()
 }
 
-// 0 if the region is readable, else 7.
+// Whether the region is readable.
+pub fn is_readable(b: &[u8]) -> bool
+    ensures { λ r. ⌜ r ≡ readable (now (b .entry)) ⌝ }
+{
+    if !is_whole(b) {
+        return false;
+    }
+    fields_readable(b, load_shape(b))
+}
+
+// 0 if the region is readable, else 7. The first test stands here too, so that it is made without a call.
 pub fn check_region(b: &[u8]) -> u32
     ensures { λ r. ⌜ r ≡ checkAnswer (now (b .entry)) ⌝ }
 {
-    if is_readable(b) { DONE } else { UNREADABLE }
+    if !is_whole(b) {
+        return UNREADABLE;
+    }
+    if fields_readable(b, load_shape(b)) {
+        DONE
+    } else {
+        UNREADABLE
+    }
 }

@@ -1,17 +1,34 @@
--- `readable::check_region` meets its contract. Assumes nothing.
+-- `readable::check_region` meets its contract: as `is_readable`, in numbers. Assumes nothing.
 use borrow.Author.Needs.{needs}
 use Rattle.readable.proofs.check_region.Statement.{statement}
 use Rattle.readable.proofs.check_region.Tie as tie
-use Rattle.readable.proofs.Turns.{check-yes, check-no}
+use Rattle.readable.proofs.Turns.{check-not-whole, long-enough, fields-asked, check-yes, check-no}
 
-is-readable-requires : tie.Need-is-readable-requires
-is-readable-requires c κs = search needs
+is-whole-requires : tie.Need-is-whole-requires
+is-whole-requires c κs = search needs
 
 returns : tie.Need-returns
-returns c = search check-yes
+returns c = search check-not-whole
+
+load-shape-requires : tie.Need-load-shape-requires
+load-shape-requires c κs = search long-enough
+
+fields-readable-requires : tie.Need-fields-readable-requires
+fields-readable-requires c κs = search fields-asked
 
 returns-2 : tie.Need-returns-2
-returns-2 c = search check-no
+returns-2 c = search check-yes
+
+returns-3 : tie.Need-returns-3
+returns-3 c = search check-no
 
 pub check-region-spec : {M : Type 1} → statement M
-check-region-spec = tie.close (tie.spec is-readable-requires returns returns-2)
+check-region-spec =
+    tie.close
+    (tie.spec
+    is-whole-requires
+    returns
+    load-shape-requires
+    fields-readable-requires
+    returns-2
+    returns-3)
