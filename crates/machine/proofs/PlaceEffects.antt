@@ -1,122 +1,139 @@
--- Which effects a place's plan can have, whichever way it ends: none where it only reads, else none or one of its kind. Assumes nothing.
+-- How a place's plan can end, whichever way it goes: its effect is none where it only reads, else none or one of its kind, and its thread
+-- rests where the operation ends. Assumes nothing.
 use Prim.Native.Nat.{ℕ}
-use mathlib.Core.Path.{_≡_, refl, sym, ap, subst, _∙_}
-use mathlib.Core.Bool.{Bool, true, false}
+use mathlib.Core.Path.{_≡_, refl, sym, subst, _∙_}
+use mathlib.Core.Bool.{Bool, true, false, not, _&&_, true≢false}
+use lib.Dec.{eqb}
 use Rattle.region.specs.Frame.{Within}
 use Rattle.region.specs.Pick.{pick}
 use Rattle.region.specs.Shared.{Shared}
+use Rattle.region.specs.Thread.{goneIdle, returned, withDepth}
 use Rattle.region.specs.declared.answer.Answer.{Answer}
+use Rattle.region.specs.declared.answer.Answer.the-variants.{Moved, Took, Refused}
 use Rattle.region.specs.declared.frame.Frame.{Frame}
 use Rattle.region.specs.declared.shape.Shape.{Shape}
 use Rattle.region.specs.declared.thread.Thread.{Thread}
 use Rattle.access.specs.Effect.{Only}
 use Rattle.access.specs.Plan.{plan, moved, onTo, refused}
-use Rattle.access.specs.declared.effect.Effect.the-variants.{Nothing}
+use Rattle.access.specs.declared.effect.Effect.{Effect}
+use Rattle.access.specs.declared.effect.Effect.the-variants.{Nothing, Clean}
 use Rattle.access.specs.declared.plan.Plan.{Plan}
 use Rattle.insert.specs.Insert.{ancestorRead, growDepth, insertAt, insertAtRoot, insertBelow, leafFailed, leafRead, readAncestor, readDepth, readLeaf, readParent, readTarget, searchOn}
 use Rattle.extract.specs.Extract.{headRemoved, readRoot, removeHead, rootRead}
-use Rattle.moundify.specs.Moundify.{childrenRead, cleanAt, depthRead, exchangeAt, exchangeWith, mendClean, mendSwap, mendReadDepth, mendReadLeft, mendReadNode, mendReadRight, returning}
-use Rattle.machine.specs.Turn.{EndAsked, KeepAsked}
+use Rattle.moundify.specs.Moundify.{childrenRead, cleanAt, depthRead, exchangeAt, exchangeWith, mendClean, mendSwap, mendReadDepth, mendReadLeft, mendReadNode, mendReadRight, returnAnswer, returning}
+use Rattle.machine.specs.Turn.{EndAsked, Rests, ends}
 
-record Still (p : Plan) : Type 0 where
-  effect : p .effect ≡ Nothing
-
-none : {t : Thread} {a : Answer} → Still (record { effect = Nothing; thread = t; answer = a })
-none = record { effect = refl }
-
-either : (q : Bool) {a b : Plan} → Still a → Still b → Still (pick q a b)
-unfolding pick
-either true h k = h
-either false h k = k
-
-module _ (f : Frame) (l : ℕ) (within : Within f l) (m : Shared) (t : Thread) (p : Plan) where
-  asked : {q : Plan} → p ≡ q → Still q → KeepAsked f l p
-  asked e h = record { within = within; still = ap (λ x. x .effect) e ∙ h .effect }
-
-  pub keeps-read-depth : p ≡ readDepth m t → KeepAsked f l p
-  unfolding readDepth plan moved onTo
-  keeps-read-depth e = asked e none
-
-  pub keeps-read-leaf : (s : Shape) (c : ℕ) → p ≡ readLeaf s m t c → KeepAsked f l p
-  unfolding readLeaf leafRead leafFailed searchOn plan moved onTo refused
-  keeps-read-leaf s c e = asked e (either _ (either _ (either _ none (either _ none none)) none) none)
-
-  pub keeps-read-ancestor : p ≡ readAncestor m t → KeepAsked f l p
-  unfolding readAncestor ancestorRead searchOn plan moved onTo refused
-  keeps-read-ancestor e = asked e (either _ none (either _ none (either _ none none)))
-
-  pub keeps-read-target : p ≡ readTarget m t → KeepAsked f l p
-  unfolding readTarget plan moved onTo refused
-  keeps-read-target e = asked e (either _ none none)
-
-  pub keeps-read-parent : p ≡ readParent m t → KeepAsked f l p
-  unfolding readParent plan moved onTo refused
-  keeps-read-parent e = asked e (either _ none none)
-
-  pub keeps-read-root : p ≡ readRoot m t → KeepAsked f l p
-  unfolding readRoot rootRead plan moved onTo
-  keeps-read-root e = asked e (either _ none (either _ none none))
-
-  module _ (w : ℕ) where
-    pub keeps-mend-read-node : p ≡ mendReadNode m t w → KeepAsked f l p
-    unfolding mendReadNode plan moved onTo refused
-    keeps-mend-read-node e = asked e (either _ none none)
-
-    pub keeps-mend-read-depth : p ≡ mendReadDepth m t w → KeepAsked f l p
-    unfolding mendReadDepth depthRead returning plan moved onTo refused
-    keeps-mend-read-depth e = asked e (either _ none (either _ (either _ none none) none))
-
-    pub keeps-mend-read-left : (s : Shape) → p ≡ mendReadLeft s m t w → KeepAsked f l p
-    unfolding mendReadLeft plan moved onTo refused
-    keeps-mend-read-left s e = asked e (either _ none none)
-
-    pub keeps-mend-read-right : (s : Shape) → p ≡ mendReadRight s m t w → KeepAsked f l p
-    unfolding mendReadRight childrenRead plan moved onTo refused
-    keeps-mend-read-right s e =
-        asked e (either _ (either _ none (either _ none (either _ none none))) none)
-
--- The updating places.
-record Kind (k : ℕ) (p : Plan) : Type 0 where
+record Ends (k : ℕ) (p : Plan) : Type 0 where
   only : Only k (p .effect)
+  rests : Rests (p .answer) (p .thread)
 
-quiet : {k : ℕ} {t : Thread} {a : Answer} → Kind k (record { effect = Nothing; thread = t; answer = a })
-quiet = record { only = tt }
+on : {k : ℕ} {e : Effect} {t : Thread} {a : Answer} → Only k e → ends a ≡ false
+    → Ends k (record { effect = e; thread = t; answer = a })
+on h n = record { only = h; rests = λ e. absurd (true≢false (sym e ∙ n)) }
 
-one : {k : ℕ} {p : Plan} → Only k (p .effect) → Kind k p
-one h = record { only = h }
+-- on to another place, refused, or at rest
+goes : {k : ℕ} {t : Thread} → Ends k (record { effect = Nothing; thread = t; answer = Moved })
+goes = on tt refl
 
-or : {k : ℕ} (q : Bool) {a b : Plan} → Kind k a → Kind k b → Kind k (pick q a b)
+stops : {k : ℕ} {t : Thread} {n : ℕ} → Ends k (record { effect = Nothing; thread = t; answer = Refused n })
+stops = on tt refl
+
+at-rest : {k : ℕ} {e : Effect} (t : Thread) {a : Answer} → Only k e
+    → Ends k (record { effect = e; thread = goneIdle t; answer = a })
+unfolding goneIdle
+at-rest t h = record { only = h; rests = λ e. refl }
+
+or : {k : ℕ} (q : Bool) {a b : Plan} → Ends k a → Ends k b → Ends k (pick q a b)
 unfolding pick
 or true h g = h
 or false h g = g
 
-module _ (f : Frame) (l : ℕ) (within : Within f l) (m : Shared) (t : Thread) (p : Plan) where
-  ends : {k : ℕ} {q : Plan} → p ≡ q → Kind k q → EndAsked f l k p
-  ends {k} {q} e h = record { within = within; only = subst (λ x. Only k (x .effect)) (sym e) (h .only) }
+back : {k : ℕ} (e : Effect) (t : Thread) (w : ℕ) → Only k e → Ends k (returning e t w)
+unfolding returning returnAnswer returned plan pick goneIdle
+back e t w h = record { only = h; rests = go (eqb w 0) (eqb (t .after) 0) _ _ }
+  where
+    go : (p q : Bool) (x y : Thread)
+        → Rests (pick (p && not q) (Took (t .result)) Moved) (pick p (pick q x (goneIdle t)) y)
+    go true true x y e = absurd (true≢false (sym e))
+    go true false x y e = refl
+    go false q x y e = absurd (true≢false (sym e))
 
+module _ (f : Frame) (l : ℕ) (within : Within f l) (m : Shared) (t : Thread) (p : Plan) where
+  asked : {k : ℕ} {q : Plan} → p ≡ q → Ends k q → EndAsked f l k p
+  asked {k} {q} e h =
+      record {
+        within = within;
+        only = subst (λ x. Only k (x .effect)) (sym e) (h .only);
+        rests = subst (λ x. Rests (x .answer) (x .thread)) (sym e) (h .rests);
+      }
+
+  -- The places that only read.
+  pub keeps-read-depth : p ≡ readDepth m t → EndAsked f l 0 p
+  unfolding readDepth plan moved onTo
+  keeps-read-depth e = asked e goes
+
+  pub keeps-read-leaf : (s : Shape) (c : ℕ) → p ≡ readLeaf s m t c → EndAsked f l 0 p
+  unfolding readLeaf leafRead leafFailed searchOn plan moved onTo refused
+  keeps-read-leaf s c e = asked e (or _ (or _ (or _ goes (or _ goes stops)) goes) stops)
+
+  pub keeps-read-ancestor : p ≡ readAncestor m t → EndAsked f l 0 p
+  unfolding readAncestor ancestorRead searchOn plan moved onTo refused
+  keeps-read-ancestor e = asked e (or _ stops (or _ goes (or _ goes stops)))
+
+  pub keeps-read-target : p ≡ readTarget m t → EndAsked f l 0 p
+  unfolding readTarget plan moved onTo refused
+  keeps-read-target e = asked e (or _ stops goes)
+
+  pub keeps-read-parent : p ≡ readParent m t → EndAsked f l 0 p
+  unfolding readParent plan moved onTo refused
+  keeps-read-parent e = asked e (or _ stops goes)
+
+  pub keeps-read-root : p ≡ readRoot m t → EndAsked f l 0 p
+  unfolding readRoot rootRead plan moved onTo
+  keeps-read-root e = asked e (or _ goes (or _ (at-rest t tt) goes))
+
+  module _ (w : ℕ) where
+    pub keeps-mend-read-node : p ≡ mendReadNode m t w → EndAsked f l 0 p
+    unfolding mendReadNode plan moved onTo refused
+    keeps-mend-read-node e = asked e (or _ stops goes)
+
+    pub keeps-mend-read-depth : p ≡ mendReadDepth m t w → EndAsked f l 0 p
+    unfolding mendReadDepth depthRead plan moved onTo refused
+    keeps-mend-read-depth e = asked e (or _ stops (or _ (or _ goes goes) (back Nothing (withDepth t (m .depth)) w tt)))
+
+    pub keeps-mend-read-left : (s : Shape) → p ≡ mendReadLeft s m t w → EndAsked f l 0 p
+    unfolding mendReadLeft plan moved onTo refused
+    keeps-mend-read-left s e = asked e (or _ goes stops)
+
+    pub keeps-mend-read-right : (s : Shape) → p ≡ mendReadRight s m t w → EndAsked f l 0 p
+    unfolding mendReadRight childrenRead plan moved onTo refused
+    keeps-mend-read-right s e =
+        asked e (or _ (or _ goes (or _ goes (or _ goes goes))) stops)
+
+  -- The updating places.
   pub grows : (s : Shape) → p ≡ growDepth s m t → EndAsked f l 1 p
   unfolding growDepth plan moved onTo refused
-  grows s e = ends e (or _ (or _ (one refl) quiet) quiet)
+  grows s e = asked e (or _ (or _ (on refl refl) goes) stops)
 
   pub pushes-at-root : p ≡ insertAtRoot m t → EndAsked f l 2 p
   unfolding insertAtRoot insertAt plan moved onTo refused
-  pushes-at-root e = ends e (or _ quiet (or _ (or _ quiet (one refl)) quiet))
+  pushes-at-root e = asked e (or _ stops (or _ (or _ stops (at-rest t refl)) goes))
 
   pub pushes-below : p ≡ insertBelow m t → EndAsked f l 2 p
   unfolding insertBelow insertAt plan moved onTo refused
-  pushes-below e = ends e (or _ quiet (or _ (or _ quiet (one refl)) quiet))
+  pushes-below e = asked e (or _ stops (or _ (or _ stops (at-rest t refl)) goes))
 
   pub pops : p ≡ removeHead m t → EndAsked f l 3 p
   unfolding removeHead headRemoved plan moved onTo refused
-  pops e = ends e (or _ quiet (or _ (or _ quiet (one refl)) quiet))
+  pops e = asked e (or _ stops (or _ (or _ stops (on refl refl)) goes))
 
   module _ (w : ℕ) where
     pub exchanges : (s : Shape) → p ≡ mendSwap s m t w → EndAsked f l 4 p
     unfolding mendSwap exchangeWith exchangeAt plan moved onTo refused
     exchanges s e =
-        ends e
-        (or _ (or _ (or _ (or _ quiet (one refl)) quiet) quiet) (or _ (or _ (or _ quiet (one refl)) quiet) quiet))
+        asked e
+        (or _ (or _ (or _ (or _ stops (on refl refl)) goes) stops) (or _ (or _ (or _ stops (on refl refl)) goes) stops))
 
     pub cleans : p ≡ mendClean m t w → EndAsked f l 5 p
-    unfolding mendClean cleanAt returning plan moved onTo refused
-    cleans e = ends e (or _ quiet (or _ (or _ quiet (one refl)) quiet))
+    unfolding mendClean cleanAt plan moved onTo refused
+    cleans e = asked e (or _ stops (or _ (or _ stops (back (Clean (t .node) _) t w refl)) goes))

@@ -15,7 +15,7 @@ use Rattle.region.specs.Pick.{pick}
 use Rattle.region.specs.Place.{placeNumber}
 use Rattle.region.specs.Shape.{between}
 use Rattle.region.specs.Shared.{loadEntry, sharedIn, cellIn, setCellIn, threadIn, setThreadIn}
-use Rattle.region.specs.Thread.{begunPut, begunTake, idleThread}
+use Rattle.region.specs.Thread.{begunPut, begunTake, goneIdle, idleThread}
 use Rattle.region.specs.declared.answer.Answer.{Answer}
 use Rattle.region.specs.declared.answer.Answer.the-variants.{Idle, Refused}
 use Rattle.region.specs.declared.frame.Frame.{Frame}
@@ -25,31 +25,46 @@ use Rattle.region.specs.declared.record.Cell.{Cell}
 use Rattle.region.specs.declared.record.Item.{Item}
 use Rattle.region.specs.declared.thread.Thread.{Thread}
 use Rattle.region.proofs.Views.{length-setCellIn}
-use Rattle.access.specs.Effect.{effectBytes}
+use Rattle.access.specs.Effect.{Only, effectBytes}
 use Rattle.access.specs.Plan.{plan, refused}
-use Rattle.access.specs.declared.effect.Effect.the-variants.{Nothing}
+use Rattle.access.specs.declared.effect.Effect.{Effect}
+use Rattle.access.specs.declared.effect.Effect.the-variants.{Nothing, Grow, Push, Pop, Exchange, Clean}
 use Rattle.access.specs.declared.plan.Plan.{Plan}
 use Rattle.readable.specs.Readable.{readable, shapeIn}
 use Rattle.readable.proofs.Laws.{readable-within}
 use Rattle.machine.specs.Begin.{PutBegun, TakeBegun, frameIn, isIdle, isItem, mayPut, mayTake, putBegun, putBusy, putBytes, putRefusal, takeBytes, takeRefusal}
-use Rattle.machine.specs.Turn.{Carried, KeepAsked, Turned, TurnedOn, carriedOut, decide, decideAt, staysPut, turnAnswer, turnBytes, turnOnAnswer, turnOnBytes, turnPlan}
+use Rattle.machine.specs.Turn.{Carried, EndAsked, PutBackAsked, Turned, TurnedOn, carriedOut, decide, decideAt, ends, staysPut, turnAnswer, turnBytes, turnOnAnswer, turnOnBytes, turnPlan}
 
--- Carrying a plan out: nothing, the effect and the record, or the record alone.
+-- no kind of effect is 0
+no-effect : (f : Frame) (b : List ℕ) (e : Effect) → Only 0 e → effectBytes f b e ≡ b
+unfolding effectBytes
+no-effect f b Nothing h = refl
+no-effect f b (Grow d) h = absurd (omega arith)
+no-effect f b (Push n v c x) h = absurd (omega arith)
+no-effect f b (Pop v c) h = absurd (omega arith)
+no-effect f b (Exchange n v c w) h = absurd (omega arith)
+no-effect f b (Clean n v) h = absurd (omega arith)
+
+-- Storing a record: an ended operation's is idle as it stands.
+pub put-idle : (f : Frame) (b b′ : List ℕ) (n l : ℕ) (t u : Thread) (a : Answer) → PutBackAsked f l t a → (q : Bool) → q ≡ ends a
+    → q ≡ true → u ≡ goneIdle t → b′ ≡ setThreadIn f b n u → b′ ≡ setThreadIn f b n t
+put-idle f b b′ n l t u a h q eq g eu e = e ∙ ap (setThreadIn f b n) (eu ∙ sym (h .rests (sym eq ∙ g)))
+
+-- Carrying a plan out: nothing, the record and the effect, or the record alone.
 module _ (f : Frame) (b : List ℕ) (t : ℕ) (p : Plan) (q : Bool) (eq : q ≡ staysPut (p .answer)) where
   pub stayed : q ≡ true → Carried f b b t p (p .answer)
   unfolding carriedOut pick
   stayed g = record { answer = refl; bytes = rw (← eq, g) refl }
 
   module _ (g : q ≡ false) where
-    pub carried : (b₁ b₂ : List ℕ) → b₁ ≡ effectBytes f b (p .effect) → b₂ ≡ setThreadIn f b₁ t (p .thread)
+    pub carried : (b₁ b₂ : List ℕ) → b₁ ≡ setThreadIn f b t (p .thread) → b₂ ≡ effectBytes f b₁ (p .effect)
         → Carried f b b₂ t p (p .answer)
     unfolding carriedOut pick
     carried b₁ b₂ e₁ e₂ =
-        record { answer = refl; bytes = rw (← eq, g) (e₂ ∙ ap (λ l. setThreadIn f l t (p .thread)) e₁) }
+        record { answer = refl; bytes = rw (← eq, g) (e₂ ∙ ap (λ l. effectBytes f l (p .effect)) e₁) }
 
-    pub kept : (l : ℕ) (b′ : List ℕ) → KeepAsked f l p → b′ ≡ setThreadIn f b t (p .thread) → Carried f b b′ t p (p .answer)
-    unfolding effectBytes
-    kept l b′ h e = carried b b′ (ap (effectBytes f b) (sym (h .still))) e
+    pub kept : (l : ℕ) (b′ : List ℕ) → EndAsked f l 0 p → b′ ≡ setThreadIn f b t (p .thread) → Carried f b b′ t p (p .answer)
+    kept l b′ h e = carried b′ b′ e (sym (no-effect f b′ (p .effect) (h .only)))
 
 -- A turn: refused for want of a thread, idle, or the plan that the thread's place decides is carried out.
 module _ (f : Frame) (b : List ℕ) (t c : ℕ) where

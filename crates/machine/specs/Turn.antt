@@ -8,7 +8,7 @@ use Rattle.region.specs.Frame.{Within, frameOf}
 use Rattle.region.specs.Pick.{pick}
 use Rattle.region.specs.Shape.{between}
 use Rattle.region.specs.Shared.{Shared, sharedIn, threadIn, setThreadIn}
-use Rattle.region.specs.Thread.{idleThread}
+use Rattle.region.specs.Thread.{idleThread, goneIdle}
 use Rattle.region.specs.declared.answer.Answer.{Answer}
 use Rattle.region.specs.declared.answer.Answer.the-variants.{Moved, Idle, Inserted, Took, Empty, Refused}
 use Rattle.region.specs.declared.frame.Frame.{Frame}
@@ -71,24 +71,38 @@ unfoldable pub turnAnswer : Frame → List ℕ → ℕ → ℕ → Answer
 unfolding turnPlan
 turnAnswer f b t c = turnPlan f b t c .answer
 
--- the region afterwards: the effect is carried out and the thread's record stored, or no byte changes
+-- the region afterwards: the thread's record is stored and the effect carried out, or no byte changes
 unfoldable pub carriedOut : Frame → List ℕ → ℕ → Plan → List ℕ
-carriedOut f b t p = pick (staysPut (p .answer)) b (setThreadIn f (effectBytes f b (p .effect)) t (p .thread))
+carriedOut f b t p = pick (staysPut (p .answer)) b (effectBytes f (setThreadIn f b t (p .thread)) (p .effect))
 
 -- what carrying a plan out answers and leaves
 pub record Carried (f : Frame) (b b′ : List ℕ) (t : ℕ) (p : Plan) (r : Answer) : Type 0 where
   pub answer : r ≡ p .answer
   pub bytes : b′ ≡ carriedOut f b t p
 
--- what carrying a plan out asks, within l bytes: its effect is of kind k, or nothing
+-- the answers with which an operation ends
+abbrev pub ends : Answer → Bool
+ends Moved = false
+ends Idle = false
+ends Inserted = true
+ends (Took i) = true
+ends Empty = true
+ends (Refused n) = false
+
+-- a thread whose operation ends is idle
+abbrev pub Rests : Answer → Thread → Type 0
+Rests a t = ends a ≡ true → t ≡ goneIdle t
+
+-- what storing a record after an answer asks, within l bytes
+pub record PutBackAsked (f : Frame) (l : ℕ) (t : Thread) (a : Answer) : Type 0 where
+  pub within : Within f l
+  pub rests : Rests a t
+
+-- what carrying a plan out asks, within l bytes: its effect is nothing or of kind k (no kind is 0), and its thread rests
 pub record EndAsked (f : Frame) (l k : ℕ) (p : Plan) : Type 0 where
   pub within : Within f l
   pub only : Only k (p .effect)
-
--- what storing the record alone asks, within l bytes: the plan leaves shared memory as it is
-pub record KeepAsked (f : Frame) (l : ℕ) (p : Plan) : Type 0 where
-  pub within : Within f l
-  pub still : p .effect ≡ Nothing
+  pub rests : Rests (p .answer) (p .thread)
 
 unfoldable pub turnBytes : Frame → List ℕ → ℕ → ℕ → List ℕ
 unfolding turnPlan carriedOut

@@ -2,7 +2,8 @@
 ghost use mathlib.Core.Path.{_≡_};
 ghost use lib.ListN.{length};
 ghost use Rattle.region.specs.Frame.{Within};
-ghost use Rattle.machine.specs.Turn.{Carried, EndAsked, KeepAsked, Turned, TurnedOn, staysPut};
+ghost use Rattle.region.specs.Shared.{setThreadIn};
+ghost use Rattle.machine.specs.Turn.{Carried, EndAsked, PutBackAsked, Turned, TurnedOn, ends, staysPut};
 use access::Plan;
 use extract::read_root;
 use extract::remove_head;
@@ -24,6 +25,7 @@ use region::Answer;
 use region::BAD_THREAD;
 use region::Frame;
 use region::Place;
+use region::Thread;
 use region::UNREADABLE;
 
 // Whether a turn with this answer leaves the region alone.
@@ -40,8 +42,36 @@ fn stays_put(answer: Answer) -> bool
     }
 }
 
-// Carrying a plan out, its effect and the thread's record; its answer. One function for each kind of effect, which is short
-// enough for the compiler to copy into each place.
+// Whether an operation ends with this answer.
+fn ends(answer: Answer) -> bool
+    ensures { λ r. ⌜ r ≡ ends answer ⌝ }
+{
+    match answer {
+        Answer::Moved => false,
+        Answer::Idle => false,
+        Answer::Inserted => true,
+        Answer::Took(_) => true,
+        Answer::Empty => true,
+        Answer::Refused(_) => false,
+    }
+}
+
+// Stores a thread's record after a turn with this answer. The record of an ended operation is idle, which is said in its own
+// branch, so that the compiled code of the other holds back no field that the turn left alone.
+fn put_back(f: Frame, b: &mut [u8], n: u32, t: Thread, answer: Answer)
+    requires { ⌜ PutBackAsked f (length (now b)) t answer ⌝ }
+    ensures { λ r. ⌜ now (b .exit) ≡ setThreadIn f (now (b .entry)) n t ⌝ }
+{
+    if ends(answer) {
+        f.store_thread(b, n, t.gone_idle());
+        return;
+    }
+    f.store_thread(b, n, t);
+}
+
+// Carrying a plan out, the thread's record and its effect; its answer. The record is stored first, while the fields that the
+// turn left alone are known to be in their places. One function for each place that has an effect, which the compiler copies
+// into that place.
 
 // Ends a turn at I4.
 fn end_growth(f: Frame, b: &mut [u8], n: u32, plan: Plan) -> Answer
@@ -54,13 +84,13 @@ fn end_growth(f: Frame, b: &mut [u8], n: u32, plan: Plan) -> Answer
     }
     let effect = plan.effect;
     let record = plan.thread;
+    put_back(f, b, n, record, answer);
     access::carry_growth(f, b, effect);
-    f.store_thread(b, n, record);
     answer
 }
 
-// Ends a turn at I6 or I8.
-fn end_push(f: Frame, b: &mut [u8], n: u32, plan: Plan) -> Answer
+// Ends a turn at I6.
+fn end_at_root(f: Frame, b: &mut [u8], n: u32, plan: Plan) -> Answer
     requires { ⌜ EndAsked f (length (now b)) 2 plan ⌝ }
     ensures { λ r. ⌜ Carried f (now (b .entry)) (now (b .exit)) n plan r ⌝ }
 {
@@ -70,8 +100,24 @@ fn end_push(f: Frame, b: &mut [u8], n: u32, plan: Plan) -> Answer
     }
     let effect = plan.effect;
     let record = plan.thread;
+    put_back(f, b, n, record, answer);
     access::carry_push(f, b, effect);
-    f.store_thread(b, n, record);
+    answer
+}
+
+// Ends a turn at I8.
+fn end_below(f: Frame, b: &mut [u8], n: u32, plan: Plan) -> Answer
+    requires { ⌜ EndAsked f (length (now b)) 2 plan ⌝ }
+    ensures { λ r. ⌜ Carried f (now (b .entry)) (now (b .exit)) n plan r ⌝ }
+{
+    let answer = plan.answer;
+    if stays_put(answer) {
+        return answer;
+    }
+    let effect = plan.effect;
+    let record = plan.thread;
+    put_back(f, b, n, record, answer);
+    access::carry_push(f, b, effect);
     answer
 }
 
@@ -86,8 +132,8 @@ fn end_pop(f: Frame, b: &mut [u8], n: u32, plan: Plan) -> Answer
     }
     let effect = plan.effect;
     let record = plan.thread;
+    put_back(f, b, n, record, answer);
     access::carry_pop(f, b, effect);
-    f.store_thread(b, n, record);
     answer
 }
 
@@ -102,8 +148,8 @@ fn end_exchange(f: Frame, b: &mut [u8], n: u32, plan: Plan) -> Answer
     }
     let effect = plan.effect;
     let record = plan.thread;
+    put_back(f, b, n, record, answer);
     access::carry_exchange(f, b, effect);
-    f.store_thread(b, n, record);
     answer
 }
 
@@ -118,14 +164,14 @@ fn end_cleaning(f: Frame, b: &mut [u8], n: u32, plan: Plan) -> Answer
     }
     let effect = plan.effect;
     let record = plan.thread;
+    put_back(f, b, n, record, answer);
     access::carry_cleaning(f, b, effect);
-    f.store_thread(b, n, record);
     answer
 }
 
 // Ends a turn at a place that only reads: its plan has no effect.
 fn keep(f: Frame, b: &mut [u8], n: u32, plan: Plan) -> Answer
-    requires { ⌜ KeepAsked f (length (now b)) plan ⌝ }
+    requires { ⌜ EndAsked f (length (now b)) 0 plan ⌝ }
     ensures { λ r. ⌜ Carried f (now (b .entry)) (now (b .exit)) n plan r ⌝ }
 {
     let answer = plan.answer;
@@ -133,7 +179,7 @@ fn keep(f: Frame, b: &mut [u8], n: u32, plan: Plan) -> Answer
         return answer;
     }
     let record = plan.thread;
-    f.store_thread(b, n, record);
+    put_back(f, b, n, record, answer);
     answer
 }
 
@@ -157,9 +203,9 @@ pub fn turn(f: Frame, b: &mut [u8], n: u32, choice: u32) -> Answer
         Place::ReadAncestor => keep(f, b, n, read_ancestor(f, b, f.load_thread(b, n))),
         Place::GrowDepth => end_growth(f, b, n, grow_depth(f, b, f.load_thread(b, n))),
         Place::ReadTarget => keep(f, b, n, read_target(f, b, f.load_thread(b, n))),
-        Place::InsertAtRoot => end_push(f, b, n, insert_at_root(f, b, f.load_thread(b, n))),
+        Place::InsertAtRoot => end_at_root(f, b, n, insert_at_root(f, b, f.load_thread(b, n))),
         Place::ReadParent => keep(f, b, n, read_parent(f, b, f.load_thread(b, n))),
-        Place::InsertBelow => end_push(f, b, n, insert_below(f, b, f.load_thread(b, n))),
+        Place::InsertBelow => end_below(f, b, n, insert_below(f, b, f.load_thread(b, n))),
         Place::ReadRoot => keep(f, b, n, read_root(f, b, f.load_thread(b, n))),
         Place::RemoveHead => end_pop(f, b, n, remove_head(f, b, f.load_thread(b, n))),
         Place::MendReadNode(w) => keep(f, b, n, mend_read_node(f, b, f.load_thread(b, n), w)),

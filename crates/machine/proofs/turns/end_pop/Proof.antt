@@ -1,4 +1,4 @@
--- `machine::turns::end_pop` meets its contract: nothing, or the effect and then the record. Assumes nothing.
+-- `machine::turns::end_pop` meets its contract: nothing, or the record and then the effect. Assumes nothing.
 use borrow.Author.Needs.{needs}
 use Rattle.machine.proofs.turns.end_pop.Statement.{statement}
 use Rattle.machine.proofs.turns.end_pop.Tie as tie
@@ -10,11 +10,11 @@ stays-put-requires c κs = search needs
 returns : tie.Need-returns
 returns c = search stayed
 
+put-back-requires : tie.Need-put-back-requires
+put-back-requires c κs = search needs
+
 carry-pop-requires : tie.Need-carry-pop-requires
 carry-pop-requires c κs = search needs
-
-store-thread-requires : tie.Need-store-thread-requires
-store-thread-requires c κs = search needs
 
 same-length : tie.Need-same-length
 same-length c = search needs
@@ -28,7 +28,7 @@ end-pop-spec =
     (tie.spec
     stays-put-requires
     returns
+    put-back-requires
     carry-pop-requires
-    store-thread-requires
     same-length
     returns-2)

@@ -10,8 +10,8 @@ stays-put-requires c κs = search needs
 returns : tie.Need-returns
 returns c = search stayed
 
-store-thread-requires : tie.Need-store-thread-requires
-store-thread-requires c κs = search needs
+put-back-requires : tie.Need-put-back-requires
+put-back-requires c κs = search needs
 
 same-length : tie.Need-same-length
 same-length c = search needs
@@ -20,5 +20,4 @@ returns-2 : tie.Need-returns-2
 returns-2 c = search kept
 
 pub keep-spec : {M : Type 1} → statement M
-keep-spec =
-    tie.close (tie.spec stays-put-requires returns store-thread-requires same-length returns-2)
+keep-spec = tie.close (tie.spec stays-put-requires returns put-back-requires same-length returns-2)

@@ -87,8 +87,8 @@ load-thread-requires-7 c κs = search needs
 insert-at-root-requires : tie.Need-insert-at-root-requires
 insert-at-root-requires c κs = search needs
 
-end-push-requires : tie.Need-end-push-requires
-end-push-requires c κs = search (pushes-at-root, c .before .before .before .before .before .before .before .before .before .before .before .before .pre)
+end-at-root-requires : tie.Need-end-at-root-requires
+end-at-root-requires c κs = search (pushes-at-root, c .before .before .before .before .before .before .before .before .before .before .before .before .pre)
 
 enum-told-8 : tie.Need-enum-told-8
 enum-told-8 c = search needs
@@ -111,8 +111,8 @@ load-thread-requires-9 c κs = search needs
 insert-below-requires : tie.Need-insert-below-requires
 insert-below-requires c κs = search needs
 
-end-push-requires-2 : tie.Need-end-push-requires-2
-end-push-requires-2 c κs = search (pushes-below, c .before .before .before .before .before .before .before .before .before .before .before .before .pre)
+end-below-requires : tie.Need-end-below-requires
+end-below-requires c κs = search (pushes-below, c .before .before .before .before .before .before .before .before .before .before .before .before .pre)
 
 enum-told-10 : tie.Need-enum-told-10
 enum-told-10 c = search needs
@@ -343,7 +343,7 @@ turn-spec =
     enum-told-7
     load-thread-requires-7
     insert-at-root-requires
-    end-push-requires
+    end-at-root-requires
     enum-told-8
     load-thread-requires-8
     read-parent-requires
@@ -351,7 +351,7 @@ turn-spec =
     enum-told-9
     load-thread-requires-9
     insert-below-requires
-    end-push-requires-2
+    end-below-requires
     enum-told-10
     load-thread-requires-10
     read-root-requires

@@ -1,7 +1,7 @@
--- `machine::turns::end_push` meets its contract: nothing, or the effect and then the record. Assumes nothing.
+-- `machine::turns::end_below` meets its contract: nothing, or the record and then the effect. Assumes nothing.
 use borrow.Author.Needs.{needs}
-use Rattle.machine.proofs.turns.end_push.Statement.{statement}
-use Rattle.machine.proofs.turns.end_push.Tie as tie
+use Rattle.machine.proofs.turns.end_below.Statement.{statement}
+use Rattle.machine.proofs.turns.end_below.Tie as tie
 use Rattle.machine.proofs.Ways.{stayed, carried}
 
 stays-put-requires : tie.Need-stays-put-requires
@@ -10,11 +10,11 @@ stays-put-requires c κs = search needs
 returns : tie.Need-returns
 returns c = search stayed
 
+put-back-requires : tie.Need-put-back-requires
+put-back-requires c κs = search needs
+
 carry-push-requires : tie.Need-carry-push-requires
 carry-push-requires c κs = search needs
-
-store-thread-requires : tie.Need-store-thread-requires
-store-thread-requires c κs = search needs
 
 same-length : tie.Need-same-length
 same-length c = search needs
@@ -22,13 +22,13 @@ same-length c = search needs
 returns-2 : tie.Need-returns-2
 returns-2 c = search carried
 
-pub end-push-spec : {M : Type 1} → statement M
-end-push-spec =
+pub end-below-spec : {M : Type 1} → statement M
+end-below-spec =
     tie.close
     (tie.spec
     stays-put-requires
     returns
+    put-back-requires
     carry-push-requires
-    store-thread-requires
     same-length
     returns-2)

@@ -1,0 +1,34 @@
+-- `machine::turns::end_at_root` meets its contract: nothing, or the record and then the effect. Assumes nothing.
+use borrow.Author.Needs.{needs}
+use Rattle.machine.proofs.turns.end_at_root.Statement.{statement}
+use Rattle.machine.proofs.turns.end_at_root.Tie as tie
+use Rattle.machine.proofs.Ways.{stayed, carried}
+
+stays-put-requires : tie.Need-stays-put-requires
+stays-put-requires c κs = search needs
+
+returns : tie.Need-returns
+returns c = search stayed
+
+put-back-requires : tie.Need-put-back-requires
+put-back-requires c κs = search needs
+
+carry-push-requires : tie.Need-carry-push-requires
+carry-push-requires c κs = search needs
+
+same-length : tie.Need-same-length
+same-length c = search needs
+
+returns-2 : tie.Need-returns-2
+returns-2 c = search carried
+
+pub end-at-root-spec : {M : Type 1} → statement M
+end-at-root-spec =
+    tie.close
+    (tie.spec
+    stays-put-requires
+    returns
+    put-back-requires
+    carry-push-requires
+    same-length
+    returns-2)
