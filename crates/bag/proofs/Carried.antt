@@ -1,5 +1,5 @@
--- A turn on the bytes of a readable region, read as shared memory and threads' records: its plan's effect is carried out and its thread's
--- record stored, or no byte changes. Assumes nothing.
+-- A turn on the bytes of a readable region, read as shared memory and threads' records: its thread's record is stored and its plan's
+-- effect carried out, or no byte changes. Assumes nothing.
 use Prim.Native.Nat.{ℕ, _≤_}
 use mathlib.Core.Path.{_≡_, refl, ap, _∙_}
 use mathlib.Core.Bool.{Bool, true, false, true≢false}
@@ -8,14 +8,14 @@ use Rattle.region.specs.Answer.{badThread}
 use Rattle.region.specs.Frame.{frameOf}
 use Rattle.region.specs.Pick.{pick, upd}
 use Rattle.region.specs.Shape.{between}
-use Rattle.region.specs.Shared.{sharedIn, threadIn}
+use Rattle.region.specs.Shared.{sharedIn, setThreadIn, threadIn}
 use Rattle.region.specs.Thread.{idleThread}
 use Rattle.region.specs.declared.frame.Frame.{Frame}
 use Rattle.region.specs.declared.shape.Shape.{Shape}
 use Rattle.region.proofs.Frames.{frame-parted}
 use Rattle.region.proofs.Shapes.{between-least, between-most, is-between}
 use Rattle.region.proofs.Views.{shared-setThread, threads-setThread}
-use Rattle.access.specs.Effect.{effectBytes, effectShared}
+use Rattle.access.specs.Effect.{effectShared}
 use Rattle.access.specs.Plan.{refused}
 use Rattle.access.specs.declared.plan.Plan.{Plan}
 use Rattle.access.proofs.EffectLaws.{effect-shared}
@@ -24,7 +24,7 @@ use Rattle.readable.proofs.Stores.{good-shared, good-thread, good-within, threa
 use Rattle.machine.specs.Turn.{carriedOut, decide, staysPut, turnBytes, turnPlan}
 use Rattle.preserved.proofs.EffectsGood.{fits-of, frame-cells}
 use Rattle.preserved.proofs.PlansGood.{PlanGood}
-use Rattle.preserved.proofs.Proved.{decided, effect-threads, within-effect}
+use Rattle.preserved.proofs.Proved.{decided, effect-threads, record-good}
 
 -- a plan whose answer is idle or refused changes no byte
 carried-stays : (f : Frame) (b : List ℕ) (t : ℕ) (p : Plan) → staysPut (p .answer) ≡ true → carriedOut f b t p ≡ b
@@ -32,23 +32,31 @@ unfolding carriedOut pick
 carried-stays f b t p e = rw e refl
 
 -- any other, in range
-module _ (s : Shape) (b : List ℕ) (g : Good s b) (t : ℕ) (p : Plan) (gp : PlanGood s p) (e : staysPut (p .answer) ≡ false) where
+module _ (s : Shape) (b : List ℕ) (g : Good s b) (t : ℕ) (l : 1 ≤ t) (u : t ≤ s .threads) (p : Plan) (gp : PlanGood s p)
+    (e : staysPut (p .answer) ≡ false) where
+  stored : List ℕ
+  stored = setThreadIn (frameOf s) b t (p .thread)
+
+  stored-good : Good s stored
+  unfolding stored
+  stored-good = record-good s b g t l u p gp
+
   carried-shared : sharedIn (frameOf s) (carriedOut (frameOf s) b t p) ≡ effectShared (sharedIn (frameOf s) b) (p .effect)
-  unfolding carriedOut pick
+  unfolding carriedOut pick stored
   carried-shared =
       rw e
-      (shared-setThread (frameOf s) (effectBytes (frameOf s) b (p .effect)) (within-effect s b g (p .effect)) (frame-parted s) t (p .thread)
-      ∙ effect-shared (frameOf s) (frame-parted s) b (good-within s b g) (frame-cells s (g .range)) (p .effect)
-      (fits-of s (g .range) b (good-shared s b g) (p .effect) (gp .effect)))
+      (effect-shared (frameOf s) (frame-parted s) stored (good-within s stored stored-good) (frame-cells s (g .range)) (p .effect)
+      (fits-of s (g .range) stored (good-shared s stored stored-good) (p .effect) (gp .effect))
+      ∙ ap (λ m. effectShared m (p .effect))
+      (shared-setThread (frameOf s) b (good-within s b g) (frame-parted s) t (p .thread)))
 
-  carried-threads : 1 ≤ t → t ≤ s .threads
-      → threadIn (frameOf s) (carriedOut (frameOf s) b t p) ≡ upd (threadIn (frameOf s) b) t (p .thread)
-  unfolding carriedOut pick frameOf
-  carried-threads l u =
+  carried-threads : threadIn (frameOf s) (carriedOut (frameOf s) b t p) ≡ upd (threadIn (frameOf s) b) t (p .thread)
+  unfolding carriedOut pick frameOf stored
+  carried-threads =
       rw e
-      (threads-setThread (frameOf s) (effectBytes (frameOf s) b (p .effect)) (within-effect s b g (p .effect)) (frame-parted s) t (p .thread) l u
-      (thread-fit s (g .range) (p .thread) (gp .thread))
-      ∙ ap (λ h. upd h t (p .thread)) (effect-threads s b g (p .effect)))
+      (effect-threads s stored stored-good (p .effect)
+      ∙ threads-setThread (frameOf s) b (good-within s b g) (frame-parted s) t (p .thread) l u
+      (thread-fit s (g .range) (p .thread) (gp .thread)))
 
 -- A turn of thread t with choice c.
 module _ (s : Shape) (b : List ℕ) (t c : ℕ) where
@@ -90,9 +98,9 @@ module _ (s : Shape) (b : List ℕ) (t c : ℕ) where
     pub turn-shared : sharedIn (frameOf s) (turnBytes (frameOf s) b t c)
         ≡ effectShared (sharedIn (frameOf s) b) (turnPlan (frameOf s) b t c .effect)
     unfolding turnBytes
-    turn-shared = carried-shared s b g t (turnPlan (frameOf s) b t c) turn-plan-good e
+    turn-shared = carried-shared s b g t turn-least turn-most (turnPlan (frameOf s) b t c) turn-plan-good e
 
     pub turn-threads : threadIn (frameOf s) (turnBytes (frameOf s) b t c)
         ≡ upd (threadIn (frameOf s) b) t (turnPlan (frameOf s) b t c .thread)
     unfolding turnBytes
-    turn-threads = carried-threads s b g t (turnPlan (frameOf s) b t c) turn-plan-good e turn-least turn-most
+    turn-threads = carried-threads s b g t turn-least turn-most (turnPlan (frameOf s) b t c) turn-plan-good e

@@ -30,13 +30,13 @@ use Rattle.region.specs.declared.shape.Shape.{Shape}
 use Rattle.region.specs.declared.thread.Thread.{Thread}
 use Rattle.region.proofs.Frames.{frame-parted}
 use Rattle.region.proofs.Shapes.{and-left, and-right, between-least, between-most, sizes}
-use Rattle.region.proofs.Views.{length-setCellIn, length-setNodeIn, shared-setCell, shared-setFree, threads-setCell, threads-setFree, threads-setThread, threads-kept, word-setCell, word-setCellIn, word-setNode, word-setThread}
+use Rattle.region.proofs.Views.{length-setCellIn, length-setNodeIn, length-setThreadIn, shared-setCell, shared-setFree, threads-setCell, threads-setFree, threads-setThread, threads-kept, word-setCell, word-setCellIn, word-setNode, word-setThread}
 use Rattle.access.specs.Effect.{effectBytes, freedBytes, pushBytes}
 use Rattle.access.specs.Plan.{refused}
 use Rattle.access.specs.declared.effect.Effect.{Effect}
 use Rattle.access.specs.declared.effect.Effect.the-variants.{Nothing, Grow, Push, Pop, Exchange, Clean}
 use Rattle.access.specs.declared.plan.Plan.{Plan}
-use Rattle.access.proofs.EffectLaws.{effect-word, length-effect}
+use Rattle.access.proofs.EffectLaws.{effect-word}
 use Rattle.readable.specs.Readable.{readable, shapeIn, threadReadable}
 use Rattle.readable.proofs.Laws.{Good, good, readable-good}
 use Rattle.readable.proofs.Stores.{CellGood, PlaceGood, ThreadGood, SharedGood, make-good, shape-kept, thread-reads, good-shared, good-thread, good-within, good-setThread, thread-fit}
@@ -73,11 +73,14 @@ module _ (s : Shape) (r : InRange s) (m : Shared) (sm : SharedGood s m) (t : Thr
 
 -- Carrying out a plan in range.
 module _ (s : Shape) (b : List ℕ) (g : Good s b) (t : ℕ) (l : 1 ≤ t) (u : t ≤ s .threads) (p : Plan) (gp : PlanGood s p) where
+  pub record-good : Good s (setThreadIn (frameOf s) b t (p .thread))
+  record-good = good-setThread s b g t l u (p .thread) (gp .thread)
+
   carried-good : Good s (carriedOut (frameOf s) b t p)
   unfolding carriedOut
   carried-good =
       pick-good (Good s) (staysPut (p .answer)) (λ e. g)
-      (λ e. good-setThread s (effectBytes (frameOf s) b (p .effect)) (good-effect s b g (p .effect) (gp .effect)) t l u (p .thread) (gp .thread))
+      (λ e. good-effect s (setThreadIn (frameOf s) b t (p .thread)) record-good (p .effect) (gp .effect))
 
 refused-stays : (f : Frame) (b : List ℕ) (t : ℕ) (v : Thread) (n : ℕ) → carriedOut f b t (refused v n) ≡ b
 unfolding carriedOut refused pick
@@ -297,23 +300,22 @@ store-others s b r w t l m v g u n =
     ap (λ h. h u) (threads-setThread (frameOf s) b w (frame-parted s) t v l m (thread-fit s r v g))
     ∙ other (threadIn (frameOf s) b) t u v n
 
+pub effect-threads : (s : Shape) (b : List ℕ) → Good s b → (e : Effect)
+    → threadIn (frameOf s) (effectBytes (frameOf s) b e) ≡ threadIn (frameOf s) b
+unfolding frameOf
+effect-threads s b g e =
+    threads-kept (frameOf s) b (good-within s b g) (effectBytes (frameOf s) b e) λ j l u.
+    effect-word (frameOf s) (frame-parted s) j (thread-elsewhere s j l) b (good-within s b g) e
+
 module _ (s : Shape) (b : List ℕ) (g : Good s b) where
-  pub within-effect : (e : Effect) → Within (frameOf s) (length (effectBytes (frameOf s) b e))
-  within-effect e = subst (Within (frameOf s)) (sym (length-effect (frameOf s) b e)) (good-within s b g)
-
-  pub effect-threads : (e : Effect) → threadIn (frameOf s) (effectBytes (frameOf s) b e) ≡ threadIn (frameOf s) b
-  unfolding frameOf
-  effect-threads e =
-      threads-kept (frameOf s) b (good-within s b g) (effectBytes (frameOf s) b e) λ j l u.
-      effect-word (frameOf s) (frame-parted s) j (thread-elsewhere s j l) b (good-within s b g) e
-
   module _ (t : ℕ) (l : 1 ≤ t) (r : t ≤ s .threads) (p : Plan) (gp : PlanGood s p) (u : ℕ) (n : u ≡ t → ⊥) where
     carried-others : threadIn (frameOf s) (carriedOut (frameOf s) b t p) u ≡ threadIn (frameOf s) b u
     unfolding carriedOut
     carried-others =
         pick-good (λ x. threadIn (frameOf s) x u ≡ threadIn (frameOf s) b u) (staysPut (p .answer)) (λ e. refl)
-        (λ e. store-others s (effectBytes (frameOf s) b (p .effect)) (g .range) (within-effect (p .effect)) t l r (p .thread) (gp .thread) u n
-        ∙ ap (λ h. h u) (effect-threads (p .effect)))
+        (λ e. ap (λ h. h u)
+        (effect-threads s (setThreadIn (frameOf s) b t (p .thread)) (record-good s b g t l r p gp) (p .effect))
+        ∙ store-others s b (g .range) (good-within s b g) t l r (p .thread) (gp .thread) u n)
 
   turn-others : (t c u : ℕ) → (u ≡ t → ⊥) → threadIn (frameOf s) (turnBytes (frameOf s) b t c) u ≡ threadIn (frameOf s) b u
   unfolding turnBytes turnPlan frameOf
@@ -381,5 +383,7 @@ turn-leaves-words b e t c j o a =
     let s = shapeIn b in
     let p = turnPlan (frameIn b) b t c in
     pick-good (λ x. word x j ≡ word b j) (staysPut (p .answer)) (λ k. refl)
-    (λ k. word-setThread (frameIn b) (effectBytes (frameIn b) b (p .effect)) (within-effect s b (good b e) (p .effect)) t j (p .thread) a
-    ∙ effect-leaves (frameIn b) j b (good-within s b (good b e)) (p .effect) o)
+    (λ k. effect-leaves (frameIn b) j (setThreadIn (frameIn b) b t (p .thread))
+    (subst (Within (frameIn b)) (sym (length-setThreadIn (frameIn b) b t (p .thread))) (good-within s b (good b e)))
+    (p .effect) o
+    ∙ word-setThread (frameIn b) b (good-within s b (good b e)) t j (p .thread) a)
