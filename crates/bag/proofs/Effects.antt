@@ -1,6 +1,6 @@
 -- The mound between turns: cells held, the tree in order, nothing below the present depth. What an effect asks, that it keeps the mound,
 -- and what every other thread may rely on across it. Assumes nothing.
-use Prim.Native.Nat.{ℕ, _+_, _-_, _*_, _/_, _^_, _≤_, _<_}
+use Prim.Native.Nat.{ℕ, _+_, _*_, _/_, _^_, _≤_, _<_}
 use native.Mathlib.Decide.{ℕ-discrete}
 use native.Mathlib.Omega.{arith}
 use mathlib.Core.Path.{_≡_, refl, sym, ap, subst, subst₂, _∙_}
@@ -382,10 +382,6 @@ module _ (s : Shape) (m : Shared) (own : ℕ → ℕ) (g : Mound s m own) (n : �
   at-x : (x : ℕ) → (x ≡ n → ⊥) → (x ≡ k → ⊥) → swapped .node x ≡ m .node x
   unfolding effectShared
   at-x x p q = upd-other (upd (m .node) n v) k x w q ∙ upd-other (m .node) n x v p
-
-  same-cells : swapped .cell ≡ m .cell
-  unfolding effectShared
-  same-cells = refl
 
   value-by : (x y : ℕ) → swapped .node x .first ≡ m .node y .first → val swapped x ≡ val m y
   unfolding valueOf readNode effectShared

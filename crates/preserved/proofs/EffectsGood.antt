@@ -1,32 +1,28 @@
 -- An effect in range keeps a region readable. Assumes nothing.
-use Prim.Native.Nat.{ℕ, zero, suc, _+_, _-_, _*_, _^_, _≤_, _<_}
+use Prim.Native.Nat.{ℕ, _+_, _*_, _^_, _≤_, _<_}
 use native.Mathlib.Omega.{arith}
-use mathlib.Core.Path.{_≡_, refl, sym, ap, subst, _∙_}
+use mathlib.Core.Path.{sym, subst, _∙_}
 use mathlib.Core.Logic.{inl, inr}
-use mathlib.Core.Bool.{true}
 use mathlib.Core.List.{List}
 use lib.Dec.{eqb}
-use lib.ListN.{length}
-use Rattle.words.specs.Word.{word, Fit}
-use Rattle.region.specs.Frame.{Parted, Within, frameOf}
-use Rattle.region.specs.Pick.{pick, upd}
+use Rattle.words.specs.Word.{Fit}
+use Rattle.region.specs.Frame.{frameOf}
+use Rattle.region.specs.Pick.{upd}
 use Rattle.region.specs.Record.{nodeWords, cellWords, zeroItem}
-use Rattle.region.specs.Shape.{InRange, nodeCount, regionWords}
+use Rattle.region.specs.Shape.{InRange}
 use Rattle.region.specs.Shared.{Shared, cellIn, sharedIn}
-use Rattle.region.specs.declared.frame.Frame.{Frame}
 use Rattle.region.specs.declared.record.Cell.{Cell}
 use Rattle.region.specs.declared.record.Node.{Node}
 use Rattle.region.specs.declared.shape.Shape.{Shape}
 use Rattle.region.proofs.Frames.{frame-parted}
 use Rattle.region.proofs.Shapes.{sizes}
-use Rattle.access.specs.Effect.{effectShared, effectBytes, freed}
+use Rattle.access.specs.Effect.{effectShared, effectBytes}
 use Rattle.access.specs.declared.effect.Effect.{Effect}
 use Rattle.access.specs.declared.effect.Effect.the-variants.{Nothing, Grow, Push, Pop, Exchange, Clean}
 use Rattle.access.proofs.EffectLaws.{Elsewhere, EffectFits, effect-shared, effect-word, length-effect}
-use Rattle.readable.specs.Readable.{threadReadable, shapeIn}
 use Rattle.readable.proofs.Laws.{Good}
-use Rattle.readable.proofs.Stores.{NodeGood, CellGood, SharedGood, good-shared, good-within, make-good, shape-kept, thread-reads, zero-good}
-use Rattle.preserved.proofs.PlansGood.{NodeIn, CellIn, EffectGood, pick-good, some-nodes}
+use Rattle.readable.proofs.Stores.{NodeGood, CellGood, SharedGood, good-shared, good-within, make-good, shape-kept, thread-reads}
+use Rattle.preserved.proofs.PlansGood.{EffectGood, pick-good, some-nodes}
 
 upd-good : {A : Type 0} (P : A → Type 0) (f : ℕ → A) (n : ℕ) (a : A) → ((k : ℕ) → P (f k)) → P a → (k : ℕ) → P (upd f n a k)
 unfolding upd

@@ -1,24 +1,23 @@
 -- The theorems of specs/Theorems.antt: a readable region is read as records in range (readable's laws), every plan is in range
 -- (PlansGood), carrying it out keeps the region readable (EffectsGood), and what is stored elsewhere is left alone (region's views).
 -- Assumes nothing.
-use Prim.Native.Nat.{ℕ, zero, suc, _+_, _-_, _*_, _^_, _≤_, _<_}
+use Prim.Native.Nat.{ℕ, _+_, _*_, _^_, _≤_, _<_}
 use native.Mathlib.Omega.{arith}
 use mathlib.Core.Path.{_≡_, refl, sym, ap, subst, _∙_}
 use mathlib.Core.Logic.{inl, inr}
-use mathlib.Core.Bool.{Bool, true, false, _&&_, true≢false}
+use mathlib.Core.Bool.{Bool, true, false, true≢false}
 use mathlib.Core.List.{List}
-use borrow.Author.Tests.{eqb-true, eqb-false, eq-eqb, leb-true, ne-eqb}
+use borrow.Author.Tests.{eqb-true, eq-eqb, leb-true, ne-eqb}
 use lib.Dec.{leb, eqb}
 use lib.ListN.{length}
-use Rattle.words.specs.Word.{word, setWord, Fit}
+use Rattle.words.specs.Word.{word, setWord}
 use Rattle.words.proofs.Laws.{word-other, length-setWord}
 use Rattle.region.specs.Answer.{done, badThread, noFreeCell}
-use Rattle.region.specs.Frame.{Within, frameOf, nodesOf, cellsOf, threadsOf}
+use Rattle.region.specs.Frame.{Within, frameOf, nodesOf}
 use Rattle.region.specs.Pick.{pick, upd}
 use Rattle.region.specs.Shape.{InRange, between}
 use Rattle.region.specs.Shared.{Shared, entry, cellIn, setCellIn, setNodeIn, threadIn, setThreadIn, sharedIn}
-use Rattle.region.specs.Thread.{begunPut, begunTake, idleThread, threadSize}
-use Rattle.region.specs.declared.answer.Answer.{Answer}
+use Rattle.region.specs.Thread.{begunPut, begunTake, idleThread}
 use Rattle.region.specs.declared.answer.Answer.the-variants.{Idle as AnswerIdle}
 use Rattle.region.specs.declared.frame.Frame.{Frame}
 use Rattle.region.specs.declared.place.Place.{Place}
@@ -44,7 +43,7 @@ use Rattle.machine.specs.Begin.{frameIn, isIdle, isItem, mayPut, mayTake, putBe
 use Rattle.machine.specs.Turn.{carriedOut, decide, decideAt, staysPut, turnBytes, turnPlan}
 use Rattle.preserved.specs.Theorems.{Apart, OutsideEffect, TurnKeepsReadable, PutKeepsReadable, TakeKeepsReadable, TurnKeepsShape, PutKeepsShape, TakeKeepsShape, TurnLeavesOthers, PutLeavesOthers, TakeLeavesOthers, TurnLeavesWords}
 use Rattle.preserved.proofs.EffectsGood.{cell-fit, good-effect, put-cell, thread-elsewhere}
-use Rattle.preserved.proofs.PlansGood.{PlanGood, at-good, fields-item, fields-own, pick-good, plan-good, refused-good, readDepth-good, readLeaf-good, readAncestor-good, growDepth-good, readTarget-good, insertAtRoot-good, readParent-good, insertBelow-good, readRoot-good, removeHead-good, mendReadNode-good, mendReadDepth-good, mendReadLeft-good, mendReadRight-good, mendSwap-good, mendClean-good}
+use Rattle.preserved.proofs.PlansGood.{PlanGood, at-good, fields-item, fields-own, pick-good, plan-good, readDepth-good, readLeaf-good, readAncestor-good, growDepth-good, readTarget-good, insertAtRoot-good, readParent-good, insertBelow-good, readRoot-good, removeHead-good, mendReadNode-good, mendReadDepth-good, mendReadLeft-good, mendReadRight-good, mendSwap-good, mendClean-good}
 
 -- every place's plan is in range
 module _ (s : Shape) (r : InRange s) (m : Shared) (sm : SharedGood s m) (t : Thread) (gt : ThreadGood s t) (c : ℕ) where

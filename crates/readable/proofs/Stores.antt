@@ -4,24 +4,22 @@ use native.Mathlib.Decide.{ℕ-discrete, decLt}
 use native.Mathlib.Nat.{add-zero, add-suc, suc-add}
 use native.Mathlib.Omega.{arith}
 use mathlib.Core.Path.{_≡_, refl, sym, ap, subst, subst₂, subst₃, _∙_}
-use mathlib.Core.Logic.{_⊎_, inl, inr}
+use mathlib.Core.Logic.{inl, inr}
 use mathlib.Core.Bool.{Bool, true, false, _&&_}
 use mathlib.Core.List.{List, [], _∷_}
-use borrow.Author.Tests.{leb-true, le-leb, lt-leb, eq-eqb, ne-eqb}
-use lib.Dec.{leb, eqb, lit<}
+use borrow.Author.Tests.{leb-true, le-leb}
+use lib.Dec.{leb, lit<}
 use lib.ListN.{length, getD}
 use lib.Pow.{pow-mono}
-use Rattle.words.specs.Word.{word, setWord, wordsAt, setWords, Fit}
-use Rattle.words.proofs.Laws.{word-same, word-other, length-setWord, word-stored}
-use Rattle.region.specs.Frame.{Part, Parted, Within, frameOf, nodesOf, cellsOf, threadsOf}
+use Rattle.words.specs.Word.{word, wordsAt, Fit}
+use Rattle.region.specs.Frame.{Part, Within, frameOf, nodesOf, cellsOf, threadsOf}
 use Rattle.region.specs.Level.{level}
-use Rattle.region.specs.Pick.{pick, upd}
+use Rattle.region.specs.Pick.{pick}
 use Rattle.region.specs.Place.{placeNumber, placeOf, waitingLevels}
-use Rattle.region.specs.Record.{nodeOf, nodeWords, nodeAt, emptyNode, cellOf, cellWords, cellAt, zeroCell, zeroCopy}
+use Rattle.region.specs.Record.{nodeAt, emptyNode, cellAt, zeroCell, zeroCopy}
 use Rattle.region.specs.Shape.{InRange, between, nodeCount, regionWords}
-use Rattle.region.specs.Shared.{Shared, entry, loadEntry, nodeIn, setNodeIn, cellIn, setCellIn, threadIn, setThreadIn, sharedIn}
-use Rattle.region.specs.Thread.{threadSize, threadOf, threadWords, idleThread, threadAt}
-use Rattle.region.specs.declared.frame.Frame.{Frame}
+use Rattle.region.specs.Shared.{Shared, entry, loadEntry, nodeIn, cellIn, threadIn, setThreadIn, sharedIn}
+use Rattle.region.specs.Thread.{threadSize, threadWords, idleThread, threadAt}
 use Rattle.region.specs.declared.place.Place.{Place}
 use Rattle.region.specs.declared.place.Place.the-variants.{Idle, ReadDepth, ReadLeaf, ReadAncestor, GrowDepth, ReadTarget, InsertAtRoot, ReadParent, InsertBelow, ReadRoot, RemoveHead, MendReadNode, MendReadDepth, MendReadLeft, MendReadRight, MendSwap, MendClean}
 use Rattle.region.specs.declared.record.Cell.{Cell}
@@ -32,8 +30,8 @@ use Rattle.region.specs.declared.thread.Thread.{Thread}
 use Rattle.region.proofs.Frames.{frame-within, frame-parted}
 use Rattle.region.proofs.Levels.{level-most}
 use Rattle.region.proofs.Shapes.{and-left, and-right, and-both, between-least, between-most, is-between, sizes}
-use Rattle.region.proofs.Views.{Outside, length-setNodeIn, length-setCellIn, length-setThreadIn, word-setNodeIn, word-setCellIn, word-setThreadIn, word-setThread, thread-stored-words, shared-setThread}
-use Rattle.readable.specs.Readable.{anyWord, nodeMaxima, cellMaxima, threadMaxima, triesMost, waitingMost, bounded, threadReadable, shapeIn, readable}
+use Rattle.region.proofs.Views.{Outside, length-setThreadIn, word-setThreadIn, word-setThread, thread-stored-words, shared-setThread}
+use Rattle.readable.specs.Readable.{anyWord, nodeMaxima, cellMaxima, threadMaxima, triesMost, waitingMost, bounded, threadReadable, shapeIn}
 use Rattle.readable.proofs.Laws.{Good, bounded-all, bounded-at}
 
 -- Records in range.

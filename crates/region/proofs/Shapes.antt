@@ -1,10 +1,10 @@
 -- What a shape in range tells, as numbers, and back; the sizes that follow from it. Assumes nothing.
-use Prim.Native.Nat.{ℕ, zero, suc, _+_, _-_, _*_, _%_, _^_, _≤_, _<_}
+use Prim.Native.Nat.{ℕ, _-_, _*_, _%_, _^_, _≤_, _<_}
 use native.Mathlib.Nat.{mod-eq-of-lt, one-mul}
 use native.Mathlib.Omega.{arith}
 use mathlib.Core.Path.{_≡_, refl, sym, ap, _∙_}
 use mathlib.Core.Bool.{Bool, true, false, not, _&&_, true≢false}
-use borrow.Author.Tests.{leb-true, le-leb, lt-leb, le-ltb, not-true, not-false}
+use borrow.Author.Tests.{leb-true, le-leb, lt-leb, not-true, not-false}
 use lib.Dec.{leb}
 use lib.Pow.{pow-mono, pow-pos, pow-lt}
 use Rattle.region.specs.Shape.{InRange, between, shapeFits, regionWords}

@@ -2,12 +2,12 @@
 -- are read as that record. Assumes nothing.
 use Prim.Native.Nat.{ℕ, suc, _+_}
 use native.Mathlib.Omega.{arith}
-use mathlib.Core.Path.{_≡_, refl, sym, ap, _∙_}
-use mathlib.Core.List.{List, [], _∷_, _++_}
+use mathlib.Core.Path.{_≡_, ap, _∙_}
+use mathlib.Core.List.{List, [], _∷_}
 use lib.ListN.{getD}
 use Rattle.words.specs.Word.{wordsAt, setWords}
 use Rattle.region.specs.Place.{placeOf, placeNumber, waitingLevels}
-use Rattle.region.specs.Record.{itemOf, copyOf, copyWords, copyAt, setCopyAt}
+use Rattle.region.specs.Record.{itemOf, copyWords, copyAt, setCopyAt}
 use Rattle.region.specs.Thread.{searchOf, threadOf, threadWords, threadAt, setThreadAt}
 use Rattle.region.specs.declared.place.Place.{Place}
 use Rattle.region.specs.declared.record.NodeCopy.{NodeCopy}

@@ -1,5 +1,5 @@
 -- Where the parts of a queue lie in its region: word offsets, counted from 0.
-use Prim.Native.Nat.{ℕ, _+_, _-_, _*_, _≤_}
+use Prim.Native.Nat.{ℕ, _+_, _*_, _≤_}
 use Rattle.region.specs.Shape.{nodeCount}
 use Rattle.region.specs.Thread.{threadSize}
 use Rattle.region.specs.declared.frame.Frame.{Frame}
