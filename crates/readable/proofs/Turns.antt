@@ -16,13 +16,13 @@ use Rattle.words.proofs.Laws.{word-fits}
 use Rattle.region.specs.Frame.{Within, frameOf}
 use Rattle.region.specs.Level.{level}
 use Rattle.region.specs.Pick.{pick}
-use Rattle.region.specs.Shape.{InRange, between, shapeFits, nodeCount, regionWords}
+use Rattle.region.specs.Shape.{between, shapeFits, nodeCount, regionWords}
 use Rattle.region.specs.Thread.{threadSize}
 use Rattle.region.specs.declared.frame.Frame.{Frame}
 use Rattle.region.specs.declared.shape.Shape.{Shape}
 use Rattle.region.proofs.Frames.{frame-within}
 use Rattle.region.proofs.Levels.{level-most}
-use Rattle.region.proofs.Shapes.{in-range, shifted, words-most}
+use Rattle.region.proofs.Shapes.{shape-in-range, shifted}
 use Rattle.readable.specs.Readable.{FieldsAsked, ThreadAsked, ThreadsAsked, anyWord, nodeMaxima, cellMaxima, threadMaxima, triesMost, waitingMost, bounded, threadReadable, allRecords, treeReadable, fieldsReadable, shapeIn, readable, checkAnswer}
 
 free : (b : List ℕ) (k : ℕ) → Bytes b → leb (word b k) anyWord ≡ true
@@ -289,13 +289,7 @@ module _ (b : List ℕ) (s : Shape) (es : s ≡ shapeIn b) (q : Bool) (eq : q �
   shape-bad n = rw (← shape-test, not-true q n) refl
 
   module _ (gq : not q ≡ false) where
-    pub shape-in-range : InRange s
-    shape-in-range = in-range s (sym eq ∙ not-false q gq)
-
     module _ (w : ℕ) (ew : w ≡ regionWords s) where
-      pub few-words : w ≤ 20547
-      few-words = omega (arith, words-most s shape-in-range)
-
       count-test : w ≡ regionWords (shapeIn b)
       count-test = ew ∙ ap regionWords es
 
@@ -305,7 +299,7 @@ module _ (b : List ℕ) (s : Shape) (es : s ≡ shapeIn b) (q : Bool) (eq : q �
 
       module _ (el : length b ≡ 4 * w) where
         pub fields-asked : FieldsAsked s (length b)
-        fields-asked = record { shape = shape-in-range; exact = el ∙ ap (λ k. 4 * k) ew }
+        fields-asked = record { shape = shape-in-range s q eq gq; exact = el ∙ ap (λ k. 4 * k) ew }
 
         pub readable-rest : (r : Bool) → r ≡ fieldsReadable s b → r ≡ readable b
         unfolding readable

@@ -140,3 +140,11 @@ module _ (s : Shape) (d : Bool) (ed : d ≡ between 1 (s .depth) 12) where
 pub words-most : (s : Shape) → InRange s → regionWords s ≤ 20547
 unfolding regionWords
 words-most s r = omega (arith, sizes s (r .depth-most))
+
+-- What a shape that passed its test tells the code behind the test.
+module _ (s : Shape) (q : Bool) (eq : q ≡ shapeFits s) (gq : not q ≡ false) where
+  pub shape-in-range : InRange s
+  shape-in-range = in-range s (sym eq ∙ not-false q gq)
+
+  pub few-words : (w : ℕ) → w ≡ regionWords s → w ≤ 20547
+  few-words w ew = omega (arith, words-most s shape-in-range)

@@ -14,7 +14,7 @@ use lib.Seq.{drop-at, length-take-le, take-at}
 use Rattle.region.specs.Answer.{done, badShape}
 use Rattle.region.specs.Pick.{pick}
 use Rattle.region.specs.Shape.{InRange, regionWords, shapeFits}
-use Rattle.region.proofs.Shapes.{and-both, and-left, and-not-left, and-not-right, in-range}
+use Rattle.region.proofs.Shapes.{and-both, and-left, and-not-left, and-not-right, shape-in-range}
 use Rattle.layout.specs.Layout.{LaidOut, atMost, layoutBytes, layoutRefusal, permissionsFit}
 use Rattle.layout.proofs.Laws.{laid-length as laid-exactly, laid-permissions, laid-shape}
 use Rattle.region.specs.declared.answer.Answer.the-variants.{Refused}
@@ -72,7 +72,7 @@ module _ (u : Setup) where
 
     module _ (g : not q ≡ false) where
       some-threads : 1 ≤ u .shape .threads
-      some-threads = in-range (u .shape) (sym eq ∙ not-false q g) .threads-least
+      some-threads = shape-in-range (u .shape) q eq g .threads-least
 
       pub over : 3 < u .permission → badShape ≡ setupRefusal u
       unfolding setupRefusal layoutRefusal pick
