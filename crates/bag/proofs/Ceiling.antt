@@ -29,6 +29,7 @@ use Rattle.region.specs.declared.shape.Shape.{Shape}
 use Rattle.region.specs.declared.thread.Thread.{Thread}
 use Rattle.region.proofs.Frames.{frame-parted}
 use Rattle.region.proofs.Levels.{level-holds}
+use Rattle.region.proofs.Picks.{upd-same, upd-other}
 use Rattle.region.proofs.Shapes.{between-least, between-most, is-between, sizes}
 use Rattle.region.proofs.Views.{shared-setThread, threads-setThread}
 use Rattle.access.specs.Effect.{effectShared}
@@ -48,7 +49,6 @@ use Rattle.preserved.proofs.Proved.{begun-take-good, take-good, take-thread, tu
 use Rattle.preserved.proofs.TreeLevels.{level-child, twice}
 use Rattle.bag.specs.Ceiling.{AllClean, EndsAt, NoneSpent, ReadableTakesEnd, alone, found-empty, took, moved-then}
 use Rattle.bag.proofs.Carried.{turn-decides, turn-shared, turn-threads}
-use Rattle.bag.proofs.Cells.{upd-same, upd-other}
 
 -- a comparison with a copy that still holds
 same-copy : {n q : Node} → q ≡ n → sameNode n q ≡ true

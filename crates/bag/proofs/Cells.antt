@@ -6,19 +6,11 @@ use native.Mathlib.Decide.{ℕ-discrete}
 use native.Mathlib.Omega.{arith}
 use mathlib.Core.Path.{_≡_, refl, sym, ap, subst, subst₂, _∙_}
 use mathlib.Core.List.{List, _∷_}
-use borrow.Author.Tests.{eq-eqb, ne-eqb}
 use lib.ListN.{length}
-use Rattle.region.specs.Pick.{pick, upd}
+use Rattle.region.specs.Pick.{upd}
 use Rattle.region.specs.declared.record.Cell.{Cell}
+use Rattle.region.proofs.Picks.{upd-same, upd-other}
 use Rattle.bag.proofs.Chains.{Chain, ends, link, chain-left, items, items-left}
-
-pub upd-same : {A : Type 0} (f : ℕ → A) (n : ℕ) (a : A) → upd f n a n ≡ a
-unfolding upd pick
-upd-same f n a = rw (eq-eqb n n refl) refl
-
-pub upd-other : {A : Type 0} (f : ℕ → A) (n m : ℕ) (a : A) → (m ≡ n → ⊥) → upd f n a m ≡ f m
-unfolding upd pick
-upd-other f n m a h = rw (ne-eqb m n h) refl
 
 -- every owner's cells, from its head
 abbrev pub Chains : (ℕ → Cell) → (ℕ → ℕ) → (ℕ → ℕ) → (ℕ → ℕ) → (ℕ → List ℕ) → Type 0

@@ -17,6 +17,7 @@ use Rattle.region.specs.Thread.{idleThread}
 use Rattle.region.specs.declared.frame.Frame.{Frame}
 use Rattle.region.specs.declared.record.Item.{Item}
 use Rattle.region.specs.declared.shape.Shape.{Shape}
+use Rattle.region.proofs.Picks.{pick-good}
 use Rattle.access.specs.Plan.{plan, refused}
 use Rattle.layout.specs.Layout.{layoutBytes}
 use Rattle.layout.proofs.Laws.{laid-exact}
@@ -24,7 +25,6 @@ use Rattle.readable.specs.Readable.{readable, shapeIn}
 use Rattle.readable.proofs.Laws.{good, readable-good}
 use Rattle.machine.specs.Begin.{frameIn, mayPut, mayTake, putBytes, putRefusal, takeBytes, takeRefusal}
 use Rattle.machine.specs.Turn.{carriedOut, decide, decideAt, turnBytes, turnPlan}
-use Rattle.preserved.proofs.PlansGood.{pick-good}
 use Rattle.preserved.proofs.Proved.{put-permitted, take-permitted, put-keeps-readable, put-keeps-shape, put-leaves-others, take-keeps-readable, take-keeps-shape, take-leaves-others, turn-keeps-readable, turn-keeps-shape, turn-leaves-others}
 use Rattle.bag.specs.Calls.{NoLayout}
 use Rattle.bag.specs.EmptyList.{EmptyListChangesNothing, LeavesAlone}

@@ -21,13 +21,13 @@ use Rattle.region.specs.declared.record.Cell.{Cell}
 use Rattle.region.specs.declared.record.Item.{Item}
 use Rattle.region.specs.declared.record.Node.{Node}
 use Rattle.region.specs.declared.shape.Shape.{Shape}
+use Rattle.region.proofs.Picks.{pick-good}
 use Rattle.region.proofs.Shapes.{between-least, between-most, is-between}
 use Rattle.layout.specs.Layout.{layoutRefusal, layoutBytes, cellWord, threadWord}
 use Rattle.layout.proofs.Laws.{threadWord-rest}
 use Rattle.readable.proofs.Laws.{Good, good}
 use Rattle.queue.proofs.LaidOutIsReadable.{header, node-word, cell-word, thread-word, laid-out-is-readable, same-shape}
 use Rattle.machine.specs.Begin.{frameIn}
-use Rattle.preserved.proofs.PlansGood.{pick-good}
 use Rattle.bag.specs.Tree.{inList, inNodes, inTree}
 
 -- the chain of free cells: behind cell c comes c + 1, and cell C, like a number that is no cell, ends it

@@ -26,6 +26,7 @@ use Rattle.region.specs.declared.record.NodeCopy.{NodeCopy}
 use Rattle.region.specs.declared.shape.Shape.{Shape}
 use Rattle.region.specs.declared.thread.Thread.{Thread}
 use Rattle.region.proofs.Levels.{level-holds}
+use Rattle.region.proofs.Picks.{pick-good}
 use Rattle.region.proofs.Shapes.{and-left, and-right, and-both, is-between, sizes}
 use Rattle.access.specs.Order.{itemLe, itemLt, topItem, valueOf}
 use Rattle.access.specs.Plan.{plan, moved, onTo, refused}
@@ -41,7 +42,6 @@ use Rattle.extract.specs.Extract.{rootRead, readRoot, headRemoved, removeHead}
 use Rattle.moundify.specs.Moundify.{returnAnswer, returning, mendReadNode, depthRead, mendReadDepth, mendReadLeft, marked, childLess, childrenRead, mendReadRight, exchangeAt, bothSame, exchangeWith, mendSwap, cleanAt, mendClean}
 use Rattle.machine.specs.Turn.{decide, decideAt}
 use Rattle.readable.proofs.Stores.{PlaceGood, ThreadGood, WaitsAbove}
-use Rattle.preserved.proofs.PlansGood.{pick-good}
 use Rattle.preserved.proofs.TreeLevels.{fits, level-unique, twice}
 use Rattle.bag.specs.Ledger.{Operation, none, putting, taking, holding}
 use Rattle.bag.proofs.Effects.{Mound, PushAsks, PopAsks, ExchangeAsks, CleanAsks, in-tree}

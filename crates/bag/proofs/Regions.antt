@@ -24,6 +24,7 @@ use Rattle.region.specs.declared.record.Item.{Item}
 use Rattle.region.specs.declared.shape.Shape.{Shape}
 use Rattle.region.specs.declared.thread.Thread.{Thread}
 use Rattle.region.proofs.Frames.{frame-parted}
+use Rattle.region.proofs.Picks.{upd-same, upd-other}
 use Rattle.region.proofs.Shapes.{and-left, between-least, between-most, sizes}
 use Rattle.region.proofs.Views.{length-setCellIn, shared-setCell, shared-setFree, shared-setThread, threads-setCell, threads-setFree, threads-setThread}
 use Rattle.access.specs.Effect.{effectShared}
@@ -43,7 +44,6 @@ use Rattle.preserved.proofs.Proved.{begun-put-good, begun-take-good, free-few, 
 use Rattle.bag.specs.History.{Told, nothing, begunPut as toldPut, begunTake as toldTake, answerTells, effectTells, turnTells}
 use Rattle.bag.specs.Ledger.{Operation, none, putting, taking, Ledger, Follows, still, put-begins, take-begins}
 use Rattle.bag.proofs.Carried.{turn-decides, turn-shared, turn-stays, turn-threads}
-use Rattle.bag.proofs.Cells.{upd-same, upd-other}
 use Rattle.bag.proofs.Effects.{Mound, begin-counts, begin-keeps, rely-same}
 use Rattle.bag.proofs.Facts.{At}
 use Rattle.bag.proofs.Histories.{Next}

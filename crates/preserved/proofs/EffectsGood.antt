@@ -4,7 +4,6 @@ use native.Mathlib.Omega.{arith}
 use mathlib.Core.Path.{sym, subst, _∙_}
 use mathlib.Core.Logic.{inl, inr}
 use mathlib.Core.List.{List}
-use lib.Dec.{eqb}
 use Rattle.words.specs.Word.{Fit}
 use Rattle.region.specs.Frame.{frameOf}
 use Rattle.region.specs.Pick.{upd}
@@ -15,6 +14,7 @@ use Rattle.region.specs.declared.record.Cell.{Cell}
 use Rattle.region.specs.declared.record.Node.{Node}
 use Rattle.region.specs.declared.shape.Shape.{Shape}
 use Rattle.region.proofs.Frames.{frame-parted}
+use Rattle.region.proofs.Picks.{upd-good}
 use Rattle.region.proofs.Shapes.{sizes}
 use Rattle.access.specs.Effect.{effectShared, effectBytes}
 use Rattle.access.specs.declared.effect.Effect.{Effect}
@@ -22,11 +22,7 @@ use Rattle.access.specs.declared.effect.Effect.the-variants.{Nothing, Grow, Pus
 use Rattle.access.proofs.EffectLaws.{Elsewhere, EffectFits, effect-shared, effect-word, length-effect}
 use Rattle.readable.proofs.Laws.{Good}
 use Rattle.readable.proofs.Stores.{NodeGood, CellGood, SharedGood, good-shared, good-within, make-good, shape-kept, thread-reads}
-use Rattle.preserved.proofs.PlansGood.{EffectGood, pick-good, some-nodes}
-
-upd-good : {A : Type 0} (P : A → Type 0) (f : ℕ → A) (n : ℕ) (a : A) → ((k : ℕ) → P (f k)) → P a → (k : ℕ) → P (upd f n a k)
-unfolding upd
-upd-good P f n a hf ha k = pick-good P (eqb k n) (λ e. ha) (λ e. hf k)
+use Rattle.preserved.proofs.PlansGood.{EffectGood, some-nodes}
 
 module _ (s : Shape) (m : Shared) (g : SharedGood s m) where
   put-node : (n : ℕ) (v : Node) → NodeGood (s .cells) v → (k : ℕ) → NodeGood (s .cells) (upd (m .node) n v k)

@@ -7,14 +7,14 @@ use mathlib.Core.Path.{_≡_, refl, sym, ap, subst, _∙_}
 use mathlib.Core.Logic.{inl, inr}
 use mathlib.Core.Bool.{Bool, true, false, true≢false}
 use mathlib.Core.List.{List}
-use borrow.Author.Tests.{eqb-true, eq-eqb, leb-true, ne-eqb}
+use borrow.Author.Tests.{eqb-true, eq-eqb, leb-true}
 use lib.Dec.{leb, eqb}
 use lib.ListN.{length}
 use Rattle.words.specs.Word.{word, setWord}
 use Rattle.words.proofs.Laws.{word-other, length-setWord}
 use Rattle.region.specs.Answer.{done, badThread, noFreeCell}
 use Rattle.region.specs.Frame.{Within, frameOf, nodesOf}
-use Rattle.region.specs.Pick.{pick, upd}
+use Rattle.region.specs.Pick.{pick}
 use Rattle.region.specs.Shape.{InRange, between}
 use Rattle.region.specs.Shared.{Shared, entry, cellIn, setCellIn, setNodeIn, threadIn, setThreadIn, sharedIn}
 use Rattle.region.specs.Thread.{begunPut, begunTake, idleThread}
@@ -28,6 +28,7 @@ use Rattle.region.specs.declared.record.Node.{Node}
 use Rattle.region.specs.declared.shape.Shape.{Shape}
 use Rattle.region.specs.declared.thread.Thread.{Thread}
 use Rattle.region.proofs.Frames.{frame-parted}
+use Rattle.region.proofs.Picks.{pick-good, upd-other}
 use Rattle.region.proofs.Shapes.{and-left, and-right, between-least, between-most, sizes}
 use Rattle.region.proofs.Views.{length-setCellIn, length-setNodeIn, shared-setCell, shared-setFree, threads-setCell, threads-setFree, threads-setThread, threads-kept, word-setCell, word-setCellIn, word-setNode, word-setThread}
 use Rattle.access.specs.Effect.{effectBytes, freedBytes, pushBytes}
@@ -43,7 +44,7 @@ use Rattle.machine.specs.Begin.{frameIn, isIdle, isItem, mayPut, mayTake, putBe
 use Rattle.machine.specs.Turn.{carriedOut, decide, decideAt, staysPut, turnBytes, turnPlan}
 use Rattle.preserved.specs.Theorems.{Apart, OutsideEffect, TurnKeepsReadable, PutKeepsReadable, TakeKeepsReadable, TurnKeepsShape, PutKeepsShape, TakeKeepsShape, TurnLeavesOthers, PutLeavesOthers, TakeLeavesOthers, TurnLeavesWords}
 use Rattle.preserved.proofs.EffectsGood.{cell-fit, good-effect, put-cell, thread-elsewhere}
-use Rattle.preserved.proofs.PlansGood.{PlanGood, at-good, fields-item, fields-own, pick-good, plan-good, readDepth-good, readLeaf-good, readAncestor-good, growDepth-good, readTarget-good, insertAtRoot-good, readParent-good, insertBelow-good, readRoot-good, removeHead-good, mendReadNode-good, mendReadDepth-good, mendReadLeft-good, mendReadRight-good, mendSwap-good, mendClean-good}
+use Rattle.preserved.proofs.PlansGood.{PlanGood, at-good, fields-item, fields-own, plan-good, readDepth-good, readLeaf-good, readAncestor-good, growDepth-good, readTarget-good, insertAtRoot-good, readParent-good, insertBelow-good, readRoot-good, removeHead-good, mendReadNode-good, mendReadDepth-good, mendReadLeft-good, mendReadRight-good, mendSwap-good, mendClean-good}
 
 -- every place's plan is in range
 module _ (s : Shape) (r : InRange s) (m : Shared) (sm : SharedGood s m) (t : Thread) (gt : ThreadGood s t) (c : ℕ) where
@@ -282,19 +283,14 @@ put-keeps-readable b e t i = readable-good (shapeIn b) (putBytes b t i) (put-goo
 pub put-keeps-shape : PutKeepsShape
 put-keeps-shape b e t i = put-good b (good b e) t i .shape
 
--- What a turn leaves alone.
-other : (h : ℕ → Thread) (t u : ℕ) (v : Thread) → (u ≡ t → ⊥) → upd h t v u ≡ h u
-unfolding upd pick
-other h t u v n = rw (ne-eqb u t n) refl
-
--- storing a record of thread t's leaves every other thread's alone
+-- What a turn leaves alone: storing a record of thread t's leaves every other thread's alone
 store-others : (s : Shape) (b : List ℕ) → InRange s → Within (frameOf s) (length b) → (t : ℕ) → 1 ≤ t → t ≤ s .threads
     → (v : Thread) → ThreadGood s v → (u : ℕ) → (u ≡ t → ⊥)
     → threadIn (frameOf s) (setThreadIn (frameOf s) b t v) u ≡ threadIn (frameOf s) b u
 unfolding frameOf
 store-others s b r w t l m v g u n =
     ap (λ h. h u) (threads-setThread (frameOf s) b w (frame-parted s) t v l m (thread-fit s r v g))
-    ∙ other (threadIn (frameOf s) b) t u v n
+    ∙ upd-other (threadIn (frameOf s) b) t u v n
 
 module _ (s : Shape) (b : List ℕ) (g : Good s b) where
   pub within-effect : (e : Effect) → Within (frameOf s) (length (effectBytes (frameOf s) b e))
