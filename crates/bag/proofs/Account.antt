@@ -29,7 +29,7 @@ use Rattle.bag.specs.Ledger.{Ledger, Operation}
 use Rattle.bag.proofs.Cells.{starts}
 use Rattle.bag.proofs.Chains.{Chain, ends, link}
 use Rattle.bag.proofs.Facts.{At, Puts}
-use Rattle.bag.proofs.Held.{Held, few-cells, head-free, head-thread, node-chain}
+use Rattle.bag.proofs.Held.{Held, few-cells, free-chain, node-chain, thread-chain}
 use Rattle.bag.proofs.Steps.{Invariant, owns}
 use Rattle.bag.proofs.Sums.{sum}
 
@@ -105,21 +105,15 @@ module _ (s : Shape) (m : Shared) (th : ℕ → Thread) (l : Ledger) (inv : Inva
   thread-holds : (t : ℕ) → length (h .list (2 * t + 1)) ≡ pick (isPutPlace (th t .place)) 1 0
   thread-holds t =
       holds s m (th t) (l .operation t) (h .owner) (h .rank) (2 * t + 1) (h .list (2 * t + 1))
-      (subst (λ c. Chain (m .cell) (h .owner) (h .rank) (2 * t + 1) c (h .list (2 * t + 1))) (head-thread (m .free) (m .node) (owns th) t)
-      (h .chains (2 * t + 1)))
-      (th t .place) (inv .at t)
+      (thread-chain s m (owns th) h t) (th t .place) (inv .at t)
 
   puts-sum : (n : ℕ) → putsAmong th n ≡ sum (λ t. length (h .list (2 * t + 1))) n
   unfolding putsAmong sum
   puts-sum zero = refl
   puts-sum (suc n) = cc (puts-sum n, thread-holds (suc n))
 
-  free-chain : Chain (m .cell) (h .owner) (h .rank) 0 (m .free) (h .list 0)
-  free-chain =
-      subst (λ c. Chain (m .cell) (h .owner) (h .rank) 0 c (h .list 0)) (head-free (m .free) (m .node) (owns th)) (h .chains 0)
-
   free-measured : listCells m (s .cells) (m .free) ≡ length (h .list 0)
-  free-measured = walk-measures m (h .owner) (h .rank) 0 (s .cells) (m .free) (h .list 0) free-chain (omega (arith, h .total))
+  free-measured = walk-measures m (h .owner) (h .rank) 0 (s .cells) (m .free) (h .list 0) (free-chain s m (owns th) h) (omega (arith, h .total))
 
   all-cells : nodesCells m (s .cells) (nodeCount s) + putsAmong th (s .threads) + listCells m (s .cells) (m .free) ≡ s .cells
   all-cells = omega (arith, h .total, nodes-sum (nodeCount s) (omega arith), puts-sum (s .threads), free-measured)
@@ -127,11 +121,11 @@ module _ (s : Shape) (m : Shared) (th : ℕ → Thread) (l : Ledger) (inv : Inva
   -- no cell is free exactly when the others hold all
   full-without : m .free ≡ 0 → nodesCells m (s .cells) (nodeCount s) + putsAmong th (s .threads) ≡ s .cells
   full-without e =
-      let none = none-held (m .cell) (h .owner) (h .rank) 0 (m .free) (h .list 0) free-chain e in
+      let none = none-held (m .cell) (h .owner) (h .rank) 0 (m .free) (h .list 0) (free-chain s m (owns th) h) e in
       omega (arith, all-cells, free-measured, none)
 
   not-full-with : 1 ≤ m .free → nodesCells m (s .cells) (nodeCount s) + putsAmong th (s .threads) ≡ s .cells → ⊥
-  not-full-with p e = omega (arith, all-cells, free-measured, ap length (starts free-chain p .is), e)
+  not-full-with p e = omega (arith, all-cells, free-measured, ap length (starts (free-chain s m (owns th) h) p .is), e)
 
 -- where nothing else refuses a put, the first free cell decides
 cell-decides : (b : List ℕ) (t : ℕ) (i : Item) → NothingElseRefuses b t i

@@ -17,14 +17,14 @@ abbrev pub Chains : (ℕ → Cell) → (ℕ → ℕ) → (ℕ → ℕ) → (ℕ 
 Chains cell own rank head list = (o : ℕ) → Chain cell own rank o (head o) (list o)
 
 -- a chain that is not empty starts with a link
-pub record Link (cell : ℕ → Cell) (own rank : ℕ → ℕ) (o c d : ℕ) (cs : List ℕ) : Type 0 where
+record Link (cell : ℕ → Cell) (own rank : ℕ → ℕ) (o c d : ℕ) (cs : List ℕ) : Type 0 where
   pub is : c ≡ d
   pub some : 1 ≤ d
   pub owner : own d ≡ o
   pub behind : rank d ≡ length cs
   pub rest : Chain cell own rank o (cell d .next) cs
 
-pub first-link : {cell : ℕ → Cell} {own rank : ℕ → ℕ} {o c d : ℕ} {cs : List ℕ} → Chain cell own rank o c (d ∷ cs) → Link cell own rank o c d cs
+first-link : {cell : ℕ → Cell} {own rank : ℕ → ℕ} {o c d : ℕ} {cs : List ℕ} → Chain cell own rank o c (d ∷ cs) → Link cell own rank o c d cs
 first-link (link e p eo er k) = record { is = refl; some = p; owner = eo; behind = er; rest = k }
 
 -- The head c of owner o's chain moves to the front of owner q's.

@@ -18,6 +18,11 @@ pub data Chain (cell : ℕ → Cell) (own rank : ℕ → ℕ) (o : ℕ) : ℕ �
   link : (c : ℕ) {cs : List ℕ} → 1 ≤ c → own c ≡ o → rank c ≡ length cs → Chain cell own rank o (cell c .next) cs
       → Chain cell own rank o c (c ∷ cs)
 
+-- the first cell is the owner's
+pub first-owned : {cell : ℕ → Cell} {own rank : ℕ → ℕ} {o c : ℕ} {cs : List ℕ} → Chain cell own rank o c cs → 1 ≤ c → own c ≡ o
+first-owned ends l = absurd (omega arith)
+first-owned (link c p eo er k) l = eo
+
 -- what a change of cells, owners and ranks leaves of the cells of one owner with a rank below n, which may change hands together
 abbrev pub Left : (ℕ → Cell) → (ℕ → Cell) → (ℕ → ℕ) → (ℕ → ℕ) → (ℕ → ℕ) → (ℕ → ℕ) → ℕ → ℕ → ℕ → Type 0
 Left cell cell′ own own′ rank rank′ o o′ n =

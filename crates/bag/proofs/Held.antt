@@ -17,8 +17,8 @@ use Rattle.region.specs.declared.shape.Shape.{Shape}
 use Rattle.access.specs.Order.{topItem, valueOf}
 use Rattle.access.specs.Read.{readNode}
 use Rattle.bag.specs.Tree.{inNodes, sameItem}
-use Rattle.bag.proofs.Cells.{Chains, Moved, Exchanged, move, exchange, first-link, starts}
-use Rattle.bag.proofs.Chains.{Chain, copies, items}
+use Rattle.bag.proofs.Cells.{Chains, Moved, Exchanged, move, exchange}
+use Rattle.bag.proofs.Chains.{Chain, copies, first-owned, items}
 use Rattle.bag.proofs.Counts.{inChain, tree-counts}
 use Rattle.bag.proofs.Sorted.{AtMost, Proper, Sorted, from-head, head-least, head-proper, head-counted, top-value}
 use Rattle.bag.proofs.Sums.{sum, sum-same, sum-has, sum-but, sum-exchange, sum-some}
@@ -79,9 +79,18 @@ counted s m i = inNodes m i (s .cells) (nodeCount s)
 
 -- What holds of the tree.
 module _ (s : Shape) (m : Shared) (own : ℕ → ℕ) (h : Held s m own) where
+  -- holder o's chain, from its first cell c
+  chain-from : (o c : ℕ) → heads (m .free) (m .node) own o ≡ c → Chain (m .cell) (h .owner) (h .rank) o c (h .list o)
+  chain-from o c e = subst (λ c. Chain (m .cell) (h .owner) (h .rank) o c (h .list o)) e (h .chains o)
+
+  pub free-chain : Chain (m .cell) (h .owner) (h .rank) 0 (m .free) (h .list 0)
+  free-chain = chain-from 0 (m .free) (head-free (m .free) (m .node) own)
+
   pub node-chain : (n : ℕ) → 1 ≤ n → Chain (m .cell) (h .owner) (h .rank) (2 * n) (m .node n .first) (h .list (2 * n))
-  node-chain n p =
-      subst (λ c. Chain (m .cell) (h .owner) (h .rank) (2 * n) c (h .list (2 * n))) (head-node (m .free) (m .node) own n p) (h .chains (2 * n))
+  node-chain n p = chain-from (2 * n) (m .node n .first) (head-node (m .free) (m .node) own n p)
+
+  pub thread-chain : (t : ℕ) → Chain (m .cell) (h .owner) (h .rank) (2 * t + 1) (own t) (h .list (2 * t + 1))
+  thread-chain t = chain-from (2 * t + 1) (own t) (head-thread (m .free) (m .node) own t)
 
   pub few-cells : (n : ℕ) → 1 ≤ n → n ≤ nodeCount s → length (h .list (2 * n)) ≤ s .cells
   few-cells n p q = let a = sum-has (λ k. length (h .list (2 * k))) (nodeCount s) n p q in omega (arith, a, h .total)
@@ -128,23 +137,15 @@ module _ (s : Shape) (m : Shared) (own : ℕ → ℕ) (h : Held s m own) where
 
   -- the first cell of a node's list is that node's
   pub first-owner : (n : ℕ) → 1 ≤ n → 1 ≤ m .node n .first → h .owner (m .node n .first) ≡ 2 * n
-  first-owner n p l =
-      let st = starts (node-chain n p) l in
-      first-link (subst (Chain (m .cell) (h .owner) (h .rank) (2 * n) (m .node n .first)) (st .is) (node-chain n p)) .owner
+  first-owner n p l = first-owned (node-chain n p) l
 
   -- an own cell is its thread's
   pub own-owner : (t : ℕ) → 1 ≤ own t → h .owner (own t) ≡ 2 * t + 1
-  own-owner t l =
-      let k = subst (λ c. Chain (m .cell) (h .owner) (h .rank) (2 * t + 1) c (h .list (2 * t + 1))) (head-thread (m .free) (m .node) own t) (h .chains (2 * t + 1)) in
-      let st = starts k l in
-      first-link (subst (Chain (m .cell) (h .owner) (h .rank) (2 * t + 1) (own t)) (st .is) k) .owner
+  own-owner t l = first-owned (thread-chain t) l
 
   -- the first free cell is free
   pub free-owner : 1 ≤ m .free → h .owner (m .free) ≡ 0
-  free-owner l =
-      let k = subst (λ c. Chain (m .cell) (h .owner) (h .rank) 0 c (h .list 0)) (head-free (m .free) (m .node) own) (h .chains 0) in
-      let st = starts k l in
-      first-link (subst (Chain (m .cell) (h .owner) (h .rank) 0 (m .free)) (st .is) k) .owner
+  free-owner l = first-owned free-chain l
 
 -- The same lists in the same cells.
 pub held-same : (s : Shape) (m m′ : Shared) (own : ℕ → ℕ) → Held s m own → m′ .cell ≡ m .cell → m′ .free ≡ m .free
