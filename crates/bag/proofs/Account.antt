@@ -5,7 +5,7 @@ use native.Mathlib.Decide.{ℕ-discrete}
 use native.Mathlib.Omega.{arith}
 use mathlib.Core.Path.{_≡_, refl, sym, ap, subst, _∙_}
 use mathlib.Core.Bool.{Bool, true, false}
-use mathlib.Core.List.{List}
+use mathlib.Core.List.{List, [], _∷_}
 use borrow.Author.Tests.{eq-eqb, ne-eqb}
 use lib.Dec.{eqb}
 use lib.ListN.{length}
@@ -24,29 +24,22 @@ use Rattle.region.specs.declared.thread.Thread.{Thread}
 use Rattle.readable.specs.Readable.{shapeIn}
 use Rattle.readable.proofs.Laws.{Good}
 use Rattle.machine.specs.Begin.{frameIn, putBusy, putRefusal}
-use Rattle.bag.specs.Account.{listCells, nodesCells, treeCells, isPutPlace, putsAmong, begunPuts, freeCells, AllCellsAccounted, NothingElseRefuses, RefusedWhenFull, PutsRefusedWhenFull}
+use Rattle.bag.specs.Account.{anyItem, treeCells, isPutPlace, putsAmong, begunPuts, freeCells, AllCellsAccounted, NothingElseRefuses, RefusedWhenFull, PutsRefusedWhenFull}
 use Rattle.bag.specs.Ledger.{Ledger, Operation}
+use Rattle.bag.specs.Tree.{inList, inNodes}
 use Rattle.bag.proofs.Cells.{starts}
-use Rattle.bag.proofs.Chains.{Chain, ends, link}
+use Rattle.bag.proofs.Chains.{Chain, ends, link, among, items, walk-counts}
+use Rattle.bag.proofs.Counts.{inChain}
 use Rattle.bag.proofs.Facts.{At, Puts}
-use Rattle.bag.proofs.Held.{Held, few-cells, free-chain, node-chain, thread-chain}
+use Rattle.bag.proofs.Held.{Held, counts, free-chain, thread-chain}
 use Rattle.bag.proofs.Steps.{Invariant, owns}
-use Rattle.bag.proofs.Sums.{sum}
+use Rattle.bag.proofs.Sums.{sum, sum-same}
 
--- walking a chain counts its cells
-walk-measures : (m : Shared) (own rank : ℕ → ℕ) (o n c : ℕ) (cs : List ℕ) → Chain (m .cell) own rank o c cs → length cs ≤ n
-    → listCells m n c ≡ length cs
-unfolding listCells pick
-walk-measures m own rank o n c cs ends h = at-end n
-  where
-    at-end : (k : ℕ) → listCells m k 0 ≡ 0
-    at-end zero = refl
-    at-end (suc k) = refl
-walk-measures m own rank o zero c cs (link d p eo er k) h = absurd (omega arith)
-walk-measures m own rank o (suc n) c cs (link d {cs = ds} p eo er k) h =
-    rw
-    (ne-eqb d 0 (λ z. omega arith))
-    (ap suc (walk-measures m own rank o n (m .cell d .next) ds k (omega arith)))
+-- every cell has an item
+all-count : (cell : ℕ → Cell) (cs : List ℕ) → among anyItem (items cell cs) ≡ length cs
+unfolding among items pick
+all-count cell [] = refl
+all-count cell (c ∷ cs) = omega (arith, all-count cell cs)
 
 -- What a thread holds: its own cell alone, or nothing.
 module _ (cell : ℕ → Cell) (own rank : ℕ → ℕ) (o : ℕ) where
@@ -92,15 +85,11 @@ module _ (s : Shape) (m : Shared) (th : ℕ → Thread) (l : Ledger) (inv : Inva
   abbrev h : Held s m (owns th)
   h = inv .mound .held
 
-  nodes-sum : (n : ℕ) → n ≤ nodeCount s → nodesCells m (s .cells) n ≡ sum (λ k. length (h .list (2 * k))) n
-  unfolding nodesCells sum
-  nodes-sum zero u = refl
-  nodes-sum (suc n) u =
-      cc (
-        nodes-sum n (omega arith),
-        walk-measures m (h .owner) (h .rank) (2 * suc n) (s .cells) (m .node (suc n) .first) (h .list (2 * suc n))
-            (node-chain s m (owns th) h (suc n) (omega arith)) (few-cells s m (owns th) h (suc n) (omega arith) u),
-      )
+  nodes-sum : inNodes m anyItem (s .cells) (nodeCount s) ≡ sum (λ k. length (h .list (2 * k))) (nodeCount s)
+  unfolding inChain
+  nodes-sum =
+      counts s m (owns th) h anyItem
+      ∙ sum-same (λ k. length (h .list (2 * k))) (inChain (m .cell) (h .list) anyItem) (nodeCount s) (λ k l u. all-count (m .cell) (h .list (2 * k)))
 
   thread-holds : (t : ℕ) → length (h .list (2 * t + 1)) ≡ pick (isPutPlace (th t .place)) 1 0
   thread-holds t =
@@ -112,19 +101,21 @@ module _ (s : Shape) (m : Shared) (th : ℕ → Thread) (l : Ledger) (inv : Inva
   puts-sum zero = refl
   puts-sum (suc n) = cc (puts-sum n, thread-holds (suc n))
 
-  free-measured : listCells m (s .cells) (m .free) ≡ length (h .list 0)
-  free-measured = walk-measures m (h .owner) (h .rank) 0 (s .cells) (m .free) (h .list 0) (free-chain s m (owns th) h) (omega (arith, h .total))
+  free-measured : inList m anyItem (s .cells) (m .free) ≡ length (h .list 0)
+  free-measured =
+      walk-counts m (h .owner) (h .rank) 0 anyItem (s .cells) (m .free) (h .list 0) (free-chain s m (owns th) h) (omega (arith, h .total))
+      ∙ all-count (m .cell) (h .list 0)
 
-  all-cells : nodesCells m (s .cells) (nodeCount s) + putsAmong th (s .threads) + listCells m (s .cells) (m .free) ≡ s .cells
-  all-cells = omega (arith, h .total, nodes-sum (nodeCount s) (omega arith), puts-sum (s .threads), free-measured)
+  all-cells : inNodes m anyItem (s .cells) (nodeCount s) + putsAmong th (s .threads) + inList m anyItem (s .cells) (m .free) ≡ s .cells
+  all-cells = omega (arith, h .total, nodes-sum, puts-sum (s .threads), free-measured)
 
   -- no cell is free exactly when the others hold all
-  full-without : m .free ≡ 0 → nodesCells m (s .cells) (nodeCount s) + putsAmong th (s .threads) ≡ s .cells
+  full-without : m .free ≡ 0 → inNodes m anyItem (s .cells) (nodeCount s) + putsAmong th (s .threads) ≡ s .cells
   full-without e =
       let none = none-held (m .cell) (h .owner) (h .rank) 0 (m .free) (h .list 0) (free-chain s m (owns th) h) e in
       omega (arith, all-cells, free-measured, none)
 
-  not-full-with : 1 ≤ m .free → nodesCells m (s .cells) (nodeCount s) + putsAmong th (s .threads) ≡ s .cells → ⊥
+  not-full-with : 1 ≤ m .free → inNodes m anyItem (s .cells) (nodeCount s) + putsAmong th (s .threads) ≡ s .cells → ⊥
   not-full-with p e = omega (arith, all-cells, free-measured, ap length (starts (free-chain s m (owns th) h) p .is), e)
 
 -- where nothing else refuses a put, the first free cell decides

@@ -3,6 +3,7 @@
 use Prim.Native.Nat.{ℕ, zero, suc, _+_, _≤_, _<_}
 use native.Mathlib.Omega.{arith}
 use mathlib.Core.Path.{_≡_, refl, sym, ap, subst, _∙_}
+use mathlib.Core.Bool.{Bool}
 use mathlib.Core.List.{List, [], _∷_}
 use borrow.Author.Tests.{ne-eqb}
 use lib.ListN.{length}
@@ -10,7 +11,7 @@ use Rattle.region.specs.Pick.{pick}
 use Rattle.region.specs.Shared.{Shared}
 use Rattle.region.specs.declared.record.Cell.{Cell}
 use Rattle.region.specs.declared.record.Item.{Item}
-use Rattle.bag.specs.Tree.{inList, sameItem}
+use Rattle.bag.specs.Tree.{inList}
 
 -- from cell c by next cells to 0 these cells, owned by o
 pub data Chain (cell : ℕ → Cell) (own rank : ℕ → ℕ) (o : ℕ) : ℕ → List ℕ → Type 0 where
@@ -43,25 +44,27 @@ unfoldable pub items : (ℕ → Cell) → List ℕ → List Item
 items cell [] = []
 items cell (c ∷ cs) = cell c .item ∷ items cell cs
 
--- copies of an item among these
-unfoldable pub copies : Item → List Item → ℕ
-copies i [] = 0
-copies i (j ∷ js) = pick (sameItem i j) 1 0 + copies i js
+-- nothing is counted from no cell
+pub empty-list : (m : Shared) (test : Item → Bool) (n : ℕ) → inList m test n 0 ≡ 0
+unfolding inList pick
+empty-list m test zero = refl
+empty-list m test (suc n) = refl
+
+-- how many of these pass the test
+unfoldable pub among : (Item → Bool) → List Item → ℕ
+among test [] = 0
+among test (i ∷ is) = pick (test i) 1 0 + among test is
 
 -- walking a chain counts its items
-pub walk-counts : (m : Shared) (own rank : ℕ → ℕ) (o : ℕ) (i : Item) (n c : ℕ) (cs : List ℕ) → Chain (m .cell) own rank o c cs
-    → length cs ≤ n → inList m i n c ≡ copies i (items (m .cell) cs)
-unfolding inList copies items pick
-walk-counts m own rank o i n c cs ends h = at-end n
-  where
-    at-end : (k : ℕ) → inList m i k 0 ≡ 0
-    at-end zero = refl
-    at-end (suc k) = refl
-walk-counts m own rank o i zero c cs (link d p eo er k) h = absurd (omega arith)
-walk-counts m own rank o i (suc n) c cs (link d {cs = ds} p eo er k) h =
+pub walk-counts : (m : Shared) (own rank : ℕ → ℕ) (o : ℕ) (test : Item → Bool) (n c : ℕ) (cs : List ℕ) → Chain (m .cell) own rank o c cs
+    → length cs ≤ n → inList m test n c ≡ among test (items (m .cell) cs)
+unfolding inList among items pick
+walk-counts m own rank o test n c cs ends h = empty-list m test n
+walk-counts m own rank o test zero c cs (link d p eo er k) h = absurd (omega arith)
+walk-counts m own rank o test (suc n) c cs (link d {cs = ds} p eo er k) h =
     rw
     (ne-eqb d 0 (λ z. omega arith))
-    (ap (λ x. pick (sameItem i (m .cell d .item)) 1 0 + x) (walk-counts m own rank o i n (m .cell d .next) ds k (omega arith)))
+    (ap (λ x. pick (test (m .cell d .item)) 1 0 + x) (walk-counts m own rank o test n (m .cell d .next) ds k (omega arith)))
 
 -- a change elsewhere leaves the items
 pub items-left : (cell cell′ : ℕ → Cell) (own own′ rank rank′ : ℕ → ℕ) (o o′ c : ℕ) (cs : List ℕ)

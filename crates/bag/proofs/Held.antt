@@ -4,6 +4,7 @@ use Prim.Native.Nat.{ℕ, _+_, _*_, _/_, _%_, _≤_}
 use native.Mathlib.Decide.{ℕ-discrete}
 use native.Mathlib.Omega.{arith}
 use mathlib.Core.Path.{_≡_, refl, sym, ap, subst, _∙_}
+use mathlib.Core.Bool.{Bool}
 use mathlib.Core.List.{List, _∷_}
 use borrow.Author.Tests.{eq-eqb, ne-eqb}
 use lib.Dec.{eqb}
@@ -18,7 +19,7 @@ use Rattle.access.specs.Order.{topItem, valueOf}
 use Rattle.access.specs.Read.{readNode}
 use Rattle.bag.specs.Tree.{inNodes, sameItem}
 use Rattle.bag.proofs.Cells.{Chains, Moved, Exchanged, move, exchange}
-use Rattle.bag.proofs.Chains.{Chain, copies, first-owned, items}
+use Rattle.bag.proofs.Chains.{Chain, among, first-owned, items}
 use Rattle.bag.proofs.Counts.{inChain, tree-counts}
 use Rattle.bag.proofs.Sorted.{AtMost, Proper, Sorted, from-head, head-least, head-proper, head-counted, top-value}
 use Rattle.bag.proofs.Sums.{sum, sum-same, sum-has, sum-but, sum-exchange, sum-some}
@@ -75,7 +76,7 @@ val m n = valueOf (readNode m n)
 
 -- the tree's count of i
 abbrev pub counted : Shape → Shared → Item → ℕ
-counted s m i = inNodes m i (s .cells) (nodeCount s)
+counted s m i = inNodes m (sameItem i) (s .cells) (nodeCount s)
 
 -- What holds of the tree.
 module _ (s : Shape) (m : Shared) (own : ℕ → ℕ) (h : Held s m own) where
@@ -95,10 +96,10 @@ module _ (s : Shape) (m : Shared) (own : ℕ → ℕ) (h : Held s m own) where
   pub few-cells : (n : ℕ) → 1 ≤ n → n ≤ nodeCount s → length (h .list (2 * n)) ≤ s .cells
   few-cells n p q = let a = sum-has (λ k. length (h .list (2 * k))) (nodeCount s) n p q in omega (arith, a, h .total)
 
-  pub counts : (i : Item) → counted s m i ≡ sum (inChain (m .cell) (h .list) i) (nodeCount s)
-  counts i =
+  pub counts : (test : Item → Bool) → inNodes m test (s .cells) (nodeCount s) ≡ sum (inChain (m .cell) (h .list) test) (nodeCount s)
+  counts test =
       tree-counts m (h .owner) (h .rank) (heads (m .free) (m .node) own) (h .list) (h .chains)
-      (λ k p. head-node (m .free) (m .node) own k p) (s .cells) i (nodeCount s) few-cells
+      (λ k p. head-node (m .free) (m .node) own k p) (s .cells) test (nodeCount s) few-cells
 
   -- an item that the tree holds is held by a node whose value is no greater
   pub record HeldBy (i : Item) : Type 0 where
@@ -111,7 +112,7 @@ module _ (s : Shape) (m : Shared) (own : ℕ → ℕ) (h : Held s m own) where
   pub held-by : (i : Item) → 1 ≤ counted s m i → HeldBy i
   unfolding inChain valueOf readNode
   held-by i l =
-      let w = sum-some (inChain (m .cell) (h .list) i) (nodeCount s) (subst (λ k. 1 ≤ k) (counts i) l) in
+      let w = sum-some (inChain (m .cell) (h .list) (sameItem i)) (nodeCount s) (subst (λ k. 1 ≤ k) (counts (sameItem i)) l) in
       let n = w .at in
       record {
         node = n;
@@ -132,8 +133,8 @@ module _ (s : Shape) (m : Shared) (own : ℕ → ℕ) (h : Held s m own) where
   head-held n p q l =
       let i = m .cell (m .node n .first) .item in
       let a = head-counted (m .cell) (h .owner) (h .rank) (2 * n) (m .node n .first) (h .list (2 * n)) (node-chain n p) l in
-      let b = sum-has (inChain (m .cell) (h .list) i) (nodeCount s) n p q in
-      omega (arith, counts i, a, b)
+      let b = sum-has (inChain (m .cell) (h .list) (sameItem i)) (nodeCount s) n p q in
+      omega (arith, counts (sameItem i), a, b)
 
   -- the first cell of a node's list is that node's
   pub first-owner : (n : ℕ) → 1 ≤ n → 1 ≤ m .node n .first → h .owner (m .node n .first) ≡ 2 * n
@@ -168,9 +169,9 @@ pub counted-same : (s : Shape) (m m′ : Shared) (own : ℕ → ℕ) → Held s 
     → ((n : ℕ) → m′ .node n .first ≡ m .node n .first) → (i : Item) → counted s m′ i ≡ counted s m i
 unfolding inChain sum held-same
 counted-same s m m′ own h ec ef en i =
-    counts s m′ own (held-same s m m′ own h ec ef en) i
-    ∙ ap (λ cell. sum (λ k. copies i (items cell (h .list (2 * k)))) (nodeCount s)) ec
-    ∙ sym (counts s m own h i)
+    counts s m′ own (held-same s m m′ own h ec ef en) (sameItem i)
+    ∙ ap (λ cell. sum (λ k. among (sameItem i) (items cell (h .list (2 * k)))) (nodeCount s)) ec
+    ∙ sym (counts s m own h (sameItem i))
 
 -- A put begins: the first free cell c becomes thread t's own.
 module _ (s : Shape) (m m′ : Shared) (own own′ : ℕ → ℕ) (h : Held s m own) (t c : ℕ) (lt : 1 ≤ t) (ut : t ≤ s .threads) (some : 1 ≤ c)
@@ -204,10 +205,10 @@ module _ (s : Shape) (m m′ : Shared) (own own′ : ℕ → ℕ) (h : Held s m 
   pub counted-begin : (i : Item) → counted s m′ i ≡ counted s m i
   unfolding inChain held-begin begin-move
   counted-begin i =
-      counts s m′ own′ held-begin i
-      ∙ sum-same (inChain (m .cell) (h .list) i) (inChain (m′ .cell) (begin-move .lists) i) (nodeCount s)
-      (λ k l u. ap (copies i) (begin-move .items-x (2 * k) (λ z. omega arith) (λ z. omega arith)))
-      ∙ sym (counts s m own h i)
+      counts s m′ own′ held-begin (sameItem i)
+      ∙ sum-same (inChain (m .cell) (h .list) (sameItem i)) (inChain (m′ .cell) (begin-move .lists) (sameItem i)) (nodeCount s)
+      (λ k l u. ap (among (sameItem i)) (begin-move .items-x (2 * k) (λ z. omega arith) (λ z. omega arith)))
+      ∙ sym (counts s m own h (sameItem i))
 
 -- A push: thread t's own cell c becomes the head of node n's list.
 module _ (s : Shape) (m m′ : Shared) (own own′ : ℕ → ℕ) (h : Held s m own) (t n c : ℕ) (lt : 1 ≤ t) (ut : t ≤ s .threads) (ln : 1 ≤ n)
@@ -258,13 +259,13 @@ module _ (s : Shape) (m m′ : Shared) (own own′ : ℕ → ℕ) (h : Held s m 
 
   -- one copy more of the item
   pub counted-push : (i : Item) → counted s m′ i ≡ counted s m i + pick (sameItem i (m .cell c .item)) 1 0
-  unfolding inChain copies held-push push-move
+  unfolding inChain among held-push push-move
   counted-push i =
-      let a = sum-but (inChain (m .cell) (h .list) i) (inChain (m′ .cell) (push-move .lists) i) (nodeCount s) n ln un
-      (λ x p q. ap (copies i) (push-move .items-x (2 * x) (λ z. omega arith) (λ z. q (omega arith)))) in
-      let b : inChain (m′ .cell) (push-move .lists) i n ≡ pick (sameItem i (m .cell c .item)) 1 0 + inChain (m .cell) (h .list) i n =
-      ap (copies i) (push-move .items-q) ∙ ap (λ j. pick (sameItem i j) 1 0 + copies i (items (m .cell) (h .list (2 * n)))) kept in
-      omega (arith, counts s m′ own′ held-push i, counts s m own h i, a, b)
+      let a = sum-but (inChain (m .cell) (h .list) (sameItem i)) (inChain (m′ .cell) (push-move .lists) (sameItem i)) (nodeCount s) n ln un
+      (λ x p q. ap (among (sameItem i)) (push-move .items-x (2 * x) (λ z. omega arith) (λ z. q (omega arith)))) in
+      let b : inChain (m′ .cell) (push-move .lists) (sameItem i) n ≡ pick (sameItem i (m .cell c .item)) 1 0 + inChain (m .cell) (h .list) (sameItem i) n =
+      ap (among (sameItem i)) (push-move .items-q) ∙ ap (λ j. pick (sameItem i j) 1 0 + among (sameItem i) (items (m .cell) (h .list (2 * n)))) kept in
+      omega (arith, counts s m′ own′ held-push (sameItem i), counts s m own h (sameItem i), a, b)
 
 -- A pop: the head c of the root's list goes to the front of the free chain.
 module _ (s : Shape) (m m′ : Shared) (own : ℕ → ℕ) (h : Held s m own) (c : ℕ) (root : 1 ≤ nodeCount s) (some : 1 ≤ c)
@@ -304,13 +305,13 @@ module _ (s : Shape) (m m′ : Shared) (own : ℕ → ℕ) (h : Held s m own) (c
 
   -- one copy less of the item
   pub counted-pop : (i : Item) → counted s m i ≡ counted s m′ i + pick (sameItem i (m .cell c .item)) 1 0
-  unfolding inChain copies held-pop pop-move
+  unfolding inChain among held-pop pop-move
   counted-pop i =
-      let a = sum-but (inChain (m .cell) (h .list) i) (inChain (m′ .cell) (pop-move .lists) i) (nodeCount s) 1 (omega arith) root
-      (λ x p q. ap (copies i) (pop-move .items-x (2 * x) (λ z. q (omega arith)) (λ z. omega arith))) in
-      let b : inChain (m .cell) (h .list) i 1 ≡ pick (sameItem i (m .cell c .item)) 1 0 + inChain (m′ .cell) (pop-move .lists) i 1 =
-      ap (copies i) (pop-move .items-o) in
-      omega (arith, counts s m′ own held-pop i, counts s m own h i, a, b)
+      let a = sum-but (inChain (m .cell) (h .list) (sameItem i)) (inChain (m′ .cell) (pop-move .lists) (sameItem i)) (nodeCount s) 1 (omega arith) root
+      (λ x p q. ap (among (sameItem i)) (pop-move .items-x (2 * x) (λ z. q (omega arith)) (λ z. omega arith))) in
+      let b : inChain (m .cell) (h .list) (sameItem i) 1 ≡ pick (sameItem i (m .cell c .item)) 1 0 + inChain (m′ .cell) (pop-move .lists) (sameItem i) 1 =
+      ap (among (sameItem i)) (pop-move .items-o) in
+      omega (arith, counts s m′ own held-pop (sameItem i), counts s m own h (sameItem i), a, b)
 
 -- An exchange of the lists of nodes n and k.
 module _ (s : Shape) (m m′ : Shared) (own : ℕ → ℕ) (h : Held s m own) (n k : ℕ) (ln : 1 ≤ n) (un : n ≤ nodeCount s) (lk : 1 ≤ k)
@@ -360,9 +361,9 @@ module _ (s : Shape) (m m′ : Shared) (own : ℕ → ℕ) (h : Held s m own) (n
   pub counted-exchange : (i : Item) → counted s m′ i ≡ counted s m i
   unfolding inChain sum held-exchange exchange-lists
   counted-exchange i =
-      counts s m′ own held-exchange i
-      ∙ ap (λ cell. sum (λ x. copies i (items cell (exchange-lists .lists (2 * x)))) (nodeCount s)) cells
-      ∙ sum-exchange (inChain (m .cell) (h .list) i) (inChain (m .cell) (exchange-lists .lists) i) (nodeCount s) n k ln un lk uk apart
-      (ap (λ l. copies i (items (m .cell) l)) (exchange-lists .list-o)) (ap (λ l. copies i (items (m .cell) l)) (exchange-lists .list-q))
-      (λ x p q. ap (λ l. copies i (items (m .cell) l)) (list-x x p q))
-      ∙ sym (counts s m own h i)
+      counts s m′ own held-exchange (sameItem i)
+      ∙ ap (λ cell. sum (λ x. among (sameItem i) (items cell (exchange-lists .lists (2 * x)))) (nodeCount s)) cells
+      ∙ sum-exchange (inChain (m .cell) (h .list) (sameItem i)) (inChain (m .cell) (exchange-lists .lists) (sameItem i)) (nodeCount s) n k ln un lk uk apart
+      (ap (λ l. among (sameItem i) (items (m .cell) l)) (exchange-lists .list-o)) (ap (λ l. among (sameItem i) (items (m .cell) l)) (exchange-lists .list-q))
+      (λ x p q. ap (λ l. among (sameItem i) (items (m .cell) l)) (list-x x p q))
+      ∙ sym (counts s m own h (sameItem i))

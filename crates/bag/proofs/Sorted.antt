@@ -14,7 +14,7 @@ use Rattle.region.proofs.Shapes.{and-left, and-right, and-both}
 use Rattle.access.specs.Order.{itemLe, topItem}
 use Rattle.access.proofs.OrderLaws.{item-refl, item-total, item-trans}
 use Rattle.bag.specs.Tree.{sameItem}
-use Rattle.bag.proofs.Chains.{Chain, ends, link, copies, items}
+use Rattle.bag.proofs.Chains.{Chain, ends, link, among, items}
 
 -- a is at most b
 abbrev pub AtMost : Item → Item → Type 0
@@ -48,12 +48,12 @@ pub item-same : (i : Item) → sameItem i i ≡ true
 unfolding sameItem
 item-same i = and-both (eq-eqb (i .key) (i .key) refl) (eq-eqb (i .tag) (i .tag) refl)
 
-from-all : (v j : Item) (is : List Item) → AllFrom v is → 1 ≤ copies j is → AtMost v j
-unfolding copies pick
+from-all : (v j : Item) (is : List Item) → AllFrom v is → 1 ≤ among (sameItem j) is → AtMost v j
+unfolding among pick
 from-all v j [] a h = absurd (omega arith)
 from-all v j (i ∷ is) a h = go (sameItem j i) refl h (from-all v j is (a .1))
   where
-    go : (q : Bool) → sameItem j i ≡ q → 1 ≤ pick q 1 0 + copies j is → (1 ≤ copies j is → AtMost v j) → AtMost v j
+    go : (q : Bool) → sameItem j i ≡ q → 1 ≤ pick q 1 0 + among (sameItem j) is → (1 ≤ among (sameItem j) is → AtMost v j) → AtMost v j
     go true e k r = subst (AtMost v) (sym (same-item j i e)) (a .0)
     go false e k r = r (omega arith)
 
@@ -72,22 +72,22 @@ module _ (cell : ℕ → Cell) (own rank : ℕ → ℕ) (o : ℕ) where
       (m, all-from v (cell d .item) (items cell ds) m (h .1))
 
   -- the head is at most every item of the list
-  pub head-least : (c : ℕ) (cs : List ℕ) → Chain cell own rank o c cs → Sorted (items cell cs) → (j : Item) → 1 ≤ copies j (items cell cs)
+  pub head-least : (c : ℕ) (cs : List ℕ) → Chain cell own rank o c cs → Sorted (items cell cs) → (j : Item) → 1 ≤ among (sameItem j) (items cell cs)
       → AtMost (valueAt cell c) j
   head-least c cs k h j l =
       from-all (valueAt cell c) j (items cell cs) (from-head c cs k h (valueAt cell c) (item-refl (valueAt cell c))) l
 
   -- a list that holds anything has a proper head
-  pub head-proper : (c : ℕ) (cs : List ℕ) → Chain cell own rank o c cs → Sorted (items cell cs) → (j : Item) → 1 ≤ copies j (items cell cs)
+  pub head-proper : (c : ℕ) (cs : List ℕ) → Chain cell own rank o c cs → Sorted (items cell cs) → (j : Item) → 1 ≤ among (sameItem j) (items cell cs)
       → Proper (valueAt cell c)
-  unfolding items copies pick
+  unfolding items among pick
   head-proper c cs ends h j l = absurd (omega arith)
   head-proper c cs (link d {cs = ds} p eo er k) h j l =
       subst (λ q. Proper (pick q topItem (cell d .item))) (sym (ne-eqb d 0 (λ z. omega arith))) (h .0)
 
   -- the head is counted
-  pub head-counted : (c : ℕ) (cs : List ℕ) → Chain cell own rank o c cs → 1 ≤ c → 1 ≤ copies (cell c .item) (items cell cs)
-  unfolding items copies pick
+  pub head-counted : (c : ℕ) (cs : List ℕ) → Chain cell own rank o c cs → 1 ≤ c → 1 ≤ among (sameItem (cell c .item)) (items cell cs)
+  unfolding items among pick
   head-counted c cs ends l = absurd (omega arith)
   head-counted c cs (link d {cs = ds} p eo er k) l = rw (item-same (cell d .item)) (omega arith)
 

@@ -24,7 +24,8 @@ use Rattle.access.specs.Read.{readNode}
 use Rattle.access.proofs.OrderLaws.{item-refl}
 use Rattle.layout.specs.Layout.{layoutRefusal, layoutBytes}
 use Rattle.bag.specs.Ledger.{emptyLedger, none}
-use Rattle.bag.proofs.Chains.{Chain, ends, link, copies, items}
+use Rattle.bag.specs.Tree.{sameItem}
+use Rattle.bag.proofs.Chains.{Chain, ends, link, among, items}
 use Rattle.bag.proofs.Counts.{inChain}
 use Rattle.bag.proofs.Effects.{Mound}
 use Rattle.bag.proofs.Facts.{At}
@@ -159,11 +160,11 @@ module _ (s : Shape) (ps b : List ℕ) (e : layoutRefusal s ps (length b) ≡ do
       }
 
   empty : (i : Item) → 0 ≡ counted s m i
-  unfolding inChain items copies held
+  unfolding inChain items among held
   empty i =
       sym
-      (counts s m (owns th) held i
-      ∙ sum-zero (inChain (m .cell) (listed (s .cells)) i) (nodeCount s) (λ k l u. ap (λ l. copies i (items (m .cell) l)) (none-at k l)))
+      (counts s m (owns th) held (sameItem i)
+      ∙ sum-zero (inChain (m .cell) (listed (s .cells)) (sameItem i)) (nodeCount s) (λ k l u. ap (λ l. among (sameItem i) (items (m .cell) l)) (none-at k l)))
 
   pub laid-region : Region s laid emptyLedger
   laid-region =
