@@ -85,250 +85,52 @@ place-same s t u (MendReadRight w) et en h = subst (λ n. WaitsAbove n w) en h
 place-same s t u (MendSwap w) et en h = subst (λ n. WaitsAbove n w) en h
 place-same s t u (MendClean w) et en h = subst (λ n. WaitsAbove n w) en h
 
--- Setters keep the fields in range.
+-- Setters keep the fields in range: each field is as it was, or what the setter was given.
 module _ (s : Shape) (t : Thread) (g : FieldsGood s t) where
   pub fields-at : (p : Place) → FieldsGood s (atPlace t p)
   unfolding atPlace
-  fields-at p =
-      record {
-        permission = g .permission;
-        item-key = g .item-key;
-        item-tag = g .item-tag;
-        own = g .own;
-        depth = g .depth;
-        leaf = g .leaf;
-        tries = g .tries;
-        lo = g .lo;
-        hi = g .hi;
-        node = g .node;
-        after = g .after;
-        result-key = g .result-key;
-        result-tag = g .result-tag;
-        first = g .first;
-        second = g .second;
-        third = g .third;
-      }
+  fields-at p = search
 
   pub fields-depth : (d : ℕ) → d ≤ s .depth → FieldsGood s (withDepth t d)
   unfolding withDepth
-  fields-depth d h =
-      record {
-        permission = g .permission;
-        item-key = g .item-key;
-        item-tag = g .item-tag;
-        own = g .own;
-        depth = h;
-        leaf = g .leaf;
-        tries = g .tries;
-        lo = g .lo;
-        hi = g .hi;
-        node = g .node;
-        after = g .after;
-        result-key = g .result-key;
-        result-tag = g .result-tag;
-        first = g .first;
-        second = g .second;
-        third = g .third;
-      }
+  fields-depth d h = search
 
   pub fields-search : (x : Search) → x .leaf ≤ nodeCount s → x .tries ≤ s .threshold → x .lo ≤ s .depth → x .hi ≤ s .depth
       → FieldsGood s (withSearch t x)
   unfolding withSearch
-  fields-search x hl ht hlo hhi =
-      record {
-        permission = g .permission;
-        item-key = g .item-key;
-        item-tag = g .item-tag;
-        own = g .own;
-        depth = g .depth;
-        leaf = hl;
-        tries = ht;
-        lo = hlo;
-        hi = hhi;
-        node = g .node;
-        after = g .after;
-        result-key = g .result-key;
-        result-tag = g .result-tag;
-        first = g .first;
-        second = g .second;
-        third = g .third;
-      }
+  fields-search x hl ht hlo hhi = search
 
   pub fields-node : (n : ℕ) → n ≤ nodeCount s → FieldsGood s (withNode t n)
   unfolding withNode
-  fields-node n h =
-      record {
-        permission = g .permission;
-        item-key = g .item-key;
-        item-tag = g .item-tag;
-        own = g .own;
-        depth = g .depth;
-        leaf = g .leaf;
-        tries = g .tries;
-        lo = g .lo;
-        hi = g .hi;
-        node = h;
-        after = g .after;
-        result-key = g .result-key;
-        result-tag = g .result-tag;
-        first = g .first;
-        second = g .second;
-        third = g .third;
-      }
+  fields-node n h = search
 
   pub fields-after : (a : ℕ) → a ≤ 1 → FieldsGood s (withAfter t a)
   unfolding withAfter
-  fields-after a h =
-      record {
-        permission = g .permission;
-        item-key = g .item-key;
-        item-tag = g .item-tag;
-        own = g .own;
-        depth = g .depth;
-        leaf = g .leaf;
-        tries = g .tries;
-        lo = g .lo;
-        hi = g .hi;
-        node = g .node;
-        after = h;
-        result-key = g .result-key;
-        result-tag = g .result-tag;
-        first = g .first;
-        second = g .second;
-        third = g .third;
-      }
+  fields-after a h = search
 
   pub fields-result : (i : Item) → i .key < 2 ^ 32 → i .tag ≤ 65535 → FieldsGood s (withResult t i)
   unfolding withResult
-  fields-result i hk ht =
-      record {
-        permission = g .permission;
-        item-key = g .item-key;
-        item-tag = g .item-tag;
-        own = g .own;
-        depth = g .depth;
-        leaf = g .leaf;
-        tries = g .tries;
-        lo = g .lo;
-        hi = g .hi;
-        node = g .node;
-        after = g .after;
-        result-key = hk;
-        result-tag = ht;
-        first = g .first;
-        second = g .second;
-        third = g .third;
-      }
+  fields-result i hk ht = search
 
   pub fields-item : (i : Item) → i .key < 2 ^ 32 → i .tag ≤ 65535 → FieldsGood s (withItem t i)
   unfolding withItem
-  fields-item i hk ht =
-      record {
-        permission = g .permission;
-        item-key = hk;
-        item-tag = ht;
-        own = g .own;
-        depth = g .depth;
-        leaf = g .leaf;
-        tries = g .tries;
-        lo = g .lo;
-        hi = g .hi;
-        node = g .node;
-        after = g .after;
-        result-key = g .result-key;
-        result-tag = g .result-tag;
-        first = g .first;
-        second = g .second;
-        third = g .third;
-      }
+  fields-item i hk ht = search
 
   pub fields-own : (c : ℕ) → c ≤ s .cells → FieldsGood s (withOwn t c)
   unfolding withOwn
-  fields-own c h =
-      record {
-        permission = g .permission;
-        item-key = g .item-key;
-        item-tag = g .item-tag;
-        own = h;
-        depth = g .depth;
-        leaf = g .leaf;
-        tries = g .tries;
-        lo = g .lo;
-        hi = g .hi;
-        node = g .node;
-        after = g .after;
-        result-key = g .result-key;
-        result-tag = g .result-tag;
-        first = g .first;
-        second = g .second;
-        third = g .third;
-      }
+  fields-own c h = search
 
   pub fields-first : (q : NodeCopy) → CopyGood (s .cells) q → FieldsGood s (withFirst t q)
   unfolding withFirst
-  fields-first q h =
-      record {
-        permission = g .permission;
-        item-key = g .item-key;
-        item-tag = g .item-tag;
-        own = g .own;
-        depth = g .depth;
-        leaf = g .leaf;
-        tries = g .tries;
-        lo = g .lo;
-        hi = g .hi;
-        node = g .node;
-        after = g .after;
-        result-key = g .result-key;
-        result-tag = g .result-tag;
-        first = h;
-        second = g .second;
-        third = g .third;
-      }
+  fields-first q h = search
 
   pub fields-second : (q : NodeCopy) → CopyGood (s .cells) q → FieldsGood s (withSecond t q)
   unfolding withSecond
-  fields-second q h =
-      record {
-        permission = g .permission;
-        item-key = g .item-key;
-        item-tag = g .item-tag;
-        own = g .own;
-        depth = g .depth;
-        leaf = g .leaf;
-        tries = g .tries;
-        lo = g .lo;
-        hi = g .hi;
-        node = g .node;
-        after = g .after;
-        result-key = g .result-key;
-        result-tag = g .result-tag;
-        first = g .first;
-        second = h;
-        third = g .third;
-      }
+  fields-second q h = search
 
   pub fields-third : (q : NodeCopy) → CopyGood (s .cells) q → FieldsGood s (withThird t q)
   unfolding withThird
-  fields-third q h =
-      record {
-        permission = g .permission;
-        item-key = g .item-key;
-        item-tag = g .item-tag;
-        own = g .own;
-        depth = g .depth;
-        leaf = g .leaf;
-        tries = g .tries;
-        lo = g .lo;
-        hi = g .hi;
-        node = g .node;
-        after = g .after;
-        result-key = g .result-key;
-        result-tag = g .result-tag;
-        first = g .first;
-        second = g .second;
-        third = h;
-      }
+  fields-third q h = search
 
   -- on to a place, to mending, idle
   pub at-good : (p : Place) → PlaceGood s t p → ThreadGood s (atPlace t p)
