@@ -31,7 +31,7 @@ use Rattle.bag.proofs.Cells.{starts}
 use Rattle.bag.proofs.Chains.{Chain, ends, link, among, items, walk-counts}
 use Rattle.bag.proofs.Counts.{inChain}
 use Rattle.bag.proofs.Facts.{At, Puts}
-use Rattle.bag.proofs.Held.{Held, counts, free-chain, thread-chain}
+use Rattle.bag.proofs.Held.{Held, nodeLength, threadLength, counts, free-chain, thread-chain}
 use Rattle.bag.proofs.Steps.{Invariant, owns}
 use Rattle.bag.proofs.Sums.{sum, sum-same}
 
@@ -42,22 +42,22 @@ all-count cell [] = refl
 all-count cell (c ∷ cs) = omega (arith, all-count cell cs)
 
 -- What a thread holds: its own cell alone, or nothing.
-module _ (cell : ℕ → Cell) (own rank : ℕ → ℕ) (o : ℕ) where
-  none-held : (c : ℕ) (cs : List ℕ) → Chain cell own rank o c cs → c ≡ 0 → length cs ≡ 0
-  none-held c cs ends e = refl
-  none-held c cs (link d p eo er k) e = absurd (omega arith)
+module _ {cell : ℕ → Cell} {own rank : ℕ → ℕ} {o : ℕ} where
+  none-held : {c : ℕ} {cs : List ℕ} → Chain cell own rank o c cs → c ≡ 0 → length cs ≡ 0
+  none-held ends e = refl
+  none-held (link d p eo er k) e = absurd (omega arith)
 
-  one-held : (c : ℕ) (cs : List ℕ) → Chain cell own rank o c cs → 1 ≤ c → cell c .next ≡ 0 → length cs ≡ 1
-  one-held c cs ends p e = absurd (omega arith)
-  one-held c cs (link d {cs = ds} p eo er k) q e = ap suc (none-held (cell d .next) ds k e)
+  one-held : {c : ℕ} {cs : List ℕ} → Chain cell own rank o c cs → 1 ≤ c → cell c .next ≡ 0 → length cs ≡ 1
+  one-held ends p e = absurd (omega arith)
+  one-held (link d p eo er k) q e = ap suc (none-held k e)
 
 module _ (s : Shape) (m : Shared) (t : Thread) (op : Operation) (own rank : ℕ → ℕ) (o : ℕ) (cs : List ℕ)
     (k : Chain (m .cell) own rank o (t .own) cs) where
   putting-holds : Puts m t op → length cs ≡ 1
-  putting-holds h = one-held (m .cell) own rank o (t .own) cs k (h .some) (h .ended)
+  putting-holds h = one-held k (h .some) (h .ended)
 
   others-hold : t .own ≡ 0 → length cs ≡ 0
-  others-hold e = none-held (m .cell) own rank o (t .own) cs k e
+  others-hold e = none-held k e
 
   -- one cell at I1 to I8, none elsewhere
   holds : (p : Place) → At s m t op p → length cs ≡ pick (isPutPlace p) 1 0
@@ -85,26 +85,25 @@ module _ (s : Shape) (m : Shared) (th : ℕ → Thread) (l : Ledger) (inv : Inva
   abbrev h : Held s m (owns th)
   h = inv .mound .held
 
-  nodes-sum : inNodes m anyItem (s .cells) (nodeCount s) ≡ sum (λ k. length (h .list (2 * k))) (nodeCount s)
+  nodes-sum : inNodes m anyItem (s .cells) (nodeCount s) ≡ sum (nodeLength (h .list)) (nodeCount s)
   unfolding inChain
   nodes-sum =
       counts s m (owns th) h anyItem
-      ∙ sum-same (λ k. length (h .list (2 * k))) (inChain (m .cell) (h .list) anyItem) (nodeCount s) (λ k l u. all-count (m .cell) (h .list (2 * k)))
+      ∙ sum-same (nodeLength (h .list)) (inChain (m .cell) (h .list) anyItem) (nodeCount s) (λ k l u. all-count (m .cell) (h .list (2 * k)))
 
   thread-holds : (t : ℕ) → length (h .list (2 * t + 1)) ≡ pick (isPutPlace (th t .place)) 1 0
   thread-holds t =
       holds s m (th t) (l .operation t) (h .owner) (h .rank) (2 * t + 1) (h .list (2 * t + 1))
       (thread-chain s m (owns th) h t) (th t .place) (inv .at t)
 
-  puts-sum : (n : ℕ) → putsAmong th n ≡ sum (λ t. length (h .list (2 * t + 1))) n
+  puts-sum : (n : ℕ) → putsAmong th n ≡ sum (threadLength (h .list)) n
   unfolding putsAmong sum
   puts-sum zero = refl
   puts-sum (suc n) = cc (puts-sum n, thread-holds (suc n))
 
   free-measured : inList m anyItem (s .cells) (m .free) ≡ length (h .list 0)
   free-measured =
-      walk-counts m (h .owner) (h .rank) 0 anyItem (s .cells) (m .free) (h .list 0) (free-chain s m (owns th) h) (omega (arith, h .total))
-      ∙ all-count (m .cell) (h .list 0)
+      walk-counts m anyItem (s .cells) (free-chain s m (owns th) h) (omega (arith, h .total)) ∙ all-count (m .cell) (h .list 0)
 
   all-cells : inNodes m anyItem (s .cells) (nodeCount s) + putsAmong th (s .threads) + inList m anyItem (s .cells) (m .free) ≡ s .cells
   all-cells = omega (arith, h .total, nodes-sum, puts-sum (s .threads), free-measured)
@@ -112,8 +111,7 @@ module _ (s : Shape) (m : Shared) (th : ℕ → Thread) (l : Ledger) (inv : Inva
   -- no cell is free exactly when the others hold all
   full-without : m .free ≡ 0 → inNodes m anyItem (s .cells) (nodeCount s) + putsAmong th (s .threads) ≡ s .cells
   full-without e =
-      let none = none-held (m .cell) (h .owner) (h .rank) 0 (m .free) (h .list 0) (free-chain s m (owns th) h) e in
-      omega (arith, all-cells, free-measured, none)
+      omega (arith, all-cells, free-measured, none-held (free-chain s m (owns th) h) e)
 
   not-full-with : 1 ≤ m .free → inNodes m anyItem (s .cells) (nodeCount s) + putsAmong th (s .threads) ≡ s .cells → ⊥
   not-full-with p e = omega (arith, all-cells, free-measured, ap length (starts (free-chain s m (owns th) h) p .is), e)

@@ -56,15 +56,15 @@ among test [] = 0
 among test (i ∷ is) = pick (test i) 1 0 + among test is
 
 -- walking a chain counts its items
-pub walk-counts : (m : Shared) (own rank : ℕ → ℕ) (o : ℕ) (test : Item → Bool) (n c : ℕ) (cs : List ℕ) → Chain (m .cell) own rank o c cs
+pub walk-counts : (m : Shared) (test : Item → Bool) (n : ℕ) {own rank : ℕ → ℕ} {o c : ℕ} {cs : List ℕ} → Chain (m .cell) own rank o c cs
     → length cs ≤ n → inList m test n c ≡ among test (items (m .cell) cs)
 unfolding inList among items pick
-walk-counts m own rank o test n c cs ends h = empty-list m test n
-walk-counts m own rank o test zero c cs (link d p eo er k) h = absurd (omega arith)
-walk-counts m own rank o test (suc n) c cs (link d {cs = ds} p eo er k) h =
+walk-counts m test n ends h = empty-list m test n
+walk-counts m test zero (link d p eo er k) h = absurd (omega arith)
+walk-counts m test (suc n) (link d p eo er k) h =
     rw
     (ne-eqb d 0 (λ z. omega arith))
-    (ap (λ x. pick (test (m .cell d .item)) 1 0 + x) (walk-counts m own rank o test n (m .cell d .next) ds k (omega arith)))
+    (ap (λ x. pick (test (m .cell d .item)) 1 0 + x) (walk-counts m test n k (omega arith)))
 
 -- a change elsewhere leaves the items
 pub items-left : (cell cell′ : ℕ → Cell) (own own′ rank rank′ : ℕ → ℕ) (o o′ c : ℕ) (cs : List ℕ)

@@ -25,7 +25,7 @@ tree-counts m own rank head list chains heads l test zero few = refl
 tree-counts m own rank head list chains heads l test (suc n) few =
     cc (
       tree-counts m own rank head list chains heads l test n (λ k p q. few k p (omega arith)),
-      walk-counts m own rank (2 * suc n) test l (m .node (suc n) .first) (list (2 * suc n))
+      walk-counts m test l
           (subst (λ c. Chain (m .cell) own rank (2 * suc n) c (list (2 * suc n))) (heads (suc n) (omega arith)) (chains (2 * suc n)))
           (few (suc n) (omega arith) (omega arith)),
     )

@@ -29,7 +29,7 @@ use Rattle.bag.proofs.Chains.{Chain, ends, link, among, items}
 use Rattle.bag.proofs.Counts.{inChain}
 use Rattle.bag.proofs.Effects.{Mound}
 use Rattle.bag.proofs.Facts.{At}
-use Rattle.bag.proofs.Held.{Held, counted, counts, head-free, heads, val}
+use Rattle.bag.proofs.Held.{Held, nodeLength, threadLength, counted, counts, head-free, heads, val}
 use Rattle.bag.proofs.LaidOut.{laid-cell, laid-depth, laid-free, laid-good, laid-no-thread, laid-node, laid-thread, next-in-chain, next-past, nextFree}
 use Rattle.bag.proofs.Regions.{Region}
 use Rattle.bag.proofs.Sorted.{AtMost, Sorted, valueAt}
@@ -139,8 +139,9 @@ module _ (s : Shape) (ps b : List ℕ) (e : layoutRefusal s ps (length b) ≡ do
         chains = all-chains;
         sorted = λ n p. subst (λ l. Sorted (items (m .cell) l)) (sym (none-at n p)) tt;
         total =
-            let a = sum-zero (λ n. length (listed (s .cells) (2 * n))) (nodeCount s) (λ k l u. ap length (none-at k l)) in
-            let c = sum-zero (λ t. length (listed (s .cells) (2 * t + 1))) (s .threads) (λ k l u. ap length (listed-none (s .cells) (2 * k + 1) (λ z. omega arith))) in
+            let a = sum-zero (nodeLength (listed (s .cells))) (nodeCount s) (λ k l u. ap length (none-at k l)) in
+            let c = sum-zero (threadLength (listed (s .cells))) (s .threads)
+            (λ k l u. ap length (listed-none (s .cells) (2 * k + 1) (λ z. omega arith))) in
             let f : length (listed (s .cells) 0) ≡ s .cells = ap length (listed-free (s .cells)) ∙ length-from 1 (s .cells) in
             omega (arith, a, c, f);
       }
@@ -164,7 +165,8 @@ module _ (s : Shape) (ps b : List ℕ) (e : layoutRefusal s ps (length b) ≡ do
   empty i =
       sym
       (counts s m (owns th) held (sameItem i)
-      ∙ sum-zero (inChain (m .cell) (listed (s .cells)) (sameItem i)) (nodeCount s) (λ k l u. ap (λ l. among (sameItem i) (items (m .cell) l)) (none-at k l)))
+      ∙ sum-zero (inChain (m .cell) (listed (s .cells)) (sameItem i)) (nodeCount s)
+      (λ k l u. ap (λ l. among (sameItem i) (items (m .cell) l)) (none-at k l)))
 
   pub laid-region : Region s laid emptyLedger
   laid-region =
