@@ -22,7 +22,9 @@ word-count-requires : tie.Need-word-count-requires
 word-count-requires c κs = search shape-in-range
 
 mul-if3 : tie.Need-mul-if3
-mul-if3 c = omega (arith, few-words _ _ (c .before .before .before .before .fits2 .ensures) (c .before .before .before .if1 .left) _ (c .word-count .ensures))
+mul-if3 c =
+    let l = c .before .before .before in
+    omega (arith, few-words _ _ (l .before .fits2 .ensures) (l .if1 .left) _ (c .word-count .ensures))
 
 returns-3 : tie.Need-returns-3
 returns-3 c = search bad-length
