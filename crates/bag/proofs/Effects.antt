@@ -223,7 +223,10 @@ module _ (s : Shape) (m : Shared) (own own′ : ℕ → ℕ) (g : Mound s m own)
   push-dirty y = go (ℕ-discrete y n)
     where
       go : Dec (y ≡ n) → upd (m .node) n v y .dirty ≡ m .node y .dirty
-      go (yes e) = ap (λ z. upd (m .node) n v z .dirty) e ∙ ap (λ z. z .dirty) (upd-same (m .node) n v ∙ a .value) ∙ ap (λ z. m .node z .dirty) (sym e)
+      go (yes e) =
+          ap (λ z. upd (m .node) n v z .dirty) e
+          ∙ ap (λ z. z .dirty) (upd-same (m .node) n v ∙ a .value)
+          ∙ ap (λ z. m .node z .dirty) (sym e)
       go (no ne) = ap (λ z. z .dirty) (upd-other (m .node) n y v ne)
 
   push-item : pushed .cell c .item ≡ m .cell c .item
@@ -400,8 +403,8 @@ module _ (s : Shape) (m : Shared) (own : ℕ → ℕ) (g : Mound s m own) (n : �
       record {
         held = exchange-held;
         ordered =
-            exchange-ordered AtMost item-refl item-trans (val m) (val swapped) (λ y. m .node y .dirty) (λ y. swapped .node y .dirty) (g .ordered) n k j
-            (a .some) (a .child) (a .clean) (a .clean-sibling) (a .kids) (a .sibling) (a .less) (a .least)
+            exchange-ordered AtMost item-refl item-trans (val m) (val swapped) (λ y. m .node y .dirty) (λ y. swapped .node y .dirty)
+            (g .ordered) n k j (a .some) (a .child) (a .clean) (a .clean-sibling) (a .kids) (a .sibling) (a .less) (a .least)
             (value-by n k (ap (λ z. z .first) at-n)) (value-by k n (ap (λ z. z .first) at-k))
             (λ x p q. value-by x x (ap (λ z. z .first) (at-x x p q))) (ap (λ z. z .dirty) at-k) (λ x p q. ap (λ z. z .dirty) (at-x x p q));
         deep = λ y h.
@@ -426,8 +429,8 @@ module _ (s : Shape) (m : Shared) (own : ℕ → ℕ) (g : Mound s m own) (n : �
   pub exchange-counts : (i : Item) → counted s swapped i ≡ counted s m i
   unfolding effectShared updated
   exchange-counts i =
-      counted-exchange s m swapped own (g .held) n k (a .some) (in-tree s m own g n (omega (arith, a .child, a .few))) (omega (arith, a .child, a .some))
-      (in-tree s m own g k (a .few)) apart refl refl (ap (λ z. z .first) at-n) (ap (λ z. z .first) at-k)
+      counted-exchange s m swapped own (g .held) n k (a .some) (in-tree s m own g n (omega (arith, a .child, a .few)))
+      (omega (arith, a .child, a .some)) (in-tree s m own g k (a .few)) apart refl refl (ap (λ z. z .first) at-n) (ap (λ z. z .first) at-k)
       (λ x p q. ap (λ z. z .first) (at-x x p q)) i
 
 -- Cleaning.

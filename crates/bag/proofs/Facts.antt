@@ -179,7 +179,8 @@ module _ (m m′ : Shared) (r : Rely m m′) where
       → Child m′ n q c kind
   child-stays n q c kind p ec h k e =
       let old = k (stood n q p h e) in
-      let parent : m′ .node (c / 2) .counter ≡ m .node (c / 2) .counter = ap (λ y. m′ .node y .counter) ec ∙ stands n q p h e ∙ ap (λ y. m .node y .counter) (sym ec) in
+      let parent : m′ .node (c / 2) .counter ≡ m .node (c / 2) .counter =
+      ap (λ y. m′ .node y .counter) ec ∙ stands n q p h e ∙ ap (λ y. m .node y .counter) (sym ec) in
       let now = r .child c (omega arith) parent (old .0) in
       let same : val m′ n ≡ val m n = ap valueOf (r .unchanged n p (stands n q p h e)) in (
         now .0,

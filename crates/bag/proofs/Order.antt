@@ -71,7 +71,8 @@ module _ {Value : Type 0} (_≼_ : Value → Value → Type 0) (≼-refl : (v : 
         go (yes ea) (yes ex) = subst (λ u. val′ u ≼ val′ x) (sym (ea ∙ sym ex)) (≼-refl (val′ x))
         go (yes ea) (no nx) =
             subst (λ u. u ≼ val′ x) (sym (ap val′ ea ∙ ev))
-            (subst (λ u. v ≼ u) (sym (b x (omega (arith, p, above-le a x h)) nx)) (≼-trans v (val n) (val x) le (subst (λ u. val u ≼ val x) ea (ord a x p h clean))))
+            (subst (λ u. v ≼ u) (sym (b x (omega (arith, p, above-le a x h)) nx))
+            (≼-trans v (val n) (val x) le (subst (λ u. val u ≼ val x) ea (ord a x p h clean))))
         go (no na) (yes ex) =
             let q = above-parent a n (subst (Above a) ex h) na in
             let g = above-le a (n / 2) q in
@@ -86,7 +87,9 @@ module _ {Value : Type 0} (_≼_ : Value → Value → Type 0) (≼-refl : (v : 
         go : Dec (a ≡ 1) → Dec (x ≡ 1) → val′ a ≼ val′ x
         go (yes ea) d = absurd (let z = sym (ap dirty′ ea) ∙ c in omega arith)
         go (no na) (yes ex) = absurd (let g = above-le a x h in omega arith)
-        go (no na) (no nx) = subst₂ (λ u w. u ≼ w) (sym (b a p na)) (sym (b x (omega (arith, p, above-le a x h)) nx)) (ord a x p h (sym (bd a p na) ∙ c))
+        go (no na) (no nx) =
+            subst₂ (λ u w. u ≼ w) (sym (b a p na)) (sym (b x (omega (arith, p, above-le a x h)) nx))
+            (ord a x p h (sym (bd a p na) ∙ c))
 
     -- Node n becomes clean: its children are clean and no less.
     pub clean-ordered : (n : ℕ) → 1 ≤ n → ((x : ℕ) → val′ x ≡ val x) → But dirty dirty′ n

@@ -255,7 +255,10 @@ module _ (s : Shape) (r : InRange s) (m : Shared) (own : ℕ → ℕ) (g : Mound
 
     middle-is : middleLevel th ≡ middle
     unfolding middleLevel pick middle
-    middle-is = rw (lt-ltb (th .search .lo) (th .search .hi) (x .below), le-leb middle (level (th .search .leaf)) (omega (arith, x .below, x .hi))) refl
+    middle-is =
+        rw
+        (lt-ltb (th .search .lo) (th .search .hi) (x .below), le-leb middle (level (th .search .leaf)) (omega (arith, x .below, x .hi)))
+        refl
 
     ancestor-planned : Fits (readAncestor m th)
     unfolding readAncestor ancestorRead withFirst withCopies withSearch middle
@@ -338,9 +341,11 @@ module _ (s : Shape) (r : InRange s) (m : Shared) (own : ℕ → ℕ) (g : Mound
   unfolding insertBelow
   below-planned h k l a b =
       pick-good Fits (ltb (th .node) 2 || eqb (th .own) 0)
-      (λ e. absurd (true≢false (sym e ∙ neither (ltb (th .node) 2) (eqb (th .own) 0) (le-ltb (th .node) 2 l) (ne-eqb (th .own) 0 (λ z. omega (arith, z, h .some))))))
+      (λ e. absurd (true≢false (sym e
+      ∙ neither (ltb (th .node) 2) (eqb (th .own) 0) (le-ltb (th .node) 2 l) (ne-eqb (th .own) 0 (λ z. omega (arith, z, h .some))))))
       (λ e. insert-planned h (th .node) k a (nodeAndParent m th) (node-same m th)
-      (λ z w. subst (λ i. AtMost i (th .item)) (sym (ap valueOf (found (th .node / 2) (th .copies .second) (b .sound) (parent-same m th z)))) (b .most)))
+      (λ z w. subst (λ i. AtMost i (th .item))
+      (sym (ap valueOf (found (th .node / 2) (th .copies .second) (b .sound) (parent-same m th z)))) (b .most)))
     where
       neither : (p q : Bool) → p ≡ false → q ≡ false → p || q ≡ false
       neither true q e z = e
@@ -618,8 +623,8 @@ module _ (s : Shape) (r : InRange s) (m : Shared) (own : ℕ → ℕ) (g : Mound
         let l = th .copies .second in
         let k = th .copies .third in
         pick-good Fits (itemLe (valueOf l) (valueOf k))
-        (λ e. exchange-planned h a (2 * n) (2 * n + 1) l k (omega arith) (omega arith) (omega arith) (λ x z. below-children n x z) (b .left) (b .right)
-        (b .clean-left) (b .clean-right) (b .less-left e) e)
+        (λ e. exchange-planned h a (2 * n) (2 * n + 1) l k (omega arith) (omega arith) (omega arith)
+        (λ x z. below-children n x z) (b .left) (b .right) (b .clean-left) (b .clean-right) (b .less-left e) e)
         (λ e. exchange-planned h a (2 * n + 1) (2 * n) k l (omega arith) (omega arith) (omega (arith, h .1 .0))
         (λ x z. turned (below-children n x z)) (b .right) (b .left) (b .clean-right) (b .clean-left) (b .less-right e)
         (item-total (valueOf l) (valueOf k) e))

@@ -127,7 +127,8 @@ module _ (s : Shape) (b : List ℕ) (l : Ledger) (g : Region s b l) where
                 record {
                   good = turn-good s b (g .good) t c;
                   holds =
-                      subst₂ (λ x y. Invariant s x y (st .after)) (sym (turn-shared s b t c (g .good) e)) (sym (turn-threads s b t c (g .good) e)) inv;
+                      subst₂ (λ x y. Invariant s x y (st .after)) (sym (turn-shared s b t c (g .good) e))
+                      (sym (turn-threads s b t c (g .good) e)) inv;
                 };
           }
 
@@ -145,7 +146,8 @@ module _ (s : Shape) (b : List ℕ) (l : Ledger) (g : Region s b l) where
     unfolding p refused plan
     turn-step = go (between 1 t (s .threads)) refl
       where
-        go : (q : Bool) → between 1 t (s .threads) ≡ q → Follow s l (effectTells (frameOf s) b t (p .answer) (p .effect)) (turnBytes (frameOf s) b t c)
+        go : (q : Bool) → between 1 t (s .threads) ≡ q
+            → Follow s l (effectTells (frameOf s) b t (p .answer) (p .effect)) (turnBytes (frameOf s) b t c)
         go true e =
             let lt = between-least 1 t (s .threads) e in
             let ut = between-most 1 t (s .threads) e in

@@ -250,8 +250,8 @@ module _ (s : Shape) (f : Frame) (b : List ℕ) (own own′ : ℕ → ℕ) (l : 
           after = later none;
           follows = take-answers (is ∙ eo);
           stepped =
-              quiet (Clean n v) (later none) op′ ow (clean-keeps s m own g n v al t) (clean-counts s m own g n v al) (λ j. refl) (λ u y. upd-other (l .operation) t u none y)
-              (upd-same (l .operation) t none ∙ sym en);
+              quiet (Clean n v) (later none) op′ ow (clean-keeps s m own g n v al t) (clean-counts s m own g n v al) (λ j. refl)
+              (λ u y. upd-other (l .operation) t u none y) (upd-same (l .operation) t none ∙ sym en);
           mine = λ p. refl;
         }
 

@@ -108,6 +108,7 @@ module _ (s : Shape) (ps b : List ℕ) (e : layoutRefusal s ps (length b) ≡ do
       let z : 0 + k ≡ k = omega arith in
       ap (λ l. word l k) laid-bytes
       ∙ ap (word (setWords b 0 (laidWords s ps 0 (regionWords s)))) (sym z)
-      ∙ word-stored (laidWords s ps 0 (regionWords s)) b 0 k (omega (arith, n, laid-exact)) (laid-fit s ps laid-shape laid-permissions 0 (regionWords s)) (omega (arith, n, h))
+      ∙ word-stored (laidWords s ps 0 (regionWords s)) b 0 k (omega (arith, n, laid-exact))
+      (laid-fit s ps laid-shape laid-permissions 0 (regionWords s)) (omega (arith, n, h))
       ∙ laid-at s ps 0 (regionWords s) k h
       ∙ ap (laidWord s ps) z

@@ -187,7 +187,8 @@ module _ (s : Shape) (r : InRange s) (m : Shared) (sm : SharedGood s m) where
     readDepth-good =
         let d = fields-depth s t g (m .depth) (sm .depth-most) in
         onTo-good s _
-        (fields-search s (withDepth t (m .depth)) d (searching (t .search .leaf) 0 (t .search .lo) (t .search .hi)) (g .leaf) (omega arith) (g .lo) (g .hi))
+        (fields-search s (withDepth t (m .depth)) d (searching (t .search .leaf) 0 (t .search .lo) (t .search .hi))
+        (g .leaf) (omega arith) (g .lo) (g .hi))
         ReadLeaf
         (omega (arith, r .threshold-least))
 

@@ -151,11 +151,12 @@ module _ (s : Shape) (b : List ℕ) (g : Good s b) where
   unfolding frameOf
   good-setFree v h =
       let m = good-shared s b g in
+      let few : v < 2 ^ 32 = omega (arith, h, g .range .cells-most, sizes s (g .range .depth-most)) in
       make-good s (setWord b 5 v)
       (shape-kept s b (setWord b 5 v) (g .shape) (λ k l. word-other b 5 k v (λ e. omega arith)))
       (g .range)
       (length-setWord b 5 v ∙ g .exact)
-      (subst (SharedGood s) (sym (shared-setFree (frameOf s) b (good-within s b g) (frame-parted s) v (omega (arith, h, g .range .cells-most, sizes s (g .range .depth-most)))))
+      (subst (SharedGood s) (sym (shared-setFree (frameOf s) b (good-within s b g) (frame-parted s) v few))
       (record { node = m .node; cell = m .cell; depth-least = m .depth-least; depth-most = m .depth-most; free = h }))
       (threads-kept-passing (setWord b 5 v) (λ j l. word-other b 5 j v (λ e. omega arith)))
 

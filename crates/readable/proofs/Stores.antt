@@ -8,7 +8,7 @@ use mathlib.Core.Logic.{inl, inr}
 use mathlib.Core.Bool.{Bool, true, false, _&&_}
 use mathlib.Core.List.{List, [], _∷_}
 use borrow.Author.Tests.{leb-true, le-leb}
-use lib.Dec.{leb, lit<}
+use lib.Dec.{leb}
 use lib.ListN.{length, getD}
 use lib.Pow.{pow-mono}
 use Rattle.words.specs.Word.{word, wordsAt, Fit}
@@ -204,13 +204,7 @@ waiting-few s t (MendClean w) g = waits-few (t .node) w g
 
 module _ (s : Shape) (r : InRange s) where
   maxima-fit : Fit (threadMaxima s)
-  maxima-fit =
-      let z = sizes s (r .depth-most) in
-      let fewcells : s .cells < 2 ^ 32 = omega (arith, r .cells-most, z) in
-      let fewlevels : s .depth < 2 ^ 32 = omega (arith, r .depth-most) in
-      let fewnodes : nodeCount s < 2 ^ 32 = omega (arith, z) in
-      let fewtries : s .threshold < 2 ^ 32 = omega (arith, r .threshold-most) in
-      (lit< tt, (lit< tt, (lit< tt, (lit< tt, (fewcells, (fewlevels, (fewnodes, (fewtries, (fewlevels, (fewlevels, (fewnodes, (lit< tt, (lit< tt, (lit< tt, (lit< tt, (fewcells, (lit< tt, (lit< tt, (lit< tt, (lit< tt, (fewcells, (fewcells, (lit< tt, (lit< tt, (lit< tt, (lit< tt, (fewcells, (fewcells, (lit< tt, (lit< tt, (lit< tt, (lit< tt, (fewcells, tt)))))))))))))))))))))))))))))))))
+  maxima-fit = (omega arith, (omega arith, (omega arith, omega (arith, r, sizes s (r .depth-most)))))
 
   module _ (t : Thread) (h : ThreadGood s t) where
     thread-le : AllLe (threadWords t) (threadMaxima s)
@@ -427,8 +421,10 @@ make-good s b es r el m ts =
       depth-least = m .depth-least;
       depth-most = m .depth-most;
       free-most = m .free;
-      nodes = λ i l. node-bounded (s .cells) b _ (subst (NodeGood (s .cells)) (load-at nodeAt emptyNode (nodesOf (frameOf s)) b i l) (m .node (suc i)));
-      cells = λ i l. cell-bounded (s .cells) b _ (subst (CellGood (s .cells)) (load-at cellAt zeroCell (cellsOf (frameOf s)) b i l) (m .cell (suc i)));
+      nodes = λ i l.
+          node-bounded (s .cells) b _ (subst (NodeGood (s .cells)) (load-at nodeAt emptyNode (nodesOf (frameOf s)) b i l) (m .node (suc i)));
+      cells = λ i l.
+          cell-bounded (s .cells) b _ (subst (CellGood (s .cells)) (load-at cellAt zeroCell (cellsOf (frameOf s)) b i l) (m .cell (suc i)));
       threads = ts;
     }
 

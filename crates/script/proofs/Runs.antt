@@ -72,7 +72,8 @@ module _ (s : List ℕ) (at line : ℕ) (b : List ℕ) where
 
     pub lines-read : (l : ScriptLine) → readLine s at ≡ LineRead l
         → linesFrom (suc n) s at line b
-        ≡ after (lineText line (l .thread) (callOutcome b (l .what) (l .thread))) (linesFrom n s (l .next) (suc line) (callBytes b (l .what) (l .thread)))
+        ≡ after (lineText line (l .thread) (callOutcome b (l .what) (l .thread)))
+        (linesFrom n s (l .next) (suc line) (callBytes b (l .what) (l .thread)))
     unfolding linesFrom pick
     lines-read l e = rw (lt-ltb at (length s) h, e) refl
 
@@ -188,12 +189,14 @@ module _ {s : List ℕ} {start : ℕ} {b₀ out₀ : List ℕ} {a : ℕ} {b out 
         unfolding rest
         run-more {b′} o m z {out′} {k′} w =
             let text : List ℕ = lineText line (l .thread) o in
+            let more : ℕ = suc (length s) - (line + 1) in
             let left : rest s at line b ≡ after text (rest s (l .next) (line + 1) b′) =
             ap (λ n. linesFrom n s at line b) one-less
-            ∙ lines-read s at line b (suc (length s) - (line + 1)) h l (sym er ∙ g)
-            ∙ ap (λ x. after (lineText line (l .thread) x) (linesFrom (suc (length s) - (line + 1)) s (l .next) (suc line) (callBytes b (l .what) (l .thread)))) (sym (m .outcome))
-            ∙ ap (λ x. after text (linesFrom (suc (length s) - (line + 1)) s (l .next) (suc line) x)) (sym (m .bytes))
-            ∙ ap (λ n. after text (linesFrom (suc (length s) - (line + 1)) s (l .next) n b′)) (sym (add-one line)) in
+            ∙ lines-read s at line b more h l (sym er ∙ g)
+            ∙ ap (λ x. after (lineText line (l .thread) x) (linesFrom more s (l .next) (suc line) (callBytes b (l .what) (l .thread))))
+            (sym (m .outcome))
+            ∙ ap (λ x. after text (linesFrom more s (l .next) (suc line) x)) (sym (m .bytes))
+            ∙ ap (λ n. after text (linesFrom more s (l .next) n b′)) (sym (add-one line)) in
             record {
               short = e .short;
               room = e .room;

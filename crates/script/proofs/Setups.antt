@@ -111,8 +111,8 @@ module _ (u : Setup) (e : setupRefusal u ≡ done) where
   fine-permission =
       record {
         fits =
-            omega
-            (arith, over-same 3 (u .permission) (u .shape .threads) (fine-shape .threads-least) (laid-permissions (u .shape) (permissionsOf u) zeros accepted));
+            let all = laid-permissions (u .shape) (permissionsOf u) zeros accepted in
+            omega (arith, over-same 3 (u .permission) (u .shape .threads) (fine-shape .threads-least) all);
       }
 
   module _ (all : List ℕ) (same : all ≡ replicate 64 (u .permission)) where
@@ -129,8 +129,9 @@ module _ (u : Setup) (e : setupRefusal u ≡ done) where
   fine-length : regionLength u ≤ 13068
   unfolding regionWords
   fine-length =
-      omega
-      (arith, fine-shape, pow-mono {i = u .shape .depth - 1} {j = 7} (omega (arith, fine .shallow)), pow-mono {i = u .shape .depth} {j = 8} (fine .shallow))
+      let leaves = pow-mono {i = u .shape .depth - 1} {j = 7} (omega (arith, fine .shallow)) in
+      let nodes = pow-mono {i = u .shape .depth} {j = 8} (fine .shallow) in
+      omega (arith, fine-shape, leaves, nodes)
 
   laid-length : length (laidRegion u) ≡ regionLength u
   unfolding laidRegion zeros
@@ -222,11 +223,14 @@ module _ (s : List ℕ) (u : Setup) (g g₁ out : List ℕ) (a : ℕ) (r : ℕ) 
         pub ready-part : 4 * w ≡ length (take (4 * w) g₁)
         ready-part = part-length u ready w ew g₁ (same ∙ lent)
 
+        all-laid : length (laidRegion u) ≡ 4 * w
+        all-laid = laid-length u ready ∙ sym (exact-length u ready w ew)
+
         part : take (4 * w) g₁ ≡ laidRegion u
-        part = ap (take (4 * w)) laid ∙ take-at (laidRegion u) (drop (regionLength u) g) (4 * w) (laid-length u ready ∙ sym (exact-length u ready w ew))
+        part = ap (take (4 * w)) laid ∙ take-at (laidRegion u) (drop (regionLength u) g) (4 * w) all-laid
 
         beyond : drop (4 * w) g₁ ≡ drop (regionLength u) g
-        beyond = ap (drop (4 * w)) laid ∙ drop-at (laidRegion u) (drop (regionLength u) g) (4 * w) (laid-length u ready ∙ sym (exact-length u ready w ew))
+        beyond = ap (drop (4 * w)) laid ∙ drop-at (laidRegion u) (drop (regionLength u) g) (4 * w) all-laid
 
         pub setup-ran : (b out′ : List ℕ) (k : ℕ) → LinesRan s (u .next) (take (4 * w) g₁) b out out′ a k → length b ≡ length (take (4 * w) g₁)
             → SetupRan s u g (b ++ drop (4 * w) g₁) out out′ a k
