@@ -34,34 +34,17 @@ module _ (s : Shape) (m : Shared) (g : SharedGood s m) where
   pub effect-good : (e : Effect) → EffectGood s e → SharedGood s (effectShared m e)
   unfolding effectShared
   effect-good Nothing h = g
-  effect-good (Grow d) h =
-      record { node = g .node; cell = g .cell; depth-least = h .0; depth-most = h .1; free = g .free }
+  effect-good (Grow d) h = search
   effect-good (Push n v c x) h =
-      record {
-        node = put-node n v (h .2);
-        cell = put-cell c (record { item = m .cell c .item; next = x }) (record { key = g .cell c .key; tag = g .cell c .tag; next = h .3 });
-        depth-least = g .depth-least;
-        depth-most = g .depth-most;
-        free = g .free;
-      }
+      let linked : CellGood (s .cells) (record { item = m .cell c .item; next = x }) =
+      record { key = g .cell c .key; tag = g .cell c .tag; next = h .3 } in
+      search (put-node n v (h .2), put-cell c _ linked)
   effect-good (Pop v c) h =
-      record {
-        node = put-node 1 v (h .1);
-        cell = put-cell c (record { item = zeroItem; next = m .free }) (record { key = omega arith; tag = omega arith; next = g .free });
-        depth-least = g .depth-least;
-        depth-most = g .depth-most;
-        free = h .0 .1;
-      }
-  effect-good (Exchange n v k w) h =
-      record {
-        node = upd-good (NodeGood (s .cells)) (upd (m .node) n v) k w (put-node n v (h .2)) (h .3);
-        cell = g .cell;
-        depth-least = g .depth-least;
-        depth-most = g .depth-most;
-        free = g .free;
-      }
-  effect-good (Clean n v) h =
-      record { node = put-node n v (h .1); cell = g .cell; depth-least = g .depth-least; depth-most = g .depth-most; free = g .free }
+      let freed : CellGood (s .cells) (record { item = zeroItem; next = m .free }) =
+      record { key = omega arith; tag = omega arith; next = g .free } in
+      search (put-node 1 v (h .1), put-cell c _ freed)
+  effect-good (Exchange n v k w) h = search (upd-good (NodeGood (s .cells)) (upd (m .node) n v) k w (put-node n v (h .2)) (h .3))
+  effect-good (Clean n v) h = search (put-node n v (h .1))
 
 module _ (s : Shape) (r : InRange s) where
   few-cells : s .cells < 2 ^ 32

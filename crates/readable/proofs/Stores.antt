@@ -29,6 +29,7 @@ use Rattle.region.specs.declared.shape.Shape.{Shape}
 use Rattle.region.specs.declared.thread.Thread.{Thread}
 use Rattle.region.proofs.Frames.{frame-within, frame-parted}
 use Rattle.region.proofs.Levels.{level-most}
+use Rattle.region.proofs.Picks.{pick-good}
 use Rattle.region.proofs.Shapes.{and-left, and-right, and-both, between-least, between-most, is-between, sizes}
 use Rattle.region.proofs.Views.{Outside, length-setThreadIn, word-setThreadIn, word-setThread, thread-stored-words, shared-setThread}
 use Rattle.readable.specs.Readable.{anyWord, nodeMaxima, cellMaxima, threadMaxima, triesMost, waitingMost, bounded, threadReadable, shapeIn}
@@ -180,27 +181,12 @@ waiting-rule s t (MendReadRight w) g = g
 waiting-rule s t (MendSwap w) g = g
 waiting-rule s t (MendClean w) g = g
 
-waits-few : (n w : ℕ) → WaitsAbove n w → w ≤ anyWord
-waits-few n w h = omega (arith, pow-mono {i = level n - 1} {j = 31} (omega (arith, level-most n)))
-
 waiting-few : (s : Shape) (t : Thread) (p : Place) → PlaceGood s t p → waitingLevels p ≤ anyWord
-waiting-few s t Idle g = omega arith
-waiting-few s t ReadDepth g = omega arith
-waiting-few s t ReadLeaf g = omega arith
-waiting-few s t ReadAncestor g = omega arith
-waiting-few s t GrowDepth g = omega arith
-waiting-few s t ReadTarget g = omega arith
-waiting-few s t InsertAtRoot g = omega arith
-waiting-few s t ReadParent g = omega arith
-waiting-few s t InsertBelow g = omega arith
-waiting-few s t ReadRoot g = omega arith
-waiting-few s t RemoveHead g = omega arith
-waiting-few s t (MendReadNode w) g = waits-few (t .node) w g
-waiting-few s t (MendReadDepth w) g = waits-few (t .node) w g
-waiting-few s t (MendReadLeft w) g = waits-few (t .node) w g
-waiting-few s t (MendReadRight w) g = waits-few (t .node) w g
-waiting-few s t (MendSwap w) g = waits-few (t .node) w g
-waiting-few s t (MendClean w) g = waits-few (t .node) w g
+unfolding waitingMost
+waiting-few s t p g =
+    let levels = pow-mono {i = level (t .node) - 1} {j = 31} (omega (arith, level-most (t .node))) in
+    let few : waitingMost (placeNumber p) (t .node) ≤ anyWord = pick-good (λ x. x ≤ anyWord) _ (λ e. omega arith) (λ e. omega arith) in
+    omega (arith, waiting-rule s t p g, few)
 
 module _ (s : Shape) (r : InRange s) where
   maxima-fit : Fit (threadMaxima s)
@@ -210,106 +196,7 @@ module _ (s : Shape) (r : InRange s) where
     thread-le : AllLe (threadWords t) (threadMaxima s)
     thread-le =
         let g = h .fields in
-        let waiting-any : waitingLevels (t .place) ≤ anyWord = waiting-few s t (t .place) (h .place) in (
-          g .permission,
-          (
-            number-most (t .place),
-            (
-              below-any (g .item-key),
-              (
-                g .item-tag,
-                (
-                  g .own,
-                  (
-                    g .depth,
-                    (
-                      g .leaf,
-                      (
-                        g .tries,
-                        (
-                          g .lo,
-                          (
-                            g .hi,
-                            (
-                              g .node,
-                              (
-                                waiting-any,
-                                (
-                                  g .after,
-                                  (
-                                    below-any (g .result-key),
-                                    (
-                                      g .result-tag,
-                                      (
-                                        g .first .node .first,
-                                        (
-                                          g .first .node .dirty,
-                                          (
-                                            below-any (g .first .node .counter),
-                                            (
-                                              below-any (g .first .head .key),
-                                              (
-                                                g .first .head .tag,
-                                                (
-                                                  g .first .head .next,
-                                                  (
-                                                    g .second .node .first,
-                                                    (
-                                                      g .second .node .dirty,
-                                                      (
-                                                        below-any (g .second .node .counter),
-                                                        (
-                                                          below-any (g .second .head .key),
-                                                          (
-                                                            g .second .head .tag,
-                                                            (
-                                                              g .second .head .next,
-                                                              (
-                                                                g .third .node .first,
-                                                                (
-                                                                  g .third .node .dirty,
-                                                                  (
-                                                                    below-any (g .third .node .counter),
-                                                                    (
-                                                                      below-any (g .third .head .key),
-                                                                      (
-                                                                        g .third .head .tag,
-                                                                        (
-                                                                          g .third .head .next,
-                                                                          tt,
-                                                                        ),
-                                                                      ),
-                                                                    ),
-                                                                  ),
-                                                                ),
-                                                              ),
-                                                            ),
-                                                          ),
-                                                        ),
-                                                      ),
-                                                    ),
-                                                  ),
-                                                ),
-                                              ),
-                                            ),
-                                          ),
-                                        ),
-                                      ),
-                                    ),
-                                  ),
-                                ),
-                              ),
-                            ),
-                          ),
-                        ),
-                      ),
-                    ),
-                  ),
-                ),
-              ),
-            ),
-          ),
-        )
+        (g .permission, (number-most (t .place), (below-any (g .item-key), omega (arith, g, waiting-few s t (t .place) (h .place)))))
 
     pub thread-fit : Fit (threadWords t)
     thread-fit = all-fit (threadWords t) (threadMaxima s) thread-le maxima-fit
