@@ -1,5 +1,6 @@
--- All cells are accounted for: walking each list, and the free chain, counts the cells of its chain; a thread at I1 to I8 holds one cell and
--- any other none; together they are C. So no cell is free exactly when tree and begun puts hold all C. Assumes nothing.
+-- All cells are accounted for: walking each list, and the free chain, counts the cells of its chain; a thread at I1 to I8 holds
+-- one cell and any other none; together they are C. So no cell is free exactly when tree and begun puts hold all C.
+-- Assumes nothing.
 use Prim.Native.Nat.{ℕ, zero, suc, _+_, _*_, _≤_}
 use native.Mathlib.Decide.{ℕ-discrete}
 use native.Mathlib.Omega.{arith}
@@ -89,7 +90,8 @@ module _ (s : Shape) (m : Shared) (th : ℕ → Thread) (l : Ledger) (inv : Inva
   unfolding inChain
   nodes-sum =
       counts s m (owns th) h anyItem
-      ∙ sum-same (nodeLength (h .list)) (inChain (m .cell) (h .list) anyItem) (nodeCount s) (λ k l u. all-count (m .cell) (h .list (2 * k)))
+      ∙ sum-same (nodeLength (h .list)) (inChain (m .cell) (h .list) anyItem) (nodeCount s)
+      (λ k l u. all-count (m .cell) (h .list (2 * k)))
 
   thread-holds : (t : ℕ) → length (h .list (2 * t + 1)) ≡ pick (isPutPlace (th t .place)) 1 0
   thread-holds t =

@@ -37,7 +37,8 @@ module _ (s : Shape) (b : List ℕ) (g : Good s b) (t : ℕ) (p : Plan) (gp : Pl
   unfolding carriedOut pick
   carried-shared =
       rw e
-      (shared-setThread (frameOf s) (effectBytes (frameOf s) b (p .effect)) (within-effect s b g (p .effect)) (frame-parted s) t (p .thread)
+      (shared-setThread (frameOf s) (effectBytes (frameOf s) b (p .effect)) (within-effect s b g (p .effect)) (frame-parted s) t
+      (p .thread)
       ∙ effect-shared (frameOf s) (frame-parted s) b (good-within s b g) (frame-cells s (g .range)) (p .effect)
       (fits-of s (g .range) b (good-shared s b g) (p .effect) (gp .effect)))
 
@@ -46,7 +47,8 @@ module _ (s : Shape) (b : List ℕ) (g : Good s b) (t : ℕ) (p : Plan) (gp : Pl
   unfolding carriedOut pick frameOf
   carried-threads l u =
       rw e
-      (threads-setThread (frameOf s) (effectBytes (frameOf s) b (p .effect)) (within-effect s b g (p .effect)) (frame-parted s) t (p .thread) l u
+      (threads-setThread (frameOf s) (effectBytes (frameOf s) b (p .effect)) (within-effect s b g (p .effect))
+      (frame-parted s) t (p .thread) l u
       (thread-fit s (g .range) (p .thread) (gp .thread))
       ∙ ap (λ h. upd h t (p .thread)) (effect-threads s b g (p .effect)))
 
@@ -64,7 +66,8 @@ module _ (s : Shape) (b : List ℕ) (t c : ℕ) where
   thread-exists e = go (between 1 t (s .threads)) e
     where
       go : (q : Bool)
-          → staysPut (pick q (decide s (sharedIn (frameOf s) b) (threadIn (frameOf s) b t) c) (refused (idleThread 0) badThread) .answer) ≡ false
+          → staysPut (pick q (decide s (sharedIn (frameOf s) b) (threadIn (frameOf s) b t) c)
+          (refused (idleThread 0) badThread) .answer) ≡ false
           → q ≡ true
       go true h = refl
       go false h = absurd (true≢false h)

@@ -24,7 +24,8 @@ record Link (cell : ℕ → Cell) (own rank : ℕ → ℕ) (o c d : ℕ) (cs : L
   pub behind : rank d ≡ length cs
   pub rest : Chain cell own rank o (cell d .next) cs
 
-first-link : {cell : ℕ → Cell} {own rank : ℕ → ℕ} {o c d : ℕ} {cs : List ℕ} → Chain cell own rank o c (d ∷ cs) → Link cell own rank o c d cs
+first-link : {cell : ℕ → Cell} {own rank : ℕ → ℕ} {o c d : ℕ} {cs : List ℕ} → Chain cell own rank o c (d ∷ cs)
+    → Link cell own rank o c d cs
 first-link (link e p eo er k) = record { is = refl; some = p; owner = eo; behind = er; rest = k }
 
 -- a chain from a cell starts with it

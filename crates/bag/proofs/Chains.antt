@@ -1,5 +1,6 @@
--- Lists of cells. A chain's cells all have one owner, and each the number of cells behind it as its rank: so chains of different owners are
--- apart, and none repeats a cell. A change of cells elsewhere leaves a chain alone, and walking it counts its items. Assumes nothing.
+-- Lists of cells. A chain's cells all have one owner, and each the number of cells behind it as its rank: so chains of
+-- different owners are apart, and none repeats a cell. A change of cells elsewhere leaves a chain alone, and walking it counts
+-- its items. Assumes nothing.
 use Prim.Native.Nat.{ℕ, zero, suc, _+_, _≤_, _<_}
 use native.Mathlib.Omega.{arith}
 use mathlib.Core.Path.{_≡_, refl, sym, ap, subst, _∙_}

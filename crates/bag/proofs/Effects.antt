@@ -250,7 +250,8 @@ module _ (s : Shape) (m : Shared) (own own′ : ℕ → ℕ) (g : Mound s m own)
       record {
         held = push-held;
         ordered =
-            push-ordered AtMost item-refl item-trans (val m) (val pushed) (λ y. m .node y .dirty) (λ y. pushed .node y .dirty) (g .ordered) n
+            push-ordered AtMost item-refl item-trans (val m) (val pushed) (λ y. m .node y .dirty) (λ y. pushed .node y .dirty)
+            (g .ordered) n
             (m .cell c .item) (λ y p ne. ap valueOf (push-others y p ne)) push-value push-dirty (a .least) (a .parent);
         deep = λ y h.
             let e = upd-other (m .node) n y v (λ z. omega (arith, h, z, a .few)) in
@@ -318,7 +319,8 @@ module _ (s : Shape) (m : Shared) (own : ℕ → ℕ) (g : Mound s m own) (v : N
   pop-held : Held s popped own
   unfolding effectShared updated
   pop-held =
-      held-pop s m popped own (g .held) c (in-tree s m own g 1 (root-there s m own g)) (a .cell) (a .head) (λ d ne. upd-other (m .cell) c d _ ne)
+      held-pop s m popped own (g .held) c (in-tree s m own g 1 (root-there s m own g)) (a .cell) (a .head)
+      (λ d ne. upd-other (m .cell) c d _ ne)
       (ap (λ z. z .next) (upd-same (m .cell) c _)) refl (ap (λ z. z .first) (pop-node ∙ a .value))
       (λ y ne. ap (λ z. z .first) (upd-other (m .node) 1 y v ne))
 
@@ -342,12 +344,14 @@ module _ (s : Shape) (m : Shared) (own : ℕ → ℕ) (g : Mound s m own) (v : N
   unfolding effectShared updated
   pop-relies =
       let up : popped .node 1 .counter ≡ m .node 1 .counter + 1 = ap (λ y. y .counter) (pop-node ∙ a .value) in
-      relies m popped 1 1 (omega arith) up up (λ y p ne _. pop-others y p ne) (λ p e z. absurd (omega arith)) (λ p e z. absurd (omega arith))
+      relies m popped 1 1 (omega arith) up up (λ y p ne _. pop-others y p ne) (λ p e z. absurd (omega arith))
+      (λ p e z. absurd (omega arith))
 
   pub pop-counts : (i : Item) → counted s m i ≡ counted s popped i + pick (sameItem i (m .cell c .item)) 1 0
   unfolding effectShared updated
   pop-counts i =
-      counted-pop s m popped own (g .held) c (in-tree s m own g 1 (root-there s m own g)) (a .cell) (a .head) (λ d ne. upd-other (m .cell) c d _ ne)
+      counted-pop s m popped own (g .held) c (in-tree s m own g 1 (root-there s m own g)) (a .cell) (a .head)
+      (λ d ne. upd-other (m .cell) c d _ ne)
       (ap (λ z. z .next) (upd-same (m .cell) c _)) refl (ap (λ z. z .first) (pop-node ∙ a .value))
       (λ y ne. ap (λ z. z .first) (upd-other (m .node) 1 y v ne)) i
 
@@ -393,7 +397,8 @@ module _ (s : Shape) (m : Shared) (own : ℕ → ℕ) (g : Mound s m own) (n : �
   exchange-held : Held s swapped own
   unfolding effectShared updated
   exchange-held =
-      held-exchange s m swapped own (g .held) n k (a .some) (in-tree s m own g n (omega (arith, a .child, a .few))) (omega (arith, a .child, a .some))
+      held-exchange s m swapped own (g .held) n k (a .some) (in-tree s m own g n (omega (arith, a .child, a .few)))
+      (omega (arith, a .child, a .some))
       (in-tree s m own g k (a .few)) apart refl refl (ap (λ z. z .first) at-n) (ap (λ z. z .first) at-k)
       (λ x p q. ap (λ z. z .first) (at-x x p q))
 
@@ -406,7 +411,8 @@ module _ (s : Shape) (m : Shared) (own : ℕ → ℕ) (g : Mound s m own) (n : �
             exchange-ordered AtMost item-refl item-trans (val m) (val swapped) (λ y. m .node y .dirty) (λ y. swapped .node y .dirty)
             (g .ordered) n k j (a .some) (a .child) (a .clean) (a .clean-sibling) (a .kids) (a .sibling) (a .less) (a .least)
             (value-by n k (ap (λ z. z .first) at-n)) (value-by k n (ap (λ z. z .first) at-k))
-            (λ x p q. value-by x x (ap (λ z. z .first) (at-x x p q))) (ap (λ z. z .dirty) at-k) (λ x p q. ap (λ z. z .dirty) (at-x x p q));
+            (λ x p q. value-by x x (ap (λ z. z .first) (at-x x p q))) (ap (λ z. z .dirty) at-k)
+            (λ x p q. ap (λ z. z .dirty) (at-x x p q));
         deep = λ y h.
             let e = at-x y (λ z. omega (arith, h, z, a .few, a .child)) (λ z. omega (arith, h, z, a .few)) in
             (ap (λ z. z .first) e ∙ g .deep y h .0, ap (λ z. z .dirty) e ∙ g .deep y h .1);
@@ -430,7 +436,8 @@ module _ (s : Shape) (m : Shared) (own : ℕ → ℕ) (g : Mound s m own) (n : �
   unfolding effectShared updated
   exchange-counts i =
       counted-exchange s m swapped own (g .held) n k (a .some) (in-tree s m own g n (omega (arith, a .child, a .few)))
-      (omega (arith, a .child, a .some)) (in-tree s m own g k (a .few)) apart refl refl (ap (λ z. z .first) at-n) (ap (λ z. z .first) at-k)
+      (omega (arith, a .child, a .some)) (in-tree s m own g k (a .few)) apart refl refl (ap (λ z. z .first) at-n)
+      (ap (λ z. z .first) at-k)
       (λ x p q. ap (λ z. z .first) (at-x x p q)) i
 
 -- Cleaning.
@@ -464,8 +471,10 @@ module _ (s : Shape) (m : Shared) (own : ℕ → ℕ) (g : Mound s m own) (n : �
       record {
         held = held-same s m cleaned own (g .held) refl refl clean-first;
         ordered =
-            clean-ordered AtMost item-refl item-trans (val m) (val cleaned) (λ y. m .node y .dirty) (λ y. cleaned .node y .dirty) (g .ordered) n
-            (a .some) clean-value (λ x p q. ap (λ z. z .dirty) (clean-other x q)) (a .clean-left) (a .clean-right) (a .least-left) (a .least-right);
+            clean-ordered AtMost item-refl item-trans (val m) (val cleaned) (λ y. m .node y .dirty)
+            (λ y. cleaned .node y .dirty) (g .ordered) n
+            (a .some) clean-value (λ x p q. ap (λ z. z .dirty) (clean-other x q)) (a .clean-left) (a .clean-right)
+            (a .least-left) (a .least-right);
         deep = λ y h.
             let e = clean-other y (λ z. omega (arith, h, z, a .few)) in
             (ap (λ z. z .first) e ∙ g .deep y h .0, ap (λ z. z .dirty) e ∙ g .deep y h .1);
@@ -511,7 +520,8 @@ module _ (s : Shape) (m m′ : Shared) (own own′ : ℕ → ℕ) (g : Mound s m
       record {
         held = held-begin s m m′ own own′ (g .held) t c lt ut some free none others ended left nodes now still;
         ordered = λ a x p h z.
-            subst₂ (λ u w. AtMost u w) (sym (ap valueOf (begin-reads a p))) (sym (ap valueOf (begin-reads x (omega (arith, p, above-le a x h)))))
+            subst₂ (λ u w. AtMost u w) (sym (ap valueOf (begin-reads a p)))
+            (sym (ap valueOf (begin-reads x (omega (arith, p, above-le a x h)))))
             (g .ordered a x p h (ap (λ f. f a .dirty) (sym nodes) ∙ z));
         deep = λ y h.
             let d = g .deep y (subst (λ k. 2 ^ k ≤ y) depth h) in

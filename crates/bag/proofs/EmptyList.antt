@@ -1,5 +1,5 @@
--- A thread with an empty permission list stands idle from the layout on: its calls are refused, its turns answer idle, and no other thread's
--- call or turn stores to its record. Assumes nothing.
+-- A thread with an empty permission list stands idle from the layout on: its calls are refused, its turns answer idle, and no
+-- other thread's call or turn stores to its record. Assumes nothing.
 use Prim.Native.Nat.{ℕ, _*_}
 use native.Mathlib.Decide.{ℕ-discrete}
 use mathlib.Core.Path.{_≡_, refl, sym, ap, subst, _∙_}
@@ -135,4 +135,5 @@ empty-list-changes-nothing s ps b e calls n earlier later split t l u z =
     calls laid tt barred (subst (λ k. NoLayout k calls) (laid-exact s ps b e ∙ sym (g .exact)) n)
     in
     leaves-alone s t _
-    (kept-after (λ b x. Barred s t b) Anything earlier later laid tt barred (subst (Kept (λ b x. Barred s t b) Anything tt) split kept) .1)
+    (kept-after (λ b x. Barred s t b) Anything earlier later laid tt barred
+    (subst (Kept (λ b x. Barred s t b) Anything tt) split kept) .1)

@@ -165,7 +165,8 @@ module _ (m m′ : Shared) (r : Rely m m′) where
   stood : (n : ℕ) (q : NodeCopy) → 1 ≤ n → Sound m n q → m′ .node n .counter ≡ q .node .counter → m .node n .counter ≡ q .node .counter
   stood n q p h e = omega (arith, r .counters n p, h .counter, e)
 
-  stands : (n : ℕ) (q : NodeCopy) → 1 ≤ n → Sound m n q → m′ .node n .counter ≡ q .node .counter → m′ .node n .counter ≡ m .node n .counter
+  stands : (n : ℕ) (q : NodeCopy) → 1 ≤ n → Sound m n q → m′ .node n .counter ≡ q .node .counter
+      → m′ .node n .counter ≡ m .node n .counter
   stands n q p h e = omega (arith, r .counters n p, h .counter, e)
 
   sound-stays : (n : ℕ) (q : NodeCopy) → 1 ≤ n → Sound m n q → Sound m′ n q
@@ -204,7 +205,8 @@ module _ (m m′ : Shared) (r : Rely m m′) where
   inner-stays : (n : ℕ) (q : NodeCopy) → 1 ≤ n → Inner m n q → Inner m′ n q
   inner-stays n q p h = (dirty-stays n q p (h .0), deeper (2 * n + 1) (h .1))
 
-  child-read-stays : (n : ℕ) (q : NodeCopy) (c : ℕ) (k : NodeCopy) → 1 ≤ n → c / 2 ≡ n → Sound m n q → ChildRead m n q c k → ChildRead m′ n q c k
+  child-read-stays : (n : ℕ) (q : NodeCopy) (c : ℕ) (k : NodeCopy) → 1 ≤ n → c / 2 ≡ n → Sound m n q → ChildRead m n q c k
+      → ChildRead m′ n q c k
   child-read-stays n q c k p ec h g =
       record { sound = sound-stays c k (omega arith) (g .sound); child = λ z. child-stays n q c (UpTo k) p ec h (g .child z) }
 

@@ -187,7 +187,8 @@ module _ (s : Shape) (m m′ : Shared) (own own′ : ℕ → ℕ) (h : Held s m 
     (still : (u : ℕ) → (u ≡ t → ⊥) → own′ u ≡ own u) where
   begin-move : Moved (m .cell) (m′ .cell) (heads (m′ .free) (m′ .node) own′) (h .list) 0 (2 * t + 1) c
   begin-move =
-      move (m .cell) (m′ .cell) (h .owner) (h .rank) (heads (m .free) (m .node) own) (heads (m′ .free) (m′ .node) own′) (h .list) (h .chains)
+      move (m .cell) (m′ .cell) (h .owner) (h .rank) (heads (m .free) (m .node) own) (heads (m′ .free) (m′ .node) own′)
+      (h .list) (h .chains)
       0 (2 * t + 1) c (λ z. omega arith) some (head-free (m .free) (m .node) own ∙ free) others
       (ended ∙ sym (head-thread (m .free) (m .node) own t ∙ none))
       (head-free (m′ .free) (m′ .node) own′ ∙ left) (head-thread (m′ .free) (m′ .node) own′ t ∙ now)
@@ -226,10 +227,12 @@ module _ (s : Shape) (m m′ : Shared) (own own′ : ℕ → ℕ) (h : Held s m 
     (others : (d : ℕ) → (d ≡ c → ⊥) → m′ .cell d ≡ m .cell d) (kept : m′ .cell c .item ≡ m .cell c .item)
     (onto : m′ .cell c .next ≡ m .node n .first) (free : m′ .free ≡ m .free) (first : m′ .node n .first ≡ c)
     (elsewhere : (x : ℕ) → (x ≡ n → ⊥) → m′ .node x .first ≡ m .node x .first) (gone : own′ t ≡ 0)
-    (still : (u : ℕ) → (u ≡ t → ⊥) → own′ u ≡ own u) (proper : Proper (m .cell c .item)) (least : AtMost (m .cell c .item) (val m n)) where
+    (still : (u : ℕ) → (u ≡ t → ⊥) → own′ u ≡ own u) (proper : Proper (m .cell c .item))
+    (least : AtMost (m .cell c .item) (val m n)) where
   push-move : Moved (m .cell) (m′ .cell) (heads (m′ .free) (m′ .node) own′) (h .list) (2 * t + 1) (2 * n) c
   push-move =
-      move (m .cell) (m′ .cell) (h .owner) (h .rank) (heads (m .free) (m .node) own) (heads (m′ .free) (m′ .node) own′) (h .list) (h .chains)
+      move (m .cell) (m′ .cell) (h .owner) (h .rank) (heads (m .free) (m .node) own) (heads (m′ .free) (m′ .node) own′)
+      (h .list) (h .chains)
       (2 * t + 1) (2 * n) c (λ z. omega arith) some (head-thread (m .free) (m .node) own t ∙ mine) others
       (onto ∙ sym (head-node (m .free) (m .node) own n ln))
       (head-thread (m′ .free) (m′ .node) own′ t ∙ gone ∙ sym ended) (head-node (m′ .free) (m′ .node) own′ n ln ∙ first)
@@ -258,7 +261,8 @@ module _ (s : Shape) (m m′ : Shared) (own own′ : ℕ → ℕ) (h : Held s m 
       here : Sorted (m .cell c .item ∷ items (m .cell) (h .list (2 * n)))
       here = (proper, from-head (node-chain s m own h n ln) (h .sorted n ln) (m .cell c .item) least, h .sorted n ln)
 
-      go : (mv : Moved (m .cell) (m′ .cell) (heads (m′ .free) (m′ .node) own′) (h .list) (2 * t + 1) (2 * n) c) (k : ℕ) → 1 ≤ k → Dec (k ≡ n)
+      go : (mv : Moved (m .cell) (m′ .cell) (heads (m′ .free) (m′ .node) own′) (h .list) (2 * t + 1) (2 * n) c) (k : ℕ) → 1 ≤ k
+          → Dec (k ≡ n)
           → Sorted (items (m′ .cell) (mv .lists (2 * k)))
       go mv k p (yes e) =
           subst (λ y. Sorted (items (m′ .cell) (mv .lists (2 * y)))) (sym e)
@@ -283,7 +287,8 @@ module _ (s : Shape) (m m′ : Shared) (own : ℕ → ℕ) (h : Held s m own) (c
     (elsewhere : (x : ℕ) → (x ≡ 1 → ⊥) → m′ .node x .first ≡ m .node x .first) where
   pop-move : Moved (m .cell) (m′ .cell) (heads (m′ .free) (m′ .node) own) (h .list) 2 0 c
   pop-move =
-      move (m .cell) (m′ .cell) (h .owner) (h .rank) (heads (m .free) (m .node) own) (heads (m′ .free) (m′ .node) own) (h .list) (h .chains)
+      move (m .cell) (m′ .cell) (h .owner) (h .rank) (heads (m .free) (m .node) own) (heads (m′ .free) (m′ .node) own) (h .list)
+      (h .chains)
       2 0 c (λ z. omega arith) some (head-node (m .free) (m .node) own 1 (omega arith) ∙ head) others
       (onto ∙ sym (head-free (m .free) (m .node) own))
       (head-node (m′ .free) (m′ .node) own 1 (omega arith) ∙ first) (head-free (m′ .free) (m′ .node) own ∙ free)
@@ -350,7 +355,8 @@ module _ (s : Shape) (m m′ : Shared) (own : ℕ → ℕ) (h : Held s m own) (n
         rank = ex .ranks;
         list = ex .lists;
         chains = λ o.
-            subst (λ cell. Chain cell (ex .owners) (ex .ranks) o (heads (m′ .free) (m′ .node) own o) (ex .lists o)) (sym cells) (ex .chained o);
+            subst (λ cell. Chain cell (ex .owners) (ex .ranks) o (heads (m′ .free) (m′ .node) own o) (ex .lists o)) (sym cells)
+            (ex .chained o);
         sorted = λ x p. subst (λ cell. Sorted (items cell (ex .lists (2 * x)))) (sym cells) (go x p (ℕ-discrete x n) (ℕ-discrete x k));
         total =
             let a = sum-exchange (nodeLength (h .list)) (nodeLength (ex .lists)) (nodeCount s) n k ln un lk uk apart
@@ -376,7 +382,9 @@ module _ (s : Shape) (m m′ : Shared) (own : ℕ → ℕ) (h : Held s m own) (n
       let same = sameItem i in
       counts s m′ own held-exchange same
       ∙ ap (λ cell. sum (λ x. among same (items cell (exchange-lists .lists (2 * x)))) (nodeCount s)) cells
-      ∙ sum-exchange (inChain (m .cell) (h .list) same) (inChain (m .cell) (exchange-lists .lists) same) (nodeCount s) n k ln un lk uk apart
-      (ap (λ l. among same (items (m .cell) l)) (exchange-lists .list-o)) (ap (λ l. among same (items (m .cell) l)) (exchange-lists .list-q))
+      ∙ sum-exchange (inChain (m .cell) (h .list) same) (inChain (m .cell) (exchange-lists .lists) same)
+      (nodeCount s) n k ln un lk uk apart
+      (ap (λ l. among same (items (m .cell) l)) (exchange-lists .list-o))
+      (ap (λ l. among same (items (m .cell) l)) (exchange-lists .list-q))
       (λ x p q. ap (λ l. among same (items (m .cell) l)) (list-x x p q))
       ∙ sym (counts s m own h same)

@@ -1,5 +1,5 @@
--- A laid-out region, read as shared memory and threads' records: it is readable, every node is empty, the cells chain as free, and every thread
--- is idle with the permission that layout gave it. Assumes nothing.
+-- A laid-out region, read as shared memory and threads' records: it is readable, every node is empty, the cells chain as free,
+-- and every thread is idle with the permission that layout gave it. Assumes nothing.
 use Prim.Native.Nat.{ℕ, zero, suc, _+_, _-_, _*_, _/_, _%_, _≤_, _<_}
 use native.Mathlib.Decide.{decLt}
 use native.Mathlib.Omega.{arith}

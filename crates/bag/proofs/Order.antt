@@ -1,5 +1,6 @@
--- The order of the tree, for all depths together: a clean node's value is at most that of every node below it. Each effect keeps it. Nodes
--- are numbers, their values and marks functions; of the order of values only reflexivity and transitivity are used. Assumes nothing.
+-- The order of the tree, for all depths together: a clean node's value is at most that of every node below it. Each effect
+-- keeps it. Nodes are numbers, their values and marks functions; of the order of values only reflexivity and transitivity are
+-- used. Assumes nothing.
 use Prim.Native.Nat.{ℕ, zero, suc, _+_, _*_, _/_, _≤_}
 use native.Mathlib.Decide.{ℕ-discrete}
 use native.Mathlib.Omega.{arith}
@@ -106,7 +107,8 @@ module _ {Value : Type 0} (_≼_ : Value → Value → Type 0) (≼-refl : (v : 
         go (yes e) = subst (λ u. val u ≼ val x) (sym e) (under (below-children n x (subst (λ u. Above u x) e h)))
         go (no na) = ord a x p h (sym (bd a p na) ∙ c)
 
-    -- Node n and its child k exchange values; n is clean and k dirty. The child and its sibling j were clean, the child least of the three.
+    -- Node n and its child k exchange values; n is clean and k dirty. The child and its sibling j were clean, the child least
+    -- of the three.
     module _ (n k j : ℕ) (pn : 1 ≤ n) (pk : k / 2 ≡ n) (ck : dirty k ≡ 0) (cj : dirty j ≡ 0)
         (kids : (x : ℕ) → Above n x → (n ≡ x) ⊎ (Above k x ⊎ Above j x)) (pj : 1 ≤ j) (lk : val k ≼ val n) (lj : val k ≼ val j)
         (vn : val′ n ≡ val k) (vk : val′ k ≡ val n) (vx : (x : ℕ) → (x ≡ n → ⊥) → (x ≡ k → ⊥) → val′ x ≡ val x)

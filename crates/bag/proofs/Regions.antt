@@ -83,7 +83,8 @@ module _ (s : Shape) (b : List ℕ) (l : Ledger) (g : Region s b l) where
       → Planned s m (owns th) t (th t .own) (l .operation t) (turnPlan (frameOf s) b t c)
   plan-fits t c lt ut =
       subst (Planned s m (owns th) t (th t .own) (l .operation t)) (sym (turn-decides s b t c lt ut))
-      (planned s (g .good .range) m (owns th) (g .holds .mound) t (th t) refl (l .operation t) (good-thread s b (g .good) t) (g .holds .at t) c)
+      (planned s (g .good .range) m (owns th) (g .holds .mound) t (th t) refl (l .operation t) (good-thread s b (g .good) t)
+      (g .holds .at t) c)
 
   -- a turn that changes nothing tells nothing
   module _ (t c : ℕ) where
@@ -207,7 +208,8 @@ module _ (s : Shape) (b : List ℕ) (l : Ledger) (g : Region s b l) (t : ℕ) (l
       where
         go : (u : ℕ) → Dec (u ≡ t) → upd (th s b l g) t taker u .own ≡ th s b l g u .own
         go u (yes e) =
-            ap (λ y. upd (th s b l g) t taker y .own) e ∙ ap (λ y. y .own) (upd-same (th s b l g) t taker) ∙ ap (λ y. th s b l g y .own) (sym e)
+            ap (λ y. upd (th s b l g) t taker y .own) e ∙ ap (λ y. y .own) (upd-same (th s b l g) t taker)
+            ∙ ap (λ y. th s b l g y .own) (sym e)
         go u (no n) = ap (λ y. y .own) (upd-other (th s b l g) t u taker n)
 
     abbrev takes : Ledger
@@ -280,7 +282,8 @@ module _ (s : Shape) (b : List ℕ) (l : Ledger) (g : Region s b l) (t : ℕ) (l
     put-threads : threadIn (frameOf s) (putBegun (frameOf s) b t i) ≡ upd (th s b l g) t putter
     unfolding putBegun frameOf
     put-threads =
-        threads-setThread (frameOf s) (setCellIn (frameOf s) (setWord b (frameOf s .free) next) c mine) within-cell (frame-parted s) t putter lt ut
+        threads-setThread (frameOf s) (setCellIn (frameOf s) (setWord b (frameOf s .free) next) c mine) within-cell
+        (frame-parted s) t putter lt ut
         (thread-fit s (g .good .range) putter
         (begun-put-good s (th s b l g t) (good-thread s b (g .good) t) i (omega arith) tag c few))
         ∙ ap (λ y. upd y t putter)
@@ -304,12 +307,14 @@ module _ (s : Shape) (b : List ℕ) (l : Ledger) (g : Region s b l) (t : ℕ) (l
         let ended : begun .cell c .next ≡ 0 = ap (λ y. y .next) (upd-same (m s b l g .cell) c mine) in
         record {
           keeps =
-              begin-keeps s (m s b l g) begun (owns (th s b l g)) (owns (upd (th s b l g) t putter)) (g .holds .mound) t c lt ut (omega arith) refl
+              begin-keeps s (m s b l g) begun (owns (th s b l g)) (owns (upd (th s b l g) t putter)) (g .holds .mound) t c lt ut
+              (omega arith) refl
               (at-rest .1) elsewhere ended refl refl refl own-now still-own;
           others = λ u n. upd-other (l .operation) t u (putting i) n;
           now = upd-same (l .operation) t (putting i);
           bag = λ j. g .holds .bag j ∙ sym
-              (begin-counts s (m s b l g) begun (owns (th s b l g)) (owns (upd (th s b l g) t putter)) (g .holds .mound) t c lt ut (omega arith) refl
+              (begin-counts s (m s b l g) begun (owns (th s b l g)) (owns (upd (th s b l g) t putter))
+              (g .holds .mound) t c lt ut (omega arith) refl
               (at-rest .1) elsewhere ended refl refl refl own-now still-own j);
         }
 

@@ -1,4 +1,5 @@
--- The invariant holds of a laid-out region with the empty ledger: every cell is free, every node empty, every thread idle. Assumes nothing.
+-- The invariant holds of a laid-out region with the empty ledger: every cell is free, every node empty, every thread idle.
+-- Assumes nothing.
 use Prim.Native.Nat.{ℕ, zero, suc, _+_, _-_, _*_, _/_, _%_, _≤_}
 use native.Mathlib.Decide.{ℕ-discrete}
 use native.Mathlib.Omega.{arith}
@@ -119,7 +120,8 @@ module _ (s : Shape) (ps b : List ℕ) (e : layoutRefusal s ps (length b) ≡ do
 
       go : Dec (o ≡ 0) → Chain (m .cell) (λ c. 0) (λ c. s .cells - c) o (heads (m .free) (m .node) (owns th) o) (listed (s .cells) o)
       go (yes z) =
-          subst (λ y. Chain (m .cell) (λ c. 0) (λ c. s .cells - c) y (heads (m .free) (m .node) (owns th) y) (listed (s .cells) y)) (sym z)
+          subst (λ y. Chain (m .cell) (λ c. 0) (λ c. s .cells - c) y (heads (m .free) (m .node) (owns th) y)
+          (listed (s .cells) y)) (sym z)
           (subst₂ (λ h l. Chain (m .cell) (λ c. 0) (λ c. s .cells - c) 0 h l)
           (start (s .cells) range ∙ sym (head-free (m .free) (m .node) (owns th) ∙ laid-free s ps b e)) (sym (listed-free (s .cells)))
           (free-chain (m .cell) (s .cells) (λ c. ap (λ x. x .next) (laid-cell s ps b e c)) (s .cells) 1 (omega arith) (omega arith)))

@@ -131,7 +131,8 @@ module _ (s : Shape) (f : Frame) (b : List ℕ) (own own′ : ℕ → ℕ) (l : 
   -- an effect that moves no cell: the operation stays, or changes with the count as it is
   quiet : (e : Effect) (l′ : Ledger) (op′ : Operation) → own′ t ≡ own t → Keeps s m (effectShared m e) own own t
       → ((i : Item) → counted s (effectShared m e) i ≡ counted s m i) → ((i : Item) → l′ .bag i ≡ l .bag i)
-      → ((u : ℕ) → (u ≡ t → ⊥) → l′ .operation u ≡ l .operation u) → l′ .operation t ≡ op′ → Stepped s m (effectShared m e) own own′ l l′ t op′
+      → ((u : ℕ) → (u ≡ t → ⊥) → l′ .operation u ≡ l .operation u) → l′ .operation t ≡ op′
+      → Stepped s m (effectShared m e) own own′ l l′ t op′
   quiet e l′ op′ eo keeps counts same others now =
       record {
         keeps = subst (λ o. Keeps s m (effectShared m e) own o t) (sym (same-own eo)) keeps;
@@ -213,7 +214,8 @@ module _ (s : Shape) (f : Frame) (b : List ℕ) (own own′ : ℕ → ℕ) (l : 
         record {
           after = record { bag = oneLess (l .bag) i; operation = upd (l .operation) t (holding i) };
           follows = take-decides (is ∙ eo) (subst (λ k. 1 ≤ k) (sym (bag i)) (root-held s m own g (omega (arith, al .head, al .cell))))
-              (λ j h. item-key i j (root-below s m own g (al .clean) (omega (arith, al .head, al .cell)) j (subst (λ k. 1 ≤ k) (bag j) h)));
+              (λ j h. item-key i j (root-below s m own g (al .clean) (omega (arith, al .head, al .cell)) j
+              (subst (λ k. 1 ≤ k) (bag j) h)));
           stepped =
               record {
                 keeps = subst (λ o. Keeps s m (effectShared m (Pop v c)) own o t) (sym (same-own ow)) (pop-keeps s m own g v c al t);

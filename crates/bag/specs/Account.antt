@@ -1,5 +1,5 @@
--- Where the cells are: in the tree, with a put that is begun and not answered, or in the free chain. These are all C, so a put that nothing
--- else refuses is refused 10 exactly when tree and begun puts hold all C. Proved in proofs/Account.antt.
+-- Where the cells are: in the tree, with a put that is begun and not answered, or in the free chain. These are all C, so a put
+-- that nothing else refuses is refused 10 exactly when tree and begun puts hold all C. Proved in proofs/Account.antt.
 use Prim.Native.Nat.{ℕ, zero, suc, _+_}
 use mathlib.Core.Path.{_≡_}
 use mathlib.Core.Bool.{Bool, true}

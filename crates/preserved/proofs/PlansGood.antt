@@ -372,7 +372,8 @@ module _ (s : Shape) (r : InRange s) (m : Shared) (sm : SharedGood s m) where
           (λ h. mending-good s u gu _ _ (ancestor-few (u .node) (level w) (gu .node))
           (waits-returned (u .node) w (omega (arith, gu .node, few-nodes)) (eqb-false w 0 h) (subst (λ n. WaitsAbove n w) (sym en) hw)))
 
-      pub returning-good : (e : Effect) → EffectGood s e → (u : Thread) → FieldsGood s u → u .node ≡ t .node → PlanGood s (returning e u w)
+      pub returning-good : (e : Effect) → EffectGood s e → (u : Thread) → FieldsGood s u → u .node ≡ t .node
+          → PlanGood s (returning e u w)
       unfolding returning
       returning-good e he u gu en = plan-good s e (returned u w) (returnAnswer u w) he (returned-good u gu en)
 
@@ -447,8 +448,10 @@ module _ (s : Shape) (r : InRange s) (m : Shared) (sm : SharedGood s m) where
           (λ e. plan-good s (Exchange (t .node) (updated n (q .node .first) 0) c (updated (q .node) (n .first) 1)) (mending t c w) Moved (
             (omega arith, g .node),
             (cl, cu),
-            updated-good n (q .node .first) 0 (g .first .node) (or-left (isSpent n) (isSpent (q .node)) e) (hq .node .first) (omega arith),
-            updated-good (q .node) (n .first) 1 (hq .node) (or-right (isSpent n) (isSpent (q .node)) e) (g .first .node .first) (omega arith),
+            updated-good n (q .node .first) 0 (g .first .node) (or-left (isSpent n) (isSpent (q .node)) e) (hq .node .first)
+                (omega arith),
+            updated-good (q .node) (n .first) 1 (hq .node) (or-right (isSpent n) (isSpent (q .node)) e) (g .first .node .first)
+                (omega arith),
           )
           (mending-good s t g c w cu (waits-at-child (t .node) c w (omega arith) lo hi (omega (arith, cu, few-nodes)) hw))))
           (λ k. onTo-good s t g (MendReadNode w) hw))

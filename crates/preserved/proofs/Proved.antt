@@ -77,7 +77,8 @@ module _ (s : Shape) (b : List ℕ) (g : Good s b) (t : ℕ) (l : 1 ≤ t) (u : 
   unfolding carriedOut
   carried-good =
       pick-good (Good s) (staysPut (p .answer)) (λ e. g)
-      (λ e. good-setThread s (effectBytes (frameOf s) b (p .effect)) (good-effect s b g (p .effect) (gp .effect)) t l u (p .thread) (gp .thread))
+      (λ e. good-setThread s (effectBytes (frameOf s) b (p .effect)) (good-effect s b g (p .effect) (gp .effect)) t l u
+      (p .thread) (gp .thread))
 
 refused-stays : (f : Frame) (b : List ℕ) (t : ℕ) (v : Thread) (n : ℕ) → carriedOut f b t (refused v n) ≡ b
 unfolding carriedOut refused pick
@@ -179,7 +180,8 @@ module _ (s : Shape) (b : List ℕ) (g : Good s b) where
       }))
       (threads-kept-passing (setCellIn (frameOf s) b c v) (λ j x. word-setCellIn (frameOf s) b w c j v (inr (omega arith))))
 
-pub begun-put-good : (s : Shape) (t : Thread) → ThreadGood s t → (i : Item) → i .key < 2 ^ 32 → i .tag ≤ 65535 → (own : ℕ) → own ≤ s .cells
+pub begun-put-good : (s : Shape) (t : Thread) → ThreadGood s t → (i : Item) → i .key < 2 ^ 32 → i .tag ≤ 65535 → (own : ℕ)
+    → own ≤ s .cells
     → ThreadGood s (begunPut t i own)
 unfolding begunPut
 begun-put-good s t g i hk ht own h =
@@ -308,7 +310,8 @@ module _ (s : Shape) (b : List ℕ) (g : Good s b) where
     unfolding carriedOut
     carried-others =
         pick-good (λ x. threadIn (frameOf s) x u ≡ threadIn (frameOf s) b u) (staysPut (p .answer)) (λ e. refl)
-        (λ e. store-others s (effectBytes (frameOf s) b (p .effect)) (g .range) (within-effect (p .effect)) t l r (p .thread) (gp .thread) u n
+        (λ e. store-others s (effectBytes (frameOf s) b (p .effect)) (g .range) (within-effect (p .effect)) t l r (p .thread)
+        (gp .thread) u n
         ∙ ap (λ h. h u) (effect-threads (p .effect)))
 
   turn-others : (t c u : ℕ) → (u ≡ t → ⊥) → threadIn (frameOf s) (turnBytes (frameOf s) b t c) u ≡ threadIn (frameOf s) b u
@@ -346,13 +349,15 @@ put-leaves-others b e t i u n =
     store-others s (ownStored s b i) (g .range) (good-within s (ownStored s b i) g₂) t (put-least b t i k) (put-most b t i k) _
     (put-thread-good s b i g (put-key b t i k) (put-tag b t i k) (put-free b t i k) t) u n
     ∙ ap (λ h. h u)
-    (threads-setCell (frameIn b) (freeMoved s b) (good-within s (freeMoved s b) g₁) (frame-parted s) (own s b) (record { item = i; next = 0 })
+    (threads-setCell (frameIn b) (freeMoved s b) (good-within s (freeMoved s b) g₁) (frame-parted s) (own s b)
+    (record { item = i; next = 0 })
     ∙ threads-setFree (frameIn b) b (good-within s b g) (frame-parted s) (cellIn (frameIn b) b (own s b) .next)))
     (λ h. refl)
 
 -- an effect changes none but its own words
 module _ (f : Frame) (j : ℕ) where
-  node-leaves : (b : List ℕ) → Within f (length b) → (n : ℕ) (v : Node) → Apart (entry (nodesOf f) n) 3 j → word (setNodeIn f b n v) j ≡ word b j
+  node-leaves : (b : List ℕ) → Within f (length b) → (n : ℕ) (v : Node) → Apart (entry (nodesOf f) n) 3 j
+      → word (setNodeIn f b n v) j ≡ word b j
   node-leaves b w n v o = word-setNode f b w n j v o
 
   within-node : (b : List ℕ) → Within f (length b) → (n : ℕ) (v : Node) → Within f (length (setNodeIn f b n v))

@@ -117,7 +117,8 @@ module _ (s : Shape) (ps b : List ℕ) (e : layoutRefusal s ps (length b) ≡ do
       and-both
       (and-both
       (and-both
-      (is-between 1 (word laid 4) (s .depth) (omega (arith, header 4 (omega arith))) (omega (arith, header 4 (omega arith), r .depth-least)))
+      (is-between 1 (word laid 4) (s .depth) (omega (arith, header 4 (omega arith)))
+      (omega (arith, header 4 (omega arith), r .depth-least)))
       (le-leb (word laid 5) (s .cells) (omega (arith, header 5 (omega arith), r .cells-least))))
       nodes-pass)
       cells-pass

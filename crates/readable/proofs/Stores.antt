@@ -309,9 +309,11 @@ make-good s b es r el m ts =
       depth-most = m .depth-most;
       free-most = m .free;
       nodes = λ i l.
-          node-bounded (s .cells) b _ (subst (NodeGood (s .cells)) (load-at nodeAt emptyNode (nodesOf (frameOf s)) b i l) (m .node (suc i)));
+          node-bounded (s .cells) b _ (subst (NodeGood (s .cells)) (load-at nodeAt emptyNode (nodesOf (frameOf s)) b i l)
+          (m .node (suc i)));
       cells = λ i l.
-          cell-bounded (s .cells) b _ (subst (CellGood (s .cells)) (load-at cellAt zeroCell (cellsOf (frameOf s)) b i l) (m .cell (suc i)));
+          cell-bounded (s .cells) b _ (subst (CellGood (s .cells)) (load-at cellAt zeroCell (cellsOf (frameOf s)) b i l)
+          (m .cell (suc i)));
       threads = ts;
     }
 
@@ -341,7 +343,8 @@ place-good s t h (suc (suc (suc (suc (suc (suc (suc (suc (suc (suc (suc (suc (su
 place-good s t h (suc (suc (suc (suc (suc (suc (suc (suc (suc (suc (suc (suc (suc (suc zero)))))))))))))) w l gt gw = gw
 place-good s t h (suc (suc (suc (suc (suc (suc (suc (suc (suc (suc (suc (suc (suc (suc (suc zero))))))))))))))) w l gt gw = gw
 place-good s t h (suc (suc (suc (suc (suc (suc (suc (suc (suc (suc (suc (suc (suc (suc (suc (suc zero)))))))))))))))) w l gt gw = gw
-place-good s t h (suc (suc (suc (suc (suc (suc (suc (suc (suc (suc (suc (suc (suc (suc (suc (suc (suc n))))))))))))))))) w l gt gw = absurd (omega arith)
+place-good s t h (suc (suc (suc (suc (suc (suc (suc (suc (suc (suc (suc (suc (suc (suc (suc (suc (suc n))))))))))))))))) w l gt gw =
+    absurd (omega arith)
 
 fit : {n : ℕ} → n ≤ anyWord → n < 2 ^ 32
 fit h = omega arith
@@ -402,7 +405,8 @@ module _ (s : Shape) (r : InRange s) (b : List ℕ) (at : ℕ) (e : threadReadab
   place-of-good =
       place-good s (threadAt b at) (r .threshold-least) (getD (wordsAt b at 33) 1 0) (getD (wordsAt b at 33) 11 0) (le 1 (omega arith))
       (subst₂ (λ x y. x ≤ triesMost s y) (sym (is 7 (omega arith))) (sym (is 1 (omega arith))) tries-pass)
-      (subst₃ (λ x y z. x ≤ waitingMost y z) (sym (is 11 (omega arith))) (sym (is 1 (omega arith))) (sym (is 10 (omega arith))) waiting-pass)
+      (subst₃ (λ x y z. x ≤ waitingMost y z) (sym (is 11 (omega arith))) (sym (is 1 (omega arith)))
+      (sym (is 10 (omega arith))) waiting-pass)
 
   thread-good : ThreadGood s (threadAt b at)
   thread-good = record { fields = fields-good; place = place-of-good }

@@ -187,7 +187,8 @@ module _ (s : Shape) (b : List ℕ) (at : ℕ) (q : Bool) (ms : List ℕ) (g : T
   unfolding threadReadable
   thread-bad n = rw (← words-test, not-true q n) refl
 
-  module _ (gq : not q ≡ false) (p : ℕ) (ep : p ≡ word b (at + 1)) (m : ℕ) (em : m ≡ triesMost s p) (t : ℕ) (et : t ≡ word b (at + 7)) where
+  module _ (gq : not q ≡ false) (p : ℕ) (ep : p ≡ word b (at + 1)) (m : ℕ) (em : m ≡ triesMost s p) (t : ℕ)
+      (et : t ≡ word b (at + 7)) where
     pub tries-bad : m < t → false ≡ threadReadable s b at
     unfolding threadReadable
     tries-bad h = rw (← words-test, not-false q gq, ← ep, ← em, ← et, lt-leb t m h) refl

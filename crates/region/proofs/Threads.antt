@@ -90,7 +90,8 @@ thread-stored b b₁ b₂ b₃ b′ at t n w en ew e₁ e₂ e₃ e₄ =
     let k₁ = on at .0 in
     let k₂ = on at .1 ∙ ap (λ k. suc (suc (suc (suc (suc (suc k)))))) k₁ in
     let k₃ = on at .2 ∙ ap (λ k. suc (suc (suc (suc (suc (suc k)))))) k₂ in
-    let f₁ : b₁ ≡ setWords b at (stored t (placeNumber (t .place)) (waitingLevels (t .place))) = e₁ ∙ (λ i. setWords b at (stored t (en i) (ew i))) in
+    let f₁ : b₁ ≡ setWords b at (stored t (placeNumber (t .place)) (waitingLevels (t .place))) =
+    e₁ ∙ (λ i. setWords b at (stored t (en i) (ew i))) in
     let f₂ = e₂ ∙ (λ i. setWords (f₁ i) (k₁ i) (copyWords (t .copies .first))) in
     let f₃ = e₃ ∙ (λ i. setWords (f₂ i) (k₂ i) (copyWords (t .copies .second))) in
     e₄ ∙ (λ i. setWords (f₃ i) (k₃ i) (copyWords (t .copies .third)))

@@ -216,15 +216,18 @@ length-setThreadIn f b t v =
 
 -- What each store changes lies within its part.
 module _ (f : Frame) (b : List ℕ) (w : Within f (length b)) where
-  pub word-setNodeIn : (n j : ℕ) (v : Node) → Outside ((nodesOf f) .start) (partSize (nodesOf f)) j → word (setNodeIn f b n v) j ≡ word b j
+  pub word-setNodeIn : (n j : ℕ) (v : Node) → Outside ((nodesOf f) .start) (partSize (nodesOf f)) j
+      → word (setNodeIn f b n v) j ≡ word b j
   unfolding setNodeIn
   word-setNodeIn n j v o = store-only node-codec emptyNode (nodesOf f) (omega arith) b n j v o
 
-  pub word-setCellIn : (c j : ℕ) (v : Cell) → Outside ((cellsOf f) .start) (partSize (cellsOf f)) j → word (setCellIn f b c v) j ≡ word b j
+  pub word-setCellIn : (c j : ℕ) (v : Cell) → Outside ((cellsOf f) .start) (partSize (cellsOf f)) j
+      → word (setCellIn f b c v) j ≡ word b j
   unfolding setCellIn
   word-setCellIn c j v o = store-only cell-codec zeroCell (cellsOf f) (omega arith) b c j v o
 
-  pub word-setThreadIn : (t j : ℕ) (v : Thread) → Outside ((threadsOf f) .start) (partSize (threadsOf f)) j → word (setThreadIn f b t v) j ≡ word b j
+  pub word-setThreadIn : (t j : ℕ) (v : Thread) → Outside ((threadsOf f) .start) (partSize (threadsOf f)) j
+      → word (setThreadIn f b t v) j ≡ word b j
   unfolding setThreadIn
   word-setThreadIn t j v o = store-only thread-codec (idleThread 0) (threadsOf f) (w .stride) b t j v o
 

@@ -116,7 +116,8 @@ run-start s start b out a h =
       region = ap (λ n. linesFrom n s start 1 b .region) e;
     }
 
-module _ {s : List ℕ} {start : ℕ} {b₀ out₀ : List ℕ} {a : ℕ} {b out : List ℕ} {at line k : ℕ} (e : Running s start b₀ out₀ a b out at line k) where
+module _ {s : List ℕ} {start : ℕ} {b₀ out₀ : List ℕ} {a : ℕ} {b out : List ℕ} {at line k : ℕ}
+    (e : Running s start b₀ out₀ a b out at line k) where
   -- printing xs, after which `next` is left, keeps the whole
   printed-more : (next : Ran) {out′ : List ℕ} {k′ : ℕ} (xs : List ℕ) → rest s at line b ≡ after xs next → Wrote out out′ k k′ xs
       → sets out′ k′ (next .printed) ≡ sets out₀ a (whole s start b₀ .printed)
@@ -184,7 +185,8 @@ module _ {s : List ℕ} {start : ℕ} {b₀ out₀ : List ℕ} {a : ℕ} {b out 
         pub run-less : length s - l .next < length s - at
         run-less = omega (arith, line-next)
 
-        pub run-more : {b′ : List ℕ} (o : Outcome) → CallMade b b′ (l .what) (l .thread) o → length b′ ≡ length b → {out′ : List ℕ} {k′ : ℕ}
+        pub run-more : {b′ : List ℕ} (o : Outcome) → CallMade b b′ (l .what) (l .thread) o → length b′ ≡ length b
+            → {out′ : List ℕ} {k′ : ℕ}
             → Wrote out out′ k k′ (lineText line (l .thread) o) → Running s start b₀ out₀ a b′ out′ (l .next) (line + 1) k′
         unfolding rest
         run-more {b′} o m z {out′} {k′} w =

@@ -93,7 +93,8 @@ module _ (u : Setup) (e : setupRefusal u ≡ done) where
   unfolding setupRefusal pick
   fine = ways (leb (u .shape .depth) 8) refl e
     where
-      ways : (q : Bool) → leb (u .shape .depth) 8 ≡ q → pick q (layoutRefusal (u .shape) (permissionsOf u) (regionLength u)) badShape ≡ done → Fine
+      ways : (q : Bool) → leb (u .shape .depth) 8 ≡ q
+          → pick q (layoutRefusal (u .shape) (permissionsOf u) (regionLength u)) badShape ≡ done → Fine
       ways true g e = record { shallow = leb-true (u .shape .depth) 8 g; exact = e }
       ways false g e = absurd (omega arith)
 
@@ -189,7 +190,8 @@ module _ (s : List ℕ) (u : Setup) (g g₁ out : List ℕ) (a : ℕ) (r : ℕ) 
     unfolding pick
     refused-left = rw (← e .answer, ne-eqb r done n) at (e .bytes)
 
-    pub setup-refused : (out′ : List ℕ) (k : ℕ) → Wrote out out′ a k (lineText 0 0 (Answered (Refused r))) → SetupRan s u g g₁ out out′ a k
+    pub setup-refused : (out′ : List ℕ) (k : ℕ) → Wrote out out′ a k (lineText 0 0 (Answered (Refused r)))
+        → SetupRan s u g g₁ out out′ a k
     unfolding refused
     setup-refused out′ k w =
         record {
@@ -232,10 +234,12 @@ module _ (s : List ℕ) (u : Setup) (g g₁ out : List ℕ) (a : ℕ) (r : ℕ) 
         beyond : drop (4 * w) g₁ ≡ drop (regionLength u) g
         beyond = ap (drop (4 * w)) laid ∙ drop-at (laidRegion u) (drop (regionLength u) g) (4 * w) all-laid
 
-        pub setup-ran : (b out′ : List ℕ) (k : ℕ) → LinesRan s (u .next) (take (4 * w) g₁) b out out′ a k → length b ≡ length (take (4 * w) g₁)
+        pub setup-ran : (b out′ : List ℕ) (k : ℕ) → LinesRan s (u .next) (take (4 * w) g₁) b out out′ a k
+            → length b ≡ length (take (4 * w) g₁)
             → SetupRan s u g (b ++ drop (4 * w) g₁) out out′ a k
         setup-ran b out′ k l z =
-            let all : linesFrom (length s) s (u .next) 1 (take (4 * w) g₁) ≡ setupThen s u = ap (linesFrom (length s) s (u .next) 1) part ∙ sym ran in
+            let all : linesFrom (length s) s (u .next) 1 (take (4 * w) g₁) ≡ setupThen s u =
+            ap (linesFrom (length s) s (u .next) 1) part ∙ sym ran in
             record {
               output = subst (λ x. Wrote out out′ a k (x .printed)) all (l .output);
               region =

@@ -1,4 +1,5 @@
--- `region::thread::load_thread_at` meets its contract: the words of the first run, by their places, and the copies behind it. Assumes nothing.
+-- `region::thread::load_thread_at` meets its contract: the words of the first run, by their places, and the copies behind it.
+-- Assumes nothing.
 use borrow.Author.Needs.{needs}
 use Rattle.region.proofs.thread.load_thread_at.Statement.{statement}
 use Rattle.region.proofs.thread.load_thread_at.Tie as tie
