@@ -7,7 +7,7 @@ use mathlib.Core.Logic.{_⊎_, inl, inr, ⊎-elim}
 use mathlib.Core.List.{List}
 use lib.ListN.{length}
 use Rattle.words.specs.Word.{word, setWord, Bytes, Fit}
-use Rattle.words.proofs.Laws.{word-other, length-setWord, bytes-setWord}
+use Rattle.words.proofs.Laws.{word-other, length-setWord}
 use Rattle.region.specs.Frame.{Part, Parted, Within, partSize, depthOf, freeOf, nodesOf, cellsOf, threadsOf}
 use Rattle.region.specs.Record.{nodeWords, cellWords, zeroItem}
 use Rattle.region.specs.Shape.{nodeCount}
@@ -15,7 +15,7 @@ use Rattle.region.specs.Shared.{Shared, putNode, putCell, putDepth, putFree, no
 use Rattle.region.specs.declared.frame.Frame.{Frame}
 use Rattle.region.specs.declared.record.Cell.{Cell}
 use Rattle.region.specs.declared.record.Node.{Node}
-use Rattle.region.proofs.Views.{Outside, length-setNodeIn, length-setCellIn, bytes-setNodeIn, bytes-setCellIn, word-setNodeIn, word-setCellIn, shared-setNode, shared-setCell, shared-setDepth, shared-setFree, threads-setNode, threads-setCell, threads-setDepth, threads-setFree}
+use Rattle.region.proofs.Views.{Outside, length-setNodeIn, length-setCellIn, word-setNodeIn, word-setCellIn, shared-setNode, shared-setCell, shared-setDepth, shared-setFree, threads-setCell, threads-setFree}
 use Rattle.access.specs.Effect.{effectShared, effectBytes, freedBytes, pushBytes, freed}
 use Rattle.access.specs.declared.effect.Effect.{Effect}
 use Rattle.access.specs.declared.effect.Effect.the-variants.{Nothing, Grow, Push, Pop, Exchange, Clean}

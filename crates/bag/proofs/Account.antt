@@ -1,11 +1,12 @@
--- All cells are accounted for: walking each list, and the free chain, counts the cells of its chain; a thread at I1 to I8 holds one cell and
--- any other none; together they are C. So no cell is free exactly when tree and begun puts hold all C. Assumes nothing.
+-- All cells are accounted for: walking each list, and the free chain, counts the cells of its chain; a thread at I1 to I8 holds
+-- one cell and any other none; together they are C. So no cell is free exactly when tree and begun puts hold all C.
+-- Assumes nothing.
 use Prim.Native.Nat.{ℕ, zero, suc, _+_, _*_, _≤_}
 use native.Mathlib.Decide.{ℕ-discrete}
 use native.Mathlib.Omega.{arith}
 use mathlib.Core.Path.{_≡_, refl, sym, ap, subst, _∙_}
 use mathlib.Core.Bool.{Bool, true, false}
-use mathlib.Core.List.{List}
+use mathlib.Core.List.{List, [], _∷_}
 use borrow.Author.Tests.{eq-eqb, ne-eqb}
 use lib.Dec.{eqb}
 use lib.ListN.{length}
@@ -24,47 +25,40 @@ use Rattle.region.specs.declared.thread.Thread.{Thread}
 use Rattle.readable.specs.Readable.{shapeIn}
 use Rattle.readable.proofs.Laws.{Good}
 use Rattle.machine.specs.Begin.{frameIn, putBusy, putRefusal}
-use Rattle.bag.specs.Account.{listCells, nodesCells, treeCells, isPutPlace, putsAmong, begunPuts, freeCells, AllCellsAccounted, NothingElseRefuses, RefusedWhenFull, PutsRefusedWhenFull}
+use Rattle.bag.specs.Account.{anyItem, treeCells, isPutPlace, putsAmong, begunPuts, freeCells, AllCellsAccounted, NothingElseRefuses, RefusedWhenFull, PutsRefusedWhenFull}
 use Rattle.bag.specs.Ledger.{Ledger, Operation}
+use Rattle.bag.specs.Tree.{inList, inNodes}
 use Rattle.bag.proofs.Cells.{starts}
-use Rattle.bag.proofs.Chains.{Chain, ends, link}
+use Rattle.bag.proofs.Chains.{Chain, ends, link, among, items, walk-counts}
+use Rattle.bag.proofs.Counts.{inChain}
 use Rattle.bag.proofs.Facts.{At, Puts}
-use Rattle.bag.proofs.Held.{Held, few-cells, head-free, head-thread, node-chain}
+use Rattle.bag.proofs.Held.{Held, nodeLength, threadLength, counts, free-chain, thread-chain}
 use Rattle.bag.proofs.Steps.{Invariant, owns}
-use Rattle.bag.proofs.Sums.{sum}
+use Rattle.bag.proofs.Sums.{sum, sum-same}
 
--- walking a chain counts its cells
-walk-measures : (m : Shared) (own rank : ℕ → ℕ) (o n c : ℕ) (cs : List ℕ) → Chain (m .cell) own rank o c cs → length cs ≤ n
-    → listCells m n c ≡ length cs
-unfolding listCells pick
-walk-measures m own rank o n c cs ends h = at-end n
-  where
-    at-end : (k : ℕ) → listCells m k 0 ≡ 0
-    at-end zero = refl
-    at-end (suc k) = refl
-walk-measures m own rank o zero c cs (link d p eo er k) h = absurd (omega arith)
-walk-measures m own rank o (suc n) c cs (link d {cs = ds} p eo er k) h =
-    rw
-    (ne-eqb d 0 (λ z. omega arith))
-    (ap suc (walk-measures m own rank o n (m .cell d .next) ds k (omega arith)))
+-- every cell has an item
+all-count : (cell : ℕ → Cell) (cs : List ℕ) → among anyItem (items cell cs) ≡ length cs
+unfolding among items pick
+all-count cell [] = refl
+all-count cell (c ∷ cs) = omega (arith, all-count cell cs)
 
 -- What a thread holds: its own cell alone, or nothing.
-module _ (cell : ℕ → Cell) (own rank : ℕ → ℕ) (o : ℕ) where
-  none-held : (c : ℕ) (cs : List ℕ) → Chain cell own rank o c cs → c ≡ 0 → length cs ≡ 0
-  none-held c cs ends e = refl
-  none-held c cs (link d p eo er k) e = absurd (omega arith)
+module _ {cell : ℕ → Cell} {own rank : ℕ → ℕ} {o : ℕ} where
+  none-held : {c : ℕ} {cs : List ℕ} → Chain cell own rank o c cs → c ≡ 0 → length cs ≡ 0
+  none-held ends e = refl
+  none-held (link d p eo er k) e = absurd (omega arith)
 
-  one-held : (c : ℕ) (cs : List ℕ) → Chain cell own rank o c cs → 1 ≤ c → cell c .next ≡ 0 → length cs ≡ 1
-  one-held c cs ends p e = absurd (omega arith)
-  one-held c cs (link d {cs = ds} p eo er k) q e = ap suc (none-held (cell d .next) ds k e)
+  one-held : {c : ℕ} {cs : List ℕ} → Chain cell own rank o c cs → 1 ≤ c → cell c .next ≡ 0 → length cs ≡ 1
+  one-held ends p e = absurd (omega arith)
+  one-held (link d p eo er k) q e = ap suc (none-held k e)
 
 module _ (s : Shape) (m : Shared) (t : Thread) (op : Operation) (own rank : ℕ → ℕ) (o : ℕ) (cs : List ℕ)
     (k : Chain (m .cell) own rank o (t .own) cs) where
   putting-holds : Puts m t op → length cs ≡ 1
-  putting-holds h = one-held (m .cell) own rank o (t .own) cs k (h .some) (h .ended)
+  putting-holds h = one-held k (h .some) (h .ended)
 
   others-hold : t .own ≡ 0 → length cs ≡ 0
-  others-hold e = none-held (m .cell) own rank o (t .own) cs k e
+  others-hold e = none-held k e
 
   -- one cell at I1 to I8, none elsewhere
   holds : (p : Place) → At s m t op p → length cs ≡ pick (isPutPlace p) 1 0
@@ -92,46 +86,37 @@ module _ (s : Shape) (m : Shared) (th : ℕ → Thread) (l : Ledger) (inv : Inva
   abbrev h : Held s m (owns th)
   h = inv .mound .held
 
-  nodes-sum : (n : ℕ) → n ≤ nodeCount s → nodesCells m (s .cells) n ≡ sum (λ k. length (h .list (2 * k))) n
-  unfolding nodesCells sum
-  nodes-sum zero u = refl
-  nodes-sum (suc n) u =
-      cc (
-        nodes-sum n (omega arith),
-        walk-measures m (h .owner) (h .rank) (2 * suc n) (s .cells) (m .node (suc n) .first) (h .list (2 * suc n))
-            (node-chain s m (owns th) h (suc n) (omega arith)) (few-cells s m (owns th) h (suc n) (omega arith) u),
-      )
+  nodes-sum : inNodes m anyItem (s .cells) (nodeCount s) ≡ sum (nodeLength (h .list)) (nodeCount s)
+  unfolding inChain
+  nodes-sum =
+      counts s m (owns th) h anyItem
+      ∙ sum-same (nodeLength (h .list)) (inChain (m .cell) (h .list) anyItem) (nodeCount s)
+      (λ k l u. all-count (m .cell) (h .list (2 * k)))
 
   thread-holds : (t : ℕ) → length (h .list (2 * t + 1)) ≡ pick (isPutPlace (th t .place)) 1 0
   thread-holds t =
       holds s m (th t) (l .operation t) (h .owner) (h .rank) (2 * t + 1) (h .list (2 * t + 1))
-      (subst (λ c. Chain (m .cell) (h .owner) (h .rank) (2 * t + 1) c (h .list (2 * t + 1))) (head-thread (m .free) (m .node) (owns th) t)
-      (h .chains (2 * t + 1)))
-      (th t .place) (inv .at t)
+      (thread-chain s m (owns th) h t) (th t .place) (inv .at t)
 
-  puts-sum : (n : ℕ) → putsAmong th n ≡ sum (λ t. length (h .list (2 * t + 1))) n
+  puts-sum : (n : ℕ) → putsAmong th n ≡ sum (threadLength (h .list)) n
   unfolding putsAmong sum
   puts-sum zero = refl
   puts-sum (suc n) = cc (puts-sum n, thread-holds (suc n))
 
-  free-chain : Chain (m .cell) (h .owner) (h .rank) 0 (m .free) (h .list 0)
-  free-chain =
-      subst (λ c. Chain (m .cell) (h .owner) (h .rank) 0 c (h .list 0)) (head-free (m .free) (m .node) (owns th)) (h .chains 0)
+  free-measured : inList m anyItem (s .cells) (m .free) ≡ length (h .list 0)
+  free-measured =
+      walk-counts m anyItem (s .cells) (free-chain s m (owns th) h) (omega (arith, h .total)) ∙ all-count (m .cell) (h .list 0)
 
-  free-measured : listCells m (s .cells) (m .free) ≡ length (h .list 0)
-  free-measured = walk-measures m (h .owner) (h .rank) 0 (s .cells) (m .free) (h .list 0) free-chain (omega (arith, h .total))
-
-  all-cells : nodesCells m (s .cells) (nodeCount s) + putsAmong th (s .threads) + listCells m (s .cells) (m .free) ≡ s .cells
-  all-cells = omega (arith, h .total, nodes-sum (nodeCount s) (omega arith), puts-sum (s .threads), free-measured)
+  all-cells : inNodes m anyItem (s .cells) (nodeCount s) + putsAmong th (s .threads) + inList m anyItem (s .cells) (m .free) ≡ s .cells
+  all-cells = omega (arith, h .total, nodes-sum, puts-sum (s .threads), free-measured)
 
   -- no cell is free exactly when the others hold all
-  full-without : m .free ≡ 0 → nodesCells m (s .cells) (nodeCount s) + putsAmong th (s .threads) ≡ s .cells
+  full-without : m .free ≡ 0 → inNodes m anyItem (s .cells) (nodeCount s) + putsAmong th (s .threads) ≡ s .cells
   full-without e =
-      let none = none-held (m .cell) (h .owner) (h .rank) 0 (m .free) (h .list 0) free-chain e in
-      omega (arith, all-cells, free-measured, none)
+      omega (arith, all-cells, free-measured, none-held (free-chain s m (owns th) h) e)
 
-  not-full-with : 1 ≤ m .free → nodesCells m (s .cells) (nodeCount s) + putsAmong th (s .threads) ≡ s .cells → ⊥
-  not-full-with p e = omega (arith, all-cells, free-measured, ap length (starts free-chain p .is), e)
+  not-full-with : 1 ≤ m .free → inNodes m anyItem (s .cells) (nodeCount s) + putsAmong th (s .threads) ≡ s .cells → ⊥
+  not-full-with p e = omega (arith, all-cells, free-measured, ap length (starts (free-chain s m (owns th) h) p .is), e)
 
 -- where nothing else refuses a put, the first free cell decides
 cell-decides : (b : List ℕ) (t : ℕ) (i : Item) → NothingElseRefuses b t i

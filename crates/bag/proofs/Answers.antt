@@ -15,6 +15,7 @@ use Rattle.region.specs.declared.place.Place.the-variants.{Idle, ReadDepth, Rea
 use Rattle.region.specs.declared.record.NodeCopy.{NodeCopy}
 use Rattle.region.specs.declared.shape.Shape.{Shape}
 use Rattle.region.specs.declared.thread.Thread.{Thread}
+use Rattle.region.proofs.Picks.{pick-good}
 use Rattle.access.specs.Plan.{plan, moved, onTo, refused}
 use Rattle.access.specs.declared.effect.Effect.{Effect}
 use Rattle.access.specs.declared.effect.Effect.the-variants.{Nothing, Clean}
@@ -23,7 +24,6 @@ use Rattle.insert.specs.Insert.{readDepth, readLeaf, readAncestor, growDepth, r
 use Rattle.extract.specs.Extract.{readRoot, removeHead}
 use Rattle.moundify.specs.Moundify.{returnAnswer, returning, mendReadNode, mendReadDepth, mendReadLeft, mendReadRight, exchangeWith, mendSwap, mendClean}
 use Rattle.machine.specs.Turn.{decide, decideAt, turnAnswer, turnPlan}
-use Rattle.preserved.proofs.PlansGood.{pick-good}
 use Rattle.bag.specs.History.{answerTells, effectTells, turnTells}
 use Rattle.bag.specs.Operations.{Says, TurnSaysItsAnswer, moved as says-moved, idle, refused as says-refused, inserted, empty, took, removed}
 

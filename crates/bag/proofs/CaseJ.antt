@@ -1,6 +1,6 @@
--- Case J of document 01 as a whole history, computed from the definitions: "root 5; both take, turns 1,1,2,2,2,2,2,1,1: thread 2 gets empty
--- first, then thread 1 took 5." The bag is told the put, both takes, thread 1's E2 with the item, thread 2's empty, and thread 1's answer,
--- in the order of the deciding accesses and not of the answers. Assumes nothing.
+-- Case J of document 01 as a whole history, computed from the definitions: "root 5; both take, turns 1,1,2,2,2,2,2,1,1: thread
+-- 2 gets empty first, then thread 1 took 5." The bag is told the put, both takes, thread 1's E2 with the item, thread 2's
+-- empty, and thread 1's answer, in the order of the deciding accesses and not of the answers. Assumes nothing.
 use Prim.Native.Nat.{ℕ, _*_}
 use mathlib.Core.Path.{_≡_, refl}
 use mathlib.Core.List.{List, [], _∷_, _++_}

@@ -1,5 +1,6 @@
--- A take alone on clean nodes, by the level at which the root's list comes to rest: E1 and E2, M1 to M5 for each level gone down, then M1 to
--- M4 and M6, or M1, M2 and M6 at level d. So 5 × j + 2 accesses for a level j above d, 5 × d for level d. Assumes nothing.
+-- A take alone on clean nodes, by the level at which the root's list comes to rest: E1 and E2, M1 to M5 for each level gone
+-- down, then M1 to M4 and M6, or M1, M2 and M6 at level d. So 5 × j + 2 accesses for a level j above d, 5 × d for level d.
+-- Assumes nothing.
 use Prim.Native.Nat.{ℕ, zero, suc, _+_, _-_, _*_, _^_, _≤_, _<_, min}
 use native.Mathlib.Decide.{ℕ-discrete}
 use native.Mathlib.Omega.{arith}
@@ -29,6 +30,7 @@ use Rattle.region.specs.declared.shape.Shape.{Shape}
 use Rattle.region.specs.declared.thread.Thread.{Thread}
 use Rattle.region.proofs.Frames.{frame-parted}
 use Rattle.region.proofs.Levels.{level-holds}
+use Rattle.region.proofs.Picks.{upd-same, upd-other}
 use Rattle.region.proofs.Shapes.{between-least, between-most, is-between, sizes}
 use Rattle.region.proofs.Views.{shared-setThread, threads-setThread}
 use Rattle.access.specs.Effect.{effectShared}
@@ -48,7 +50,6 @@ use Rattle.preserved.proofs.Proved.{begun-take-good, take-good, take-thread, tu
 use Rattle.preserved.proofs.TreeLevels.{level-child, twice}
 use Rattle.bag.specs.Ceiling.{AllClean, EndsAt, NoneSpent, ReadableTakesEnd, alone, found-empty, took, moved-then}
 use Rattle.bag.proofs.Carried.{turn-decides, turn-shared, turn-threads}
-use Rattle.bag.proofs.Cells.{upd-same, upd-other}
 
 -- a comparison with a copy that still holds
 same-copy : {n q : Node} → q ≡ n → sameNode n q ≡ true
@@ -97,8 +98,8 @@ module _ (s : Shape) (t : ℕ) where
   rests-end (later {n = n} {b = b} {c = c} {cs = cs} e h) =
       subst (λ a. EndsAt (suc n) (a ∷ alone (frameOf s) (turnBytes (frameOf s) b t c) t cs)) (sym e) (moved-then (rests-end h))
 
-  -- The list comes to rest at a level from 1 to d, after `count` accesses more. `spent` counts those before, from 3 at E1: so 4 at E2, and 5 × l
-  -- at M1 of a node of level l.
+  -- The list comes to rest at a level from 1 to d, after `count` accesses more. `spent` counts those before, from 3 at E1: so 4
+  -- at E2, and 5 × l at M1 of a node of level l.
   pub record Rests (d spent : ℕ) (b cs : List ℕ) : Type 0 where
     pub level : ℕ
     pub count : ℕ
@@ -169,7 +170,8 @@ module _ (s : Shape) (t : ℕ) where
         planned = by-place ∙ ap (λ x. pick x (refused u counterSpent) p) not-spent
 
       -- on to what p leaves
-      moves : p .answer ≡ Moved → (next : ℕ) → next ≡ spent + 1 → RestsFrom next (effectShared m (p .effect)) (p .thread) → RestsFrom spent m u
+      moves : p .answer ≡ Moved → (next : ℕ) → next ≡ spent + 1 → RestsFrom next (effectShared m (p .effect)) (p .thread)
+          → RestsFrom spent m u
       unfolding alone turnAnswer
       moves a next up after b [] g em eu long none = absurd (omega arith)
       moves a next up after b (c ∷ cs) g em eu long none =
@@ -231,7 +233,8 @@ module _ (s : Shape) (t : ℕ) where
         }
 
     -- M6: the node becomes clean, and the take answers.
-    clean-rests : (l spent : ℕ) (m : Shared) (u : Thread) → Mending l m u (MendClean 0) → u .copies .first .node ≡ m .node (u .node) → 1 ≤ l
+    clean-rests : (l spent : ℕ) (m : Shared) (u : Thread) → Mending l m u (MendClean 0)
+        → u .copies .first .node ≡ m .node (u .node) → 1 ≤ l
         → spent + 1 ≡ min (5 * l + 5) (5 * d + 3) → RestsFrom spent m u
     unfolding decide mendClean cleanAt returning returnAnswer plan pick
     clean-rests l spent m u h first least exact =
@@ -253,7 +256,8 @@ module _ (s : Shape) (t : ℕ) where
     -- M5: the list goes down to child c, whose copy is q.
     module _ (r : InRange s) (deep : d ≤ s .depth) (l : ℕ) (least : 1 ≤ l)
         (child : (m : Shared) (u : Thread) → Mending (l + 1) m u (MendReadNode 0) → RestsFrom (5 * (l + 1)) m u) where
-      module _ (m : Shared) (u : Thread) (h : Mending l m u (MendSwap 0)) (first : u .copies .first .node ≡ m .node (u .node)) (higher : l < d) where
+      module _ (m : Shared) (u : Thread) (h : Mending l m u (MendSwap 0)) (first : u .copies .first .node ≡ m .node (u .node))
+          (higher : l < d) where
         exchange-rests : (c : ℕ) (q : NodeCopy) → 2 * u .node ≤ c → c ≤ 2 * u .node + 1 → c ≤ nodeCount s → q .node ≡ m .node c
             → ((x : ℕ) → decide s m u x ≡ exchangeWith s m u 0 c q) → RestsFrom (5 * l + 4) m u
         unfolding exchangeWith exchangeAt bothSame isNode effectShared plan pick mending atPlace withNode updated
@@ -283,11 +287,13 @@ module _ (s : Shape) (t : ℕ) where
         swap-rests : 2 * u .node + 1 ≤ nodeCount s → u .copies .second .node ≡ m .node (2 * u .node)
             → u .copies .third .node ≡ m .node (2 * u .node + 1) → RestsFrom (5 * l + 4) m u
         unfolding decide mendSwap pick
-        swap-rests there second third = go (itemLe (valueOf (u .copies .second)) (valueOf (u .copies .third))) (λ c. ap (decideAt s m u c) (h .place))
+        swap-rests there second third =
+            go (itemLe (valueOf (u .copies .second)) (valueOf (u .copies .third))) (λ c. ap (decideAt s m u c) (h .place))
           where
             go : (q : Bool)
                 → ((c : ℕ) → decide s m u c
-                ≡ pick q (exchangeWith s m u 0 (2 * u .node) (u .copies .second)) (exchangeWith s m u 0 (2 * u .node + 1) (u .copies .third)))
+                ≡ pick q (exchangeWith s m u 0 (2 * u .node) (u .copies .second))
+                (exchangeWith s m u 0 (2 * u .node + 1) (u .copies .third)))
                 → RestsFrom (5 * l + 4) m u
             go true e = exchange-rests (2 * u .node) (u .copies .second) (omega arith) (omega arith) (omega arith) second e
             go false e = exchange-rests (2 * u .node + 1) (u .copies .third) (omega arith) (omega arith) there third e
@@ -347,7 +353,8 @@ module _ (s : Shape) (t : ℕ) where
           let v = atPlace (withSecond u (readNode m (2 * u .node))) (MendReadRight 0) in
           let there = children-there m u (MendReadLeft 0) h higher in
           goes-on (5 * l + 2) (5 * l + 3) (omega arith) m u v (omega arith)
-          (λ c. ap (decideAt s m u c) (h .place) ∙ rw (is-between 1 (2 * u .node) (nodeCount s) (omega (arith, h .some)) (omega arith)) refl)
+          (λ c. ap (decideAt s m u c) (h .place)
+          ∙ rw (is-between 1 (2 * u .node) (nodeCount s) (omega (arith, h .some)) (omega arith)) refl)
           (right-rests m v (kept h v (MendReadRight 0) refl refl refl) first refl higher)
 
       depth-rests : (m : Shared) (u : Thread) → Mending l m u (MendReadDepth 0) → u .copies .first .node ≡ m .node (u .node)
@@ -358,7 +365,8 @@ module _ (s : Shape) (t : ℕ) where
           v : Place → Thread
           v p = atPlace (withDepth u (m .depth)) p
 
-          known : (c : ℕ) → decide s m u c ≡ pick (eqb (level (u .node)) (m .depth)) (moved (v (MendClean 0))) (moved (v (MendReadLeft 0)))
+          known : (c : ℕ) → decide s m u c ≡ pick (eqb (level (u .node)) (m .depth)) (moved (v (MendClean 0)))
+              (moved (v (MendReadLeft 0)))
           known c =
               ap (decideAt s m u c) (h .place) ∙ rw (ne-eqb (u .node) 0 (λ e. omega (arith, h .some)), still-dirty first (h .dirty)) refl
 
@@ -439,7 +447,8 @@ module _ (b : List ℕ) (t : ℕ) (choices : List ℕ) (r : readable b ≡ true)
   begun-shared : sharedIn (frameIn b) (takeBytes b t) ≡ sharedIn (frameIn b) b
   begun-shared =
       ap (sharedIn (frameIn b)) begun
-      ∙ shared-setThread (frameIn b) b (good-within (shapeIn b) b (good b r)) (frame-parted (shapeIn b)) t (begunTake (threadIn (frameIn b) b t))
+      ∙ shared-setThread (frameIn b) b (good-within (shapeIn b) b (good b r)) (frame-parted (shapeIn b)) t
+      (begunTake (threadIn (frameIn b) b t))
 
   begun-thread : threadIn (frameIn b) (takeBytes b t) t ≡ begunTake (threadIn (frameIn b) b t)
   unfolding frameOf
@@ -481,7 +490,8 @@ module _ (b : List ℕ) (t : ℕ) (choices : List ℕ) (r : readable b ≡ true)
     take-rests full spent =
         let g = good b r in
         let m = good-shared (shapeIn b) b g in
-        root-rests (shapeIn b) t t-least t-most (word b (frameIn b .depth)) (g .range) (m .depth-least) (m .depth-most) (sharedIn (frameIn b) b)
+        root-rests (shapeIn b) t t-least t-most (word b (frameIn b .depth)) (g .range) (m .depth-least) (m .depth-most)
+        (sharedIn (frameIn b) b)
         refl full clean-all (begunTake (threadIn (frameIn b) b t)) refl
         (takeBytes b t) choices (take-good b t g) begun-shared begun-thread (omega arith) spent
 

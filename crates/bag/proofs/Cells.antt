@@ -6,34 +6,49 @@ use native.Mathlib.Decide.{ℕ-discrete}
 use native.Mathlib.Omega.{arith}
 use mathlib.Core.Path.{_≡_, refl, sym, ap, subst, subst₂, _∙_}
 use mathlib.Core.List.{List, _∷_}
-use borrow.Author.Tests.{eq-eqb, ne-eqb}
 use lib.ListN.{length}
-use Rattle.region.specs.Pick.{pick, upd}
+use Rattle.region.specs.Pick.{upd}
 use Rattle.region.specs.declared.record.Cell.{Cell}
+use Rattle.region.proofs.Picks.{upd-same, upd-other}
 use Rattle.bag.proofs.Chains.{Chain, ends, link, chain-left, items, items-left}
-
-pub upd-same : {A : Type 0} (f : ℕ → A) (n : ℕ) (a : A) → upd f n a n ≡ a
-unfolding upd pick
-upd-same f n a = rw (eq-eqb n n refl) refl
-
-pub upd-other : {A : Type 0} (f : ℕ → A) (n m : ℕ) (a : A) → (m ≡ n → ⊥) → upd f n a m ≡ f m
-unfolding upd pick
-upd-other f n m a h = rw (ne-eqb m n h) refl
 
 -- every owner's cells, from its head
 abbrev pub Chains : (ℕ → Cell) → (ℕ → ℕ) → (ℕ → ℕ) → (ℕ → ℕ) → (ℕ → List ℕ) → Type 0
 Chains cell own rank head list = (o : ℕ) → Chain cell own rank o (head o) (list o)
 
 -- a chain that is not empty starts with a link
-pub record Link (cell : ℕ → Cell) (own rank : ℕ → ℕ) (o c d : ℕ) (cs : List ℕ) : Type 0 where
+record Link (cell : ℕ → Cell) (own rank : ℕ → ℕ) (o c d : ℕ) (cs : List ℕ) : Type 0 where
   pub is : c ≡ d
   pub some : 1 ≤ d
   pub owner : own d ≡ o
   pub behind : rank d ≡ length cs
   pub rest : Chain cell own rank o (cell d .next) cs
 
-pub first-link : {cell : ℕ → Cell} {own rank : ℕ → ℕ} {o c d : ℕ} {cs : List ℕ} → Chain cell own rank o c (d ∷ cs) → Link cell own rank o c d cs
+first-link : {cell : ℕ → Cell} {own rank : ℕ → ℕ} {o c d : ℕ} {cs : List ℕ} → Chain cell own rank o c (d ∷ cs)
+    → Link cell own rank o c d cs
 first-link (link e p eo er k) = record { is = refl; some = p; owner = eo; behind = er; rest = k }
+
+-- a chain from a cell starts with it
+pub record Starts (c : ℕ) (cs : List ℕ) : Type 0 where
+  pub rest : List ℕ
+  pub is : cs ≡ c ∷ rest
+
+pub starts : {cell : ℕ → Cell} {own rank : ℕ → ℕ} {o c : ℕ} {cs : List ℕ} → Chain cell own rank o c cs → 1 ≤ c → Starts c cs
+starts ends l = absurd (omega arith)
+starts (link d {cs = ds} p eo er k) l = record { rest = ds; is = refl }
+
+-- A move of cell c from owner o to owner q, with all that it leaves.
+pub record Moved (cell cell′ : ℕ → Cell) (head′ : ℕ → ℕ) (list : ℕ → List ℕ) (o q c : ℕ) : Type 0 where
+  pub owners : ℕ → ℕ
+  pub ranks : ℕ → ℕ
+  pub lists : ℕ → List ℕ
+  pub chained : Chains cell′ owners ranks head′ lists
+  pub items-q : items cell′ (lists q) ≡ cell′ c .item ∷ items cell (list q)
+  pub items-o : items cell (list o) ≡ cell c .item ∷ items cell′ (lists o)
+  pub items-x : (x : ℕ) → (x ≡ o → ⊥) → (x ≡ q → ⊥) → items cell′ (lists x) ≡ items cell (list x)
+  pub length-q : length (lists q) ≡ suc (length (list q))
+  pub length-o : length (list o) ≡ suc (length (lists o))
+  pub length-x : (x : ℕ) → (x ≡ o → ⊥) → (x ≡ q → ⊥) → length (lists x) ≡ length (list x)
 
 -- The head c of owner o's chain moves to the front of owner q's.
 module _ (cell cell′ : ℕ → Cell) (own rank head head′ : ℕ → ℕ) (list : ℕ → List ℕ) (chains : Chains cell own rank head list)
@@ -43,13 +58,13 @@ module _ (cell cell′ : ℕ → Cell) (own rank head head′ : ℕ → ℕ) (li
   the-link : Link cell own rank o (head o) c cs
   the-link = first-link (subst (Chain cell own rank o (head o)) here (chains o))
 
-  unfoldable pub own′ : ℕ → ℕ
+  unfoldable own′ : ℕ → ℕ
   own′ = upd own c q
 
-  unfoldable pub rank′ : ℕ → ℕ
+  unfoldable rank′ : ℕ → ℕ
   rank′ = upd rank c (length (list q))
 
-  unfoldable pub list′ : ℕ → List ℕ
+  unfoldable list′ : ℕ → List ℕ
   list′ = upd (upd list o cs) q (c ∷ list q)
 
   -- another owner's cells, and those behind c, are not c
@@ -73,7 +88,7 @@ module _ (cell cell′ : ℕ → Cell) (own rank head head′ : ℕ → ℕ) (li
       chain-left cell cell′ own own′ rank rank′ o o (cell c .next) cs
       (λ d e r. kept o d e (λ z. let b = the-link .behind in let k = ap rank z in omega arith)) (the-link .rest)
 
-  pub moved : Chains cell′ own′ rank′ head′ list′
+  moved : Chains cell′ own′ rank′ head′ list′
   unfolding list′
   moved x = go (ℕ-discrete x q) (ℕ-discrete x o)
     where
@@ -103,7 +118,7 @@ module _ (cell cell′ : ℕ → Cell) (own rank head head′ : ℕ → ℕ) (li
   list-elsewhere x m n = upd-other (upd list o cs) q x (c ∷ list q) n ∙ upd-other list o x cs m
 
   -- what the move makes of the items and the lengths: one more for q, one less for o, no change elsewhere
-  pub items-to : items cell′ (list′ q) ≡ cell′ c .item ∷ items cell (list q)
+  items-to : items cell′ (list′ q) ≡ cell′ c .item ∷ items cell (list q)
   unfolding items
   items-to =
       ap (items cell′) list-to
@@ -111,7 +126,7 @@ module _ (cell cell′ : ℕ → Cell) (own rank head head′ : ℕ → ℕ) (li
       (items-left cell cell′ own own′ rank rank′ q q (head q) (list q)
       (λ d e r. kept q d e (not-owned q d (λ z. apart (sym z)) e)) (chains q))
 
-  pub items-from : items cell (list o) ≡ cell c .item ∷ items cell′ (list′ o)
+  items-from : items cell (list o) ≡ cell c .item ∷ items cell′ (list′ o)
   unfolding items
   items-from =
       ap (items cell) here
@@ -121,37 +136,70 @@ module _ (cell cell′ : ℕ → Cell) (own rank head head′ : ℕ → ℕ) (li
       ∙ items-left cell cell′ own own′ rank rank′ o o (cell c .next) cs
       (λ d e r. kept o d e (λ z. let b = the-link .behind in let k = ap rank z in omega arith)) (the-link .rest)))
 
-  pub items-elsewhere : (x : ℕ) → (x ≡ o → ⊥) → (x ≡ q → ⊥) → items cell′ (list′ x) ≡ items cell (list x)
+  items-elsewhere : (x : ℕ) → (x ≡ o → ⊥) → (x ≡ q → ⊥) → items cell′ (list′ x) ≡ items cell (list x)
   items-elsewhere x m n =
       ap (items cell′) (list-elsewhere x m n)
       ∙ items-left cell cell′ own own′ rank rank′ x x (head x) (list x) (λ d e r. kept x d e (not-owned x d m e)) (chains x)
 
-  pub length-to : length (list′ q) ≡ suc (length (list q))
+  length-to : length (list′ q) ≡ suc (length (list q))
   length-to = ap length list-to
 
-  pub length-from : length (list o) ≡ suc (length (list′ o))
+  length-from : length (list o) ≡ suc (length (list′ o))
   length-from = ap length here ∙ ap (λ l. suc (length l)) (sym list-from)
 
-  pub length-elsewhere : (x : ℕ) → (x ≡ o → ⊥) → (x ≡ q → ⊥) → length (list′ x) ≡ length (list x)
+  length-elsewhere : (x : ℕ) → (x ≡ o → ⊥) → (x ≡ q → ⊥) → length (list′ x) ≡ length (list x)
   length-elsewhere x m n = ap length (list-elsewhere x m n)
+
+  all-moved : Moved cell cell′ head′ list o q c
+  all-moved =
+      record {
+        owners = own′;
+        ranks = rank′;
+        lists = list′;
+        chained = moved;
+        items-q = items-to;
+        items-o = items-from;
+        items-x = items-elsewhere;
+        length-q = length-to;
+        length-o = length-from;
+        length-x = length-elsewhere;
+      }
+
+pub move : (cell cell′ : ℕ → Cell) (own rank head head′ : ℕ → ℕ) (list : ℕ → List ℕ) → Chains cell own rank head list
+    → (o q c : ℕ) → (o ≡ q → ⊥) → 1 ≤ c → head o ≡ c → ((d : ℕ) → (d ≡ c → ⊥) → cell′ d ≡ cell d) → cell′ c .next ≡ head q
+    → head′ o ≡ cell c .next → head′ q ≡ c → ((x : ℕ) → (x ≡ o → ⊥) → (x ≡ q → ⊥) → head′ x ≡ head x)
+    → Moved cell cell′ head′ list o q c
+move cell cell′ own rank head head′ list chains o q c apart some at others onto left now still =
+    let st = starts (subst (λ h. Chain cell own rank o h (list o)) at (chains o)) some in
+    all-moved cell cell′ own rank head head′ list chains o q c (st .rest) apart (st .is) others onto left now still
+
+-- An exchange of the chains of owners o and q, with all that it leaves.
+pub record Exchanged (cell : ℕ → Cell) (head′ : ℕ → ℕ) (list : ℕ → List ℕ) (o q : ℕ) : Type 0 where
+  pub owners : ℕ → ℕ
+  pub ranks : ℕ → ℕ
+  pub lists : ℕ → List ℕ
+  pub chained : Chains cell owners ranks head′ lists
+  pub list-o : lists o ≡ list q
+  pub list-q : lists q ≡ list o
+  pub list-x : (x : ℕ) → (x ≡ o → ⊥) → (x ≡ q → ⊥) → lists x ≡ list x
 
 -- The chains of owners o and q change hands; the cells stay as they are.
 module _ (cell : ℕ → Cell) (own rank head head′ : ℕ → ℕ) (list : ℕ → List ℕ) (chains : Chains cell own rank head list) (o q : ℕ)
     (apart : o ≡ q → ⊥) (to-o : head′ o ≡ head q) (to-q : head′ q ≡ head o)
     (still : (x : ℕ) → (x ≡ o → ⊥) → (x ≡ q → ⊥) → head′ x ≡ head x) where
   -- the other of the two owners, and any third one itself
-  unfoldable pub turned : ℕ → ℕ
+  unfoldable turned : ℕ → ℕ
   turned x = upd (upd (λ y. y) o q) q o x
 
-  pub turned-o : turned o ≡ q
+  turned-o : turned o ≡ q
   unfolding turned
   turned-o = upd-other (upd (λ y. y) o q) q o o apart ∙ upd-same (λ y. y) o q
 
-  pub turned-q : turned q ≡ o
+  turned-q : turned q ≡ o
   unfolding turned
   turned-q = upd-same (upd (λ y. y) o q) q o
 
-  pub turned-other : (x : ℕ) → (x ≡ o → ⊥) → (x ≡ q → ⊥) → turned x ≡ x
+  turned-other : (x : ℕ) → (x ≡ o → ⊥) → (x ≡ q → ⊥) → turned x ≡ x
   unfolding turned
   turned-other x m n = upd-other (upd (λ y. y) o q) q x o n ∙ upd-other (λ y. y) o x q m
 
@@ -161,7 +209,7 @@ module _ (cell : ℕ → Cell) (own rank head head′ : ℕ → ℕ) (list : ℕ
       chain-left cell cell own (λ d. turned (own d)) rank rank x (turned x) (head x) (list x)
       (λ d e r. (refl, ap turned e, refl)) (chains x)
 
-  pub exchanged : Chains cell (λ d. turned (own d)) rank head′ (λ x. list (turned x))
+  exchanged : Chains cell (λ d. turned (own d)) rank head′ (λ x. list (turned x))
   exchanged x = go (ℕ-discrete x o) (ℕ-discrete x q)
     where
       here : (y : ℕ) → turned y ≡ x → head′ x ≡ head y → turned x ≡ y
@@ -175,68 +223,14 @@ module _ (cell : ℕ → Cell) (own rank head head′ : ℕ → ℕ) (list : ℕ
       go (no m) (yes e) = here o (turned-o ∙ sym e) (ap head′ e ∙ to-q) (ap turned e ∙ turned-q)
       go (no m) (no n) = here x (turned-other x m n) (still x m n) (turned-other x m n)
 
--- The two changes with all that they leave, for what lies above.
-pub record Moved (cell cell′ : ℕ → Cell) (head′ : ℕ → ℕ) (list : ℕ → List ℕ) (o q c : ℕ) : Type 0 where
-  pub owners : ℕ → ℕ
-  pub ranks : ℕ → ℕ
-  pub lists : ℕ → List ℕ
-  pub chained : Chains cell′ owners ranks head′ lists
-  pub items-q : items cell′ (lists q) ≡ cell′ c .item ∷ items cell (list q)
-  pub items-o : items cell (list o) ≡ cell c .item ∷ items cell′ (lists o)
-  pub items-x : (x : ℕ) → (x ≡ o → ⊥) → (x ≡ q → ⊥) → items cell′ (lists x) ≡ items cell (list x)
-  pub length-q : length (lists q) ≡ suc (length (list q))
-  pub length-o : length (list o) ≡ suc (length (lists o))
-  pub length-x : (x : ℕ) → (x ≡ o → ⊥) → (x ≡ q → ⊥) → length (lists x) ≡ length (list x)
-
--- a chain from a cell starts with it
-pub record Starts (c : ℕ) (cs : List ℕ) : Type 0 where
-  pub rest : List ℕ
-  pub is : cs ≡ c ∷ rest
-
-pub starts : {cell : ℕ → Cell} {own rank : ℕ → ℕ} {o c : ℕ} {cs : List ℕ} → Chain cell own rank o c cs → 1 ≤ c → Starts c cs
-starts ends l = absurd (omega arith)
-starts (link d {cs = ds} p eo er k) l = record { rest = ds; is = refl }
-
-pub move : (cell cell′ : ℕ → Cell) (own rank head head′ : ℕ → ℕ) (list : ℕ → List ℕ) → Chains cell own rank head list
-    → (o q c : ℕ) → (o ≡ q → ⊥) → 1 ≤ c → head o ≡ c → ((d : ℕ) → (d ≡ c → ⊥) → cell′ d ≡ cell d) → cell′ c .next ≡ head q
-    → head′ o ≡ cell c .next → head′ q ≡ c → ((x : ℕ) → (x ≡ o → ⊥) → (x ≡ q → ⊥) → head′ x ≡ head x)
-    → Moved cell cell′ head′ list o q c
-move cell cell′ own rank head head′ list chains o q c apart some at others onto left now still =
-    let st = starts (subst (λ h. Chain cell own rank o h (list o)) at (chains o)) some in
-    let cs = st .rest in
-    let here = st .is in
-    record {
-      owners = own′ cell cell′ own rank head head′ list chains o q c cs apart here others onto left now still;
-      ranks = rank′ cell cell′ own rank head head′ list chains o q c cs apart here others onto left now still;
-      lists = list′ cell cell′ own rank head head′ list chains o q c cs apart here others onto left now still;
-      chained = moved cell cell′ own rank head head′ list chains o q c cs apart here others onto left now still;
-      items-q = items-to cell cell′ own rank head head′ list chains o q c cs apart here others onto left now still;
-      items-o = items-from cell cell′ own rank head head′ list chains o q c cs apart here others onto left now still;
-      items-x = items-elsewhere cell cell′ own rank head head′ list chains o q c cs apart here others onto left now still;
-      length-q = length-to cell cell′ own rank head head′ list chains o q c cs apart here others onto left now still;
-      length-o = length-from cell cell′ own rank head head′ list chains o q c cs apart here others onto left now still;
-      length-x = length-elsewhere cell cell′ own rank head head′ list chains o q c cs apart here others onto left now still;
-    }
-
-pub record Exchanged (cell : ℕ → Cell) (head′ : ℕ → ℕ) (list : ℕ → List ℕ) (o q : ℕ) : Type 0 where
-  pub owners : ℕ → ℕ
-  pub ranks : ℕ → ℕ
-  pub lists : ℕ → List ℕ
-  pub chained : Chains cell owners ranks head′ lists
-  pub list-o : lists o ≡ list q
-  pub list-q : lists q ≡ list o
-  pub list-x : (x : ℕ) → (x ≡ o → ⊥) → (x ≡ q → ⊥) → lists x ≡ list x
-
-pub exchange : (cell : ℕ → Cell) (own rank head head′ : ℕ → ℕ) (list : ℕ → List ℕ) → Chains cell own rank head list
-    → (o q : ℕ) → (o ≡ q → ⊥) → head′ o ≡ head q → head′ q ≡ head o
-    → ((x : ℕ) → (x ≡ o → ⊥) → (x ≡ q → ⊥) → head′ x ≡ head x) → Exchanged cell head′ list o q
-exchange cell own rank head head′ list chains o q apart to-o to-q still =
-    record {
-      owners = λ d. turned cell own rank head head′ list chains o q apart to-o to-q still (own d);
-      ranks = rank;
-      lists = λ x. list (turned cell own rank head head′ list chains o q apart to-o to-q still x);
-      chained = exchanged cell own rank head head′ list chains o q apart to-o to-q still;
-      list-o = ap list (turned-o cell own rank head head′ list chains o q apart to-o to-q still);
-      list-q = ap list (turned-q cell own rank head head′ list chains o q apart to-o to-q still);
-      list-x = λ x m n. ap list (turned-other cell own rank head head′ list chains o q apart to-o to-q still x m n);
-    }
+  pub exchange : Exchanged cell head′ list o q
+  exchange =
+      record {
+        owners = λ d. turned (own d);
+        ranks = rank;
+        lists = λ x. list (turned x);
+        chained = exchanged;
+        list-o = ap list turned-o;
+        list-q = ap list turned-q;
+        list-x = λ x m n. ap list (turned-other x m n);
+      }

@@ -1,8 +1,10 @@
--- Lists of cells. A chain's cells all have one owner, and each the number of cells behind it as its rank: so chains of different owners are
--- apart, and none repeats a cell. A change of cells elsewhere leaves a chain alone, and walking it counts its items. Assumes nothing.
+-- Lists of cells. A chain's cells all have one owner, and each the number of cells behind it as its rank: so chains of
+-- different owners are apart, and none repeats a cell. A change of cells elsewhere leaves a chain alone, and walking it counts
+-- its items. Assumes nothing.
 use Prim.Native.Nat.{ℕ, zero, suc, _+_, _≤_, _<_}
 use native.Mathlib.Omega.{arith}
 use mathlib.Core.Path.{_≡_, refl, sym, ap, subst, _∙_}
+use mathlib.Core.Bool.{Bool}
 use mathlib.Core.List.{List, [], _∷_}
 use borrow.Author.Tests.{ne-eqb}
 use lib.ListN.{length}
@@ -10,13 +12,18 @@ use Rattle.region.specs.Pick.{pick}
 use Rattle.region.specs.Shared.{Shared}
 use Rattle.region.specs.declared.record.Cell.{Cell}
 use Rattle.region.specs.declared.record.Item.{Item}
-use Rattle.bag.specs.Tree.{inList, sameItem}
+use Rattle.bag.specs.Tree.{inList}
 
 -- from cell c by next cells to 0 these cells, owned by o
 pub data Chain (cell : ℕ → Cell) (own rank : ℕ → ℕ) (o : ℕ) : ℕ → List ℕ → Type 0 where
   ends : Chain cell own rank o 0 []
   link : (c : ℕ) {cs : List ℕ} → 1 ≤ c → own c ≡ o → rank c ≡ length cs → Chain cell own rank o (cell c .next) cs
       → Chain cell own rank o c (c ∷ cs)
+
+-- the first cell is the owner's
+pub first-owned : {cell : ℕ → Cell} {own rank : ℕ → ℕ} {o c : ℕ} {cs : List ℕ} → Chain cell own rank o c cs → 1 ≤ c → own c ≡ o
+first-owned ends l = absurd (omega arith)
+first-owned (link c p eo er k) l = eo
 
 -- what a change of cells, owners and ranks leaves of the cells of one owner with a rank below n, which may change hands together
 abbrev pub Left : (ℕ → Cell) → (ℕ → Cell) → (ℕ → ℕ) → (ℕ → ℕ) → (ℕ → ℕ) → (ℕ → ℕ) → ℕ → ℕ → ℕ → Type 0
@@ -38,25 +45,27 @@ unfoldable pub items : (ℕ → Cell) → List ℕ → List Item
 items cell [] = []
 items cell (c ∷ cs) = cell c .item ∷ items cell cs
 
--- copies of an item among these
-unfoldable pub copies : Item → List Item → ℕ
-copies i [] = 0
-copies i (j ∷ js) = pick (sameItem i j) 1 0 + copies i js
+-- nothing is counted from no cell
+pub empty-list : (m : Shared) (test : Item → Bool) (n : ℕ) → inList m test n 0 ≡ 0
+unfolding inList pick
+empty-list m test zero = refl
+empty-list m test (suc n) = refl
+
+-- how many of these pass the test
+unfoldable pub among : (Item → Bool) → List Item → ℕ
+among test [] = 0
+among test (i ∷ is) = pick (test i) 1 0 + among test is
 
 -- walking a chain counts its items
-pub walk-counts : (m : Shared) (own rank : ℕ → ℕ) (o : ℕ) (i : Item) (n c : ℕ) (cs : List ℕ) → Chain (m .cell) own rank o c cs
-    → length cs ≤ n → inList m i n c ≡ copies i (items (m .cell) cs)
-unfolding inList copies items pick
-walk-counts m own rank o i n c cs ends h = at-end n
-  where
-    at-end : (k : ℕ) → inList m i k 0 ≡ 0
-    at-end zero = refl
-    at-end (suc k) = refl
-walk-counts m own rank o i zero c cs (link d p eo er k) h = absurd (omega arith)
-walk-counts m own rank o i (suc n) c cs (link d {cs = ds} p eo er k) h =
+pub walk-counts : (m : Shared) (test : Item → Bool) (n : ℕ) {own rank : ℕ → ℕ} {o c : ℕ} {cs : List ℕ} → Chain (m .cell) own rank o c cs
+    → length cs ≤ n → inList m test n c ≡ among test (items (m .cell) cs)
+unfolding inList among items pick
+walk-counts m test n ends h = empty-list m test n
+walk-counts m test zero (link d p eo er k) h = absurd (omega arith)
+walk-counts m test (suc n) (link d p eo er k) h =
     rw
     (ne-eqb d 0 (λ z. omega arith))
-    (ap (λ x. pick (sameItem i (m .cell d .item)) 1 0 + x) (walk-counts m own rank o i n (m .cell d .next) ds k (omega arith)))
+    (ap (λ x. pick (test (m .cell d .item)) 1 0 + x) (walk-counts m test n k (omega arith)))
 
 -- a change elsewhere leaves the items
 pub items-left : (cell cell′ : ℕ → Cell) (own own′ rank rank′ : ℕ → ℕ) (o o′ c : ℕ) (cs : List ℕ)

@@ -1,6 +1,6 @@
 -- The mound between turns: cells held, the tree in order, nothing below the present depth. What an effect asks, that it keeps the mound,
 -- and what every other thread may rely on across it. Assumes nothing.
-use Prim.Native.Nat.{ℕ, _+_, _-_, _*_, _/_, _^_, _≤_, _<_}
+use Prim.Native.Nat.{ℕ, _+_, _*_, _/_, _^_, _≤_, _<_}
 use native.Mathlib.Decide.{ℕ-discrete}
 use native.Mathlib.Omega.{arith}
 use mathlib.Core.Path.{_≡_, refl, sym, ap, subst, subst₂, _∙_}
@@ -14,13 +14,13 @@ use Rattle.region.specs.declared.record.Cell.{Cell}
 use Rattle.region.specs.declared.record.Item.{Item}
 use Rattle.region.specs.declared.record.Node.{Node}
 use Rattle.region.specs.declared.shape.Shape.{Shape}
+use Rattle.region.proofs.Picks.{upd-same, upd-other}
 use Rattle.access.specs.Effect.{effectShared}
 use Rattle.access.specs.Order.{valueOf}
 use Rattle.access.specs.Read.{readNode, updated}
 use Rattle.access.specs.declared.effect.Effect.the-variants.{Grow, Push, Pop, Exchange, Clean}
 use Rattle.access.proofs.OrderLaws.{item-refl, item-trans}
 use Rattle.bag.specs.Tree.{sameItem}
-use Rattle.bag.proofs.Cells.{upd-same, upd-other}
 use Rattle.bag.proofs.Held.{Held, val, counted, first-owner, own-owner, free-owner, held-same, counted-same, held-begin, counted-begin, held-push, counted-push, held-pop, counted-pop, held-exchange, counted-exchange}
 use Rattle.bag.proofs.Order.{Above, Ordered, above-le, push-ordered, pop-ordered, clean-ordered, exchange-ordered}
 use Rattle.bag.proofs.Sorted.{AtMost, Proper, valueAt}
@@ -223,7 +223,10 @@ module _ (s : Shape) (m : Shared) (own own′ : ℕ → ℕ) (g : Mound s m own)
   push-dirty y = go (ℕ-discrete y n)
     where
       go : Dec (y ≡ n) → upd (m .node) n v y .dirty ≡ m .node y .dirty
-      go (yes e) = ap (λ z. upd (m .node) n v z .dirty) e ∙ ap (λ z. z .dirty) (upd-same (m .node) n v ∙ a .value) ∙ ap (λ z. m .node z .dirty) (sym e)
+      go (yes e) =
+          ap (λ z. upd (m .node) n v z .dirty) e
+          ∙ ap (λ z. z .dirty) (upd-same (m .node) n v ∙ a .value)
+          ∙ ap (λ z. m .node z .dirty) (sym e)
       go (no ne) = ap (λ z. z .dirty) (upd-other (m .node) n y v ne)
 
   push-item : pushed .cell c .item ≡ m .cell c .item
@@ -247,7 +250,8 @@ module _ (s : Shape) (m : Shared) (own own′ : ℕ → ℕ) (g : Mound s m own)
       record {
         held = push-held;
         ordered =
-            push-ordered AtMost item-refl item-trans (val m) (val pushed) (λ y. m .node y .dirty) (λ y. pushed .node y .dirty) (g .ordered) n
+            push-ordered AtMost item-refl item-trans (val m) (val pushed) (λ y. m .node y .dirty) (λ y. pushed .node y .dirty)
+            (g .ordered) n
             (m .cell c .item) (λ y p ne. ap valueOf (push-others y p ne)) push-value push-dirty (a .least) (a .parent);
         deep = λ y h.
             let e = upd-other (m .node) n y v (λ z. omega (arith, h, z, a .few)) in
@@ -315,7 +319,8 @@ module _ (s : Shape) (m : Shared) (own : ℕ → ℕ) (g : Mound s m own) (v : N
   pop-held : Held s popped own
   unfolding effectShared updated
   pop-held =
-      held-pop s m popped own (g .held) c (in-tree s m own g 1 (root-there s m own g)) (a .cell) (a .head) (λ d ne. upd-other (m .cell) c d _ ne)
+      held-pop s m popped own (g .held) c (in-tree s m own g 1 (root-there s m own g)) (a .cell) (a .head)
+      (λ d ne. upd-other (m .cell) c d _ ne)
       (ap (λ z. z .next) (upd-same (m .cell) c _)) refl (ap (λ z. z .first) (pop-node ∙ a .value))
       (λ y ne. ap (λ z. z .first) (upd-other (m .node) 1 y v ne))
 
@@ -339,12 +344,14 @@ module _ (s : Shape) (m : Shared) (own : ℕ → ℕ) (g : Mound s m own) (v : N
   unfolding effectShared updated
   pop-relies =
       let up : popped .node 1 .counter ≡ m .node 1 .counter + 1 = ap (λ y. y .counter) (pop-node ∙ a .value) in
-      relies m popped 1 1 (omega arith) up up (λ y p ne _. pop-others y p ne) (λ p e z. absurd (omega arith)) (λ p e z. absurd (omega arith))
+      relies m popped 1 1 (omega arith) up up (λ y p ne _. pop-others y p ne) (λ p e z. absurd (omega arith))
+      (λ p e z. absurd (omega arith))
 
   pub pop-counts : (i : Item) → counted s m i ≡ counted s popped i + pick (sameItem i (m .cell c .item)) 1 0
   unfolding effectShared updated
   pop-counts i =
-      counted-pop s m popped own (g .held) c (in-tree s m own g 1 (root-there s m own g)) (a .cell) (a .head) (λ d ne. upd-other (m .cell) c d _ ne)
+      counted-pop s m popped own (g .held) c (in-tree s m own g 1 (root-there s m own g)) (a .cell) (a .head)
+      (λ d ne. upd-other (m .cell) c d _ ne)
       (ap (λ z. z .next) (upd-same (m .cell) c _)) refl (ap (λ z. z .first) (pop-node ∙ a .value))
       (λ y ne. ap (λ z. z .first) (upd-other (m .node) 1 y v ne)) i
 
@@ -383,10 +390,6 @@ module _ (s : Shape) (m : Shared) (own : ℕ → ℕ) (g : Mound s m own) (n : �
   unfolding effectShared
   at-x x p q = upd-other (upd (m .node) n v) k x w q ∙ upd-other (m .node) n x v p
 
-  same-cells : swapped .cell ≡ m .cell
-  unfolding effectShared
-  same-cells = refl
-
   value-by : (x y : ℕ) → swapped .node x .first ≡ m .node y .first → val swapped x ≡ val m y
   unfolding valueOf readNode effectShared
   value-by x y e = ap (valueAt (m .cell)) e
@@ -394,7 +397,8 @@ module _ (s : Shape) (m : Shared) (own : ℕ → ℕ) (g : Mound s m own) (n : �
   exchange-held : Held s swapped own
   unfolding effectShared updated
   exchange-held =
-      held-exchange s m swapped own (g .held) n k (a .some) (in-tree s m own g n (omega (arith, a .child, a .few))) (omega (arith, a .child, a .some))
+      held-exchange s m swapped own (g .held) n k (a .some) (in-tree s m own g n (omega (arith, a .child, a .few)))
+      (omega (arith, a .child, a .some))
       (in-tree s m own g k (a .few)) apart refl refl (ap (λ z. z .first) at-n) (ap (λ z. z .first) at-k)
       (λ x p q. ap (λ z. z .first) (at-x x p q))
 
@@ -404,10 +408,11 @@ module _ (s : Shape) (m : Shared) (own : ℕ → ℕ) (g : Mound s m own) (n : �
       record {
         held = exchange-held;
         ordered =
-            exchange-ordered AtMost item-refl item-trans (val m) (val swapped) (λ y. m .node y .dirty) (λ y. swapped .node y .dirty) (g .ordered) n k j
-            (a .some) (a .child) (a .clean) (a .clean-sibling) (a .kids) (a .sibling) (a .less) (a .least)
+            exchange-ordered AtMost item-refl item-trans (val m) (val swapped) (λ y. m .node y .dirty) (λ y. swapped .node y .dirty)
+            (g .ordered) n k j (a .some) (a .child) (a .clean) (a .clean-sibling) (a .kids) (a .sibling) (a .less) (a .least)
             (value-by n k (ap (λ z. z .first) at-n)) (value-by k n (ap (λ z. z .first) at-k))
-            (λ x p q. value-by x x (ap (λ z. z .first) (at-x x p q))) (ap (λ z. z .dirty) at-k) (λ x p q. ap (λ z. z .dirty) (at-x x p q));
+            (λ x p q. value-by x x (ap (λ z. z .first) (at-x x p q))) (ap (λ z. z .dirty) at-k)
+            (λ x p q. ap (λ z. z .dirty) (at-x x p q));
         deep = λ y h.
             let e = at-x y (λ z. omega (arith, h, z, a .few, a .child)) (λ z. omega (arith, h, z, a .few)) in
             (ap (λ z. z .first) e ∙ g .deep y h .0, ap (λ z. z .dirty) e ∙ g .deep y h .1);
@@ -430,8 +435,9 @@ module _ (s : Shape) (m : Shared) (own : ℕ → ℕ) (g : Mound s m own) (n : �
   pub exchange-counts : (i : Item) → counted s swapped i ≡ counted s m i
   unfolding effectShared updated
   exchange-counts i =
-      counted-exchange s m swapped own (g .held) n k (a .some) (in-tree s m own g n (omega (arith, a .child, a .few))) (omega (arith, a .child, a .some))
-      (in-tree s m own g k (a .few)) apart refl refl (ap (λ z. z .first) at-n) (ap (λ z. z .first) at-k)
+      counted-exchange s m swapped own (g .held) n k (a .some) (in-tree s m own g n (omega (arith, a .child, a .few)))
+      (omega (arith, a .child, a .some)) (in-tree s m own g k (a .few)) apart refl refl (ap (λ z. z .first) at-n)
+      (ap (λ z. z .first) at-k)
       (λ x p q. ap (λ z. z .first) (at-x x p q)) i
 
 -- Cleaning.
@@ -465,8 +471,10 @@ module _ (s : Shape) (m : Shared) (own : ℕ → ℕ) (g : Mound s m own) (n : �
       record {
         held = held-same s m cleaned own (g .held) refl refl clean-first;
         ordered =
-            clean-ordered AtMost item-refl item-trans (val m) (val cleaned) (λ y. m .node y .dirty) (λ y. cleaned .node y .dirty) (g .ordered) n
-            (a .some) clean-value (λ x p q. ap (λ z. z .dirty) (clean-other x q)) (a .clean-left) (a .clean-right) (a .least-left) (a .least-right);
+            clean-ordered AtMost item-refl item-trans (val m) (val cleaned) (λ y. m .node y .dirty)
+            (λ y. cleaned .node y .dirty) (g .ordered) n
+            (a .some) clean-value (λ x p q. ap (λ z. z .dirty) (clean-other x q)) (a .clean-left) (a .clean-right)
+            (a .least-left) (a .least-right);
         deep = λ y h.
             let e = clean-other y (λ z. omega (arith, h, z, a .few)) in
             (ap (λ z. z .first) e ∙ g .deep y h .0, ap (λ z. z .dirty) e ∙ g .deep y h .1);
@@ -512,7 +520,8 @@ module _ (s : Shape) (m m′ : Shared) (own own′ : ℕ → ℕ) (g : Mound s m
       record {
         held = held-begin s m m′ own own′ (g .held) t c lt ut some free none others ended left nodes now still;
         ordered = λ a x p h z.
-            subst₂ (λ u w. AtMost u w) (sym (ap valueOf (begin-reads a p))) (sym (ap valueOf (begin-reads x (omega (arith, p, above-le a x h)))))
+            subst₂ (λ u w. AtMost u w) (sym (ap valueOf (begin-reads a p)))
+            (sym (ap valueOf (begin-reads x (omega (arith, p, above-le a x h)))))
             (g .ordered a x p h (ap (λ f. f a .dirty) (sym nodes) ∙ z));
         deep = λ y h.
             let d = g .deep y (subst (λ k. 2 ^ k ≤ y) depth h) in

@@ -1,5 +1,5 @@
--- A thread with an empty permission list stands idle from the layout on: its calls are refused, its turns answer idle, and no other thread's
--- call or turn stores to its record. Assumes nothing.
+-- A thread with an empty permission list stands idle from the layout on: its calls are refused, its turns answer idle, and no
+-- other thread's call or turn stores to its record. Assumes nothing.
 use Prim.Native.Nat.{ℕ, _*_}
 use native.Mathlib.Decide.{ℕ-discrete}
 use mathlib.Core.Path.{_≡_, refl, sym, ap, subst, _∙_}
@@ -17,6 +17,7 @@ use Rattle.region.specs.Thread.{idleThread}
 use Rattle.region.specs.declared.frame.Frame.{Frame}
 use Rattle.region.specs.declared.record.Item.{Item}
 use Rattle.region.specs.declared.shape.Shape.{Shape}
+use Rattle.region.proofs.Picks.{pick-good}
 use Rattle.access.specs.Plan.{plan, refused}
 use Rattle.layout.specs.Layout.{layoutBytes}
 use Rattle.layout.proofs.Laws.{laid-exact}
@@ -24,7 +25,6 @@ use Rattle.readable.specs.Readable.{readable, shapeIn}
 use Rattle.readable.proofs.Laws.{good, readable-good}
 use Rattle.machine.specs.Begin.{frameIn, mayPut, mayTake, putBytes, putRefusal, takeBytes, takeRefusal}
 use Rattle.machine.specs.Turn.{carriedOut, decide, decideAt, turnBytes, turnPlan}
-use Rattle.preserved.proofs.PlansGood.{pick-good}
 use Rattle.preserved.proofs.Proved.{put-permitted, take-permitted, put-keeps-readable, put-keeps-shape, put-leaves-others, take-keeps-readable, take-keeps-shape, take-leaves-others, turn-keeps-readable, turn-keeps-shape, turn-leaves-others}
 use Rattle.bag.specs.Calls.{NoLayout}
 use Rattle.bag.specs.EmptyList.{EmptyListChangesNothing, LeavesAlone}
@@ -135,4 +135,5 @@ empty-list-changes-nothing s ps b e calls n earlier later split t l u z =
     calls laid tt barred (subst (λ k. NoLayout k calls) (laid-exact s ps b e ∙ sym (g .exact)) n)
     in
     leaves-alone s t _
-    (kept-after (λ b x. Barred s t b) Anything earlier later laid tt barred (subst (Kept (λ b x. Barred s t b) Anything tt) split kept) .1)
+    (kept-after (λ b x. Barred s t b) Anything earlier later laid tt barred
+    (subst (Kept (λ b x. Barred s t b) Anything tt) split kept) .1)

@@ -165,7 +165,8 @@ module _ (m m′ : Shared) (r : Rely m m′) where
   stood : (n : ℕ) (q : NodeCopy) → 1 ≤ n → Sound m n q → m′ .node n .counter ≡ q .node .counter → m .node n .counter ≡ q .node .counter
   stood n q p h e = omega (arith, r .counters n p, h .counter, e)
 
-  stands : (n : ℕ) (q : NodeCopy) → 1 ≤ n → Sound m n q → m′ .node n .counter ≡ q .node .counter → m′ .node n .counter ≡ m .node n .counter
+  stands : (n : ℕ) (q : NodeCopy) → 1 ≤ n → Sound m n q → m′ .node n .counter ≡ q .node .counter
+      → m′ .node n .counter ≡ m .node n .counter
   stands n q p h e = omega (arith, r .counters n p, h .counter, e)
 
   sound-stays : (n : ℕ) (q : NodeCopy) → 1 ≤ n → Sound m n q → Sound m′ n q
@@ -179,7 +180,8 @@ module _ (m m′ : Shared) (r : Rely m m′) where
       → Child m′ n q c kind
   child-stays n q c kind p ec h k e =
       let old = k (stood n q p h e) in
-      let parent : m′ .node (c / 2) .counter ≡ m .node (c / 2) .counter = ap (λ y. m′ .node y .counter) ec ∙ stands n q p h e ∙ ap (λ y. m .node y .counter) (sym ec) in
+      let parent : m′ .node (c / 2) .counter ≡ m .node (c / 2) .counter =
+      ap (λ y. m′ .node y .counter) ec ∙ stands n q p h e ∙ ap (λ y. m .node y .counter) (sym ec) in
       let now = r .child c (omega arith) parent (old .0) in
       let same : val m′ n ≡ val m n = ap valueOf (r .unchanged n p (stands n q p h e)) in (
         now .0,
@@ -203,7 +205,8 @@ module _ (m m′ : Shared) (r : Rely m m′) where
   inner-stays : (n : ℕ) (q : NodeCopy) → 1 ≤ n → Inner m n q → Inner m′ n q
   inner-stays n q p h = (dirty-stays n q p (h .0), deeper (2 * n + 1) (h .1))
 
-  child-read-stays : (n : ℕ) (q : NodeCopy) (c : ℕ) (k : NodeCopy) → 1 ≤ n → c / 2 ≡ n → Sound m n q → ChildRead m n q c k → ChildRead m′ n q c k
+  child-read-stays : (n : ℕ) (q : NodeCopy) (c : ℕ) (k : NodeCopy) → 1 ≤ n → c / 2 ≡ n → Sound m n q → ChildRead m n q c k
+      → ChildRead m′ n q c k
   child-read-stays n q c k p ec h g =
       record { sound = sound-stays c k (omega arith) (g .sound); child = λ z. child-stays n q c (UpTo k) p ec h (g .child z) }
 

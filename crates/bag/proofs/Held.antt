@@ -4,6 +4,7 @@ use Prim.Native.Nat.{ℕ, _+_, _*_, _/_, _%_, _≤_}
 use native.Mathlib.Decide.{ℕ-discrete}
 use native.Mathlib.Omega.{arith}
 use mathlib.Core.Path.{_≡_, refl, sym, ap, subst, _∙_}
+use mathlib.Core.Bool.{Bool}
 use mathlib.Core.List.{List, _∷_}
 use borrow.Author.Tests.{eq-eqb, ne-eqb}
 use lib.Dec.{eqb}
@@ -17,8 +18,8 @@ use Rattle.region.specs.declared.shape.Shape.{Shape}
 use Rattle.access.specs.Order.{topItem, valueOf}
 use Rattle.access.specs.Read.{readNode}
 use Rattle.bag.specs.Tree.{inNodes, sameItem}
-use Rattle.bag.proofs.Cells.{Chains, Moved, Exchanged, move, exchange, first-link, starts}
-use Rattle.bag.proofs.Chains.{Chain, copies, items}
+use Rattle.bag.proofs.Cells.{Chains, Moved, Exchanged, move, exchange}
+use Rattle.bag.proofs.Chains.{Chain, among, first-owned, items}
 use Rattle.bag.proofs.Counts.{inChain, tree-counts}
 use Rattle.bag.proofs.Sorted.{AtMost, Proper, Sorted, from-head, head-least, head-proper, head-counted, top-value}
 use Rattle.bag.proofs.Sums.{sum, sum-same, sum-has, sum-but, sum-exchange, sum-some}
@@ -60,6 +61,13 @@ module _ (free : ℕ) (node : ℕ → Node) (own : ℕ → ℕ) where
       go (no n) (yes e) = rw (ne-eqb x 0 n, eq-eqb (x % 2) 0 e) (hn (x / 2) (omega arith) (omega arith))
       go (no n) (no m) = rw (ne-eqb x 0 n, ne-eqb (x % 2) 0 m) (ho (x / 2) (omega arith))
 
+-- how many cells the list of node n, and of thread t, has
+abbrev pub nodeLength : (ℕ → List ℕ) → ℕ → ℕ
+nodeLength list n = length (list (2 * n))
+
+abbrev pub threadLength : (ℕ → List ℕ) → ℕ → ℕ
+threadLength list t = length (list (2 * t + 1))
+
 -- m's cells, with each thread's own cell
 pub record Held (s : Shape) (m : Shared) (own : ℕ → ℕ) : Type 0 where
   pub owner : ℕ → ℕ
@@ -67,7 +75,7 @@ pub record Held (s : Shape) (m : Shared) (own : ℕ → ℕ) : Type 0 where
   pub list : ℕ → List ℕ
   pub chains : Chains (m .cell) owner rank (heads (m .free) (m .node) own) list
   pub sorted : (n : ℕ) → 1 ≤ n → Sorted (items (m .cell) (list (2 * n)))
-  pub total : length (list 0) + sum (λ n. length (list (2 * n))) (nodeCount s) + sum (λ t. length (list (2 * t + 1))) (s .threads) ≡ s .cells
+  pub total : length (list 0) + sum (nodeLength list) (nodeCount s) + sum (threadLength list) (s .threads) ≡ s .cells
 
 -- the value of node n
 abbrev pub val : Shared → ℕ → Item
@@ -75,21 +83,30 @@ val m n = valueOf (readNode m n)
 
 -- the tree's count of i
 abbrev pub counted : Shape → Shared → Item → ℕ
-counted s m i = inNodes m i (s .cells) (nodeCount s)
+counted s m i = inNodes m (sameItem i) (s .cells) (nodeCount s)
 
 -- What holds of the tree.
 module _ (s : Shape) (m : Shared) (own : ℕ → ℕ) (h : Held s m own) where
+  -- holder o's chain, from its first cell c
+  chain-from : (o c : ℕ) → heads (m .free) (m .node) own o ≡ c → Chain (m .cell) (h .owner) (h .rank) o c (h .list o)
+  chain-from o c e = subst (λ c. Chain (m .cell) (h .owner) (h .rank) o c (h .list o)) e (h .chains o)
+
+  pub free-chain : Chain (m .cell) (h .owner) (h .rank) 0 (m .free) (h .list 0)
+  free-chain = chain-from 0 (m .free) (head-free (m .free) (m .node) own)
+
   pub node-chain : (n : ℕ) → 1 ≤ n → Chain (m .cell) (h .owner) (h .rank) (2 * n) (m .node n .first) (h .list (2 * n))
-  node-chain n p =
-      subst (λ c. Chain (m .cell) (h .owner) (h .rank) (2 * n) c (h .list (2 * n))) (head-node (m .free) (m .node) own n p) (h .chains (2 * n))
+  node-chain n p = chain-from (2 * n) (m .node n .first) (head-node (m .free) (m .node) own n p)
+
+  pub thread-chain : (t : ℕ) → Chain (m .cell) (h .owner) (h .rank) (2 * t + 1) (own t) (h .list (2 * t + 1))
+  thread-chain t = chain-from (2 * t + 1) (own t) (head-thread (m .free) (m .node) own t)
 
   pub few-cells : (n : ℕ) → 1 ≤ n → n ≤ nodeCount s → length (h .list (2 * n)) ≤ s .cells
-  few-cells n p q = let a = sum-has (λ k. length (h .list (2 * k))) (nodeCount s) n p q in omega (arith, a, h .total)
+  few-cells n p q = let a = sum-has (nodeLength (h .list)) (nodeCount s) n p q in omega (arith, a, h .total)
 
-  pub counts : (i : Item) → counted s m i ≡ sum (inChain (m .cell) (h .list) i) (nodeCount s)
-  counts i =
+  pub counts : (test : Item → Bool) → inNodes m test (s .cells) (nodeCount s) ≡ sum (inChain (m .cell) (h .list) test) (nodeCount s)
+  counts test =
       tree-counts m (h .owner) (h .rank) (heads (m .free) (m .node) own) (h .list) (h .chains)
-      (λ k p. head-node (m .free) (m .node) own k p) (s .cells) i (nodeCount s) few-cells
+      (λ k p. head-node (m .free) (m .node) own k p) (s .cells) test (nodeCount s) few-cells
 
   -- an item that the tree holds is held by a node whose value is no greater
   pub record HeldBy (i : Item) : Type 0 where
@@ -102,49 +119,41 @@ module _ (s : Shape) (m : Shared) (own : ℕ → ℕ) (h : Held s m own) where
   pub held-by : (i : Item) → 1 ≤ counted s m i → HeldBy i
   unfolding inChain valueOf readNode
   held-by i l =
-      let w = sum-some (inChain (m .cell) (h .list) i) (nodeCount s) (subst (λ k. 1 ≤ k) (counts i) l) in
+      let w = sum-some (inChain (m .cell) (h .list) (sameItem i)) (nodeCount s) (subst (λ k. 1 ≤ k) (counts (sameItem i)) l) in
       let n = w .at in
       record {
         node = n;
         some = w .least;
         few = w .most;
-        least = head-least (m .cell) (h .owner) (h .rank) (2 * n) (m .node n .first) (h .list (2 * n)) (node-chain n (w .least)) (h .sorted n (w .least)) i (w .some);
-        proper = head-proper (m .cell) (h .owner) (h .rank) (2 * n) (m .node n .first) (h .list (2 * n)) (node-chain n (w .least)) (h .sorted n (w .least)) i (w .some);
+        least = head-least (node-chain n (w .least)) (h .sorted n (w .least)) i (w .some);
+        proper = head-proper (node-chain n (w .least)) (h .sorted n (w .least)) i (w .some);
       }
 
   -- no value is above that of an empty node
   pub val-top : (n : ℕ) → 1 ≤ n → AtMost (val m n) topItem
   unfolding valueOf readNode
-  val-top n p = top-value (m .cell) (h .owner) (h .rank) (2 * n) (m .node n .first) (h .list (2 * n)) (node-chain n p) (h .sorted n p)
+  val-top n p = top-value (node-chain n p) (h .sorted n p)
 
   -- the head of a node's list is held
   pub head-held : (n : ℕ) → 1 ≤ n → n ≤ nodeCount s → 1 ≤ m .node n .first → 1 ≤ counted s m (m .cell (m .node n .first) .item)
   unfolding inChain
   head-held n p q l =
       let i = m .cell (m .node n .first) .item in
-      let a = head-counted (m .cell) (h .owner) (h .rank) (2 * n) (m .node n .first) (h .list (2 * n)) (node-chain n p) l in
-      let b = sum-has (inChain (m .cell) (h .list) i) (nodeCount s) n p q in
-      omega (arith, counts i, a, b)
+      let a = head-counted (node-chain n p) l in
+      let b = sum-has (inChain (m .cell) (h .list) (sameItem i)) (nodeCount s) n p q in
+      omega (arith, counts (sameItem i), a, b)
 
   -- the first cell of a node's list is that node's
   pub first-owner : (n : ℕ) → 1 ≤ n → 1 ≤ m .node n .first → h .owner (m .node n .first) ≡ 2 * n
-  first-owner n p l =
-      let st = starts (node-chain n p) l in
-      first-link (subst (Chain (m .cell) (h .owner) (h .rank) (2 * n) (m .node n .first)) (st .is) (node-chain n p)) .owner
+  first-owner n p l = first-owned (node-chain n p) l
 
   -- an own cell is its thread's
   pub own-owner : (t : ℕ) → 1 ≤ own t → h .owner (own t) ≡ 2 * t + 1
-  own-owner t l =
-      let k = subst (λ c. Chain (m .cell) (h .owner) (h .rank) (2 * t + 1) c (h .list (2 * t + 1))) (head-thread (m .free) (m .node) own t) (h .chains (2 * t + 1)) in
-      let st = starts k l in
-      first-link (subst (Chain (m .cell) (h .owner) (h .rank) (2 * t + 1) (own t)) (st .is) k) .owner
+  own-owner t l = first-owned (thread-chain t) l
 
   -- the first free cell is free
   pub free-owner : 1 ≤ m .free → h .owner (m .free) ≡ 0
-  free-owner l =
-      let k = subst (λ c. Chain (m .cell) (h .owner) (h .rank) 0 c (h .list 0)) (head-free (m .free) (m .node) own) (h .chains 0) in
-      let st = starts k l in
-      first-link (subst (Chain (m .cell) (h .owner) (h .rank) 0 (m .free)) (st .is) k) .owner
+  free-owner l = first-owned free-chain l
 
 -- The same lists in the same cells.
 pub held-same : (s : Shape) (m m′ : Shared) (own : ℕ → ℕ) → Held s m own → m′ .cell ≡ m .cell → m′ .free ≡ m .free
@@ -167,9 +176,9 @@ pub counted-same : (s : Shape) (m m′ : Shared) (own : ℕ → ℕ) → Held s 
     → ((n : ℕ) → m′ .node n .first ≡ m .node n .first) → (i : Item) → counted s m′ i ≡ counted s m i
 unfolding inChain sum held-same
 counted-same s m m′ own h ec ef en i =
-    counts s m′ own (held-same s m m′ own h ec ef en) i
-    ∙ ap (λ cell. sum (λ k. copies i (items cell (h .list (2 * k)))) (nodeCount s)) ec
-    ∙ sym (counts s m own h i)
+    counts s m′ own (held-same s m m′ own h ec ef en) (sameItem i)
+    ∙ ap (λ cell. sum (λ k. among (sameItem i) (items cell (h .list (2 * k)))) (nodeCount s)) ec
+    ∙ sym (counts s m own h (sameItem i))
 
 -- A put begins: the first free cell c becomes thread t's own.
 module _ (s : Shape) (m m′ : Shared) (own own′ : ℕ → ℕ) (h : Held s m own) (t c : ℕ) (lt : 1 ≤ t) (ut : t ≤ s .threads) (some : 1 ≤ c)
@@ -178,7 +187,8 @@ module _ (s : Shape) (m m′ : Shared) (own own′ : ℕ → ℕ) (h : Held s m 
     (still : (u : ℕ) → (u ≡ t → ⊥) → own′ u ≡ own u) where
   begin-move : Moved (m .cell) (m′ .cell) (heads (m′ .free) (m′ .node) own′) (h .list) 0 (2 * t + 1) c
   begin-move =
-      move (m .cell) (m′ .cell) (h .owner) (h .rank) (heads (m .free) (m .node) own) (heads (m′ .free) (m′ .node) own′) (h .list) (h .chains)
+      move (m .cell) (m′ .cell) (h .owner) (h .rank) (heads (m .free) (m .node) own) (heads (m′ .free) (m′ .node) own′)
+      (h .list) (h .chains)
       0 (2 * t + 1) c (λ z. omega arith) some (head-free (m .free) (m .node) own ∙ free) others
       (ended ∙ sym (head-thread (m .free) (m .node) own t ∙ none))
       (head-free (m′ .free) (m′ .node) own′ ∙ left) (head-thread (m′ .free) (m′ .node) own′ t ∙ now)
@@ -195,18 +205,21 @@ module _ (s : Shape) (m m′ : Shared) (own own′ : ℕ → ℕ) (h : Held s m 
         chains = mv .chained;
         sorted = λ n p. subst Sorted (sym (mv .items-x (2 * n) (λ z. omega arith) (λ z. omega arith))) (h .sorted n p);
         total =
-            let a = sum-same (λ n. length (h .list (2 * n))) (λ n. length (mv .lists (2 * n))) (nodeCount s) (λ k l u. mv .length-x (2 * k) (λ z. omega arith) (λ z. omega arith)) in
-            let b = sum-but (λ u. length (h .list (2 * u + 1))) (λ u. length (mv .lists (2 * u + 1))) (s .threads) t lt ut (λ x p n. mv .length-x (2 * x + 1) (λ z. omega arith) (λ z. n (omega arith))) in
+            let a = sum-same (nodeLength (h .list)) (nodeLength (mv .lists)) (nodeCount s)
+            (λ k l u. mv .length-x (2 * k) (λ z. omega arith) (λ z. omega arith)) in
+            let b = sum-but (threadLength (h .list)) (threadLength (mv .lists)) (s .threads) t lt ut
+            (λ x p n. mv .length-x (2 * x + 1) (λ z. omega arith) (λ z. n (omega arith))) in
             omega (arith, a, b, mv .length-q, mv .length-o, h .total);
       }
 
   pub counted-begin : (i : Item) → counted s m′ i ≡ counted s m i
   unfolding inChain held-begin begin-move
   counted-begin i =
-      counts s m′ own′ held-begin i
-      ∙ sum-same (inChain (m .cell) (h .list) i) (inChain (m′ .cell) (begin-move .lists) i) (nodeCount s)
-      (λ k l u. ap (copies i) (begin-move .items-x (2 * k) (λ z. omega arith) (λ z. omega arith)))
-      ∙ sym (counts s m own h i)
+      let same = sameItem i in
+      counts s m′ own′ held-begin same
+      ∙ sum-same (inChain (m .cell) (h .list) same) (inChain (m′ .cell) (begin-move .lists) same) (nodeCount s)
+      (λ k l u. ap (among same) (begin-move .items-x (2 * k) (λ z. omega arith) (λ z. omega arith)))
+      ∙ sym (counts s m own h same)
 
 -- A push: thread t's own cell c becomes the head of node n's list.
 module _ (s : Shape) (m m′ : Shared) (own own′ : ℕ → ℕ) (h : Held s m own) (t n c : ℕ) (lt : 1 ≤ t) (ut : t ≤ s .threads) (ln : 1 ≤ n)
@@ -214,10 +227,12 @@ module _ (s : Shape) (m m′ : Shared) (own own′ : ℕ → ℕ) (h : Held s m 
     (others : (d : ℕ) → (d ≡ c → ⊥) → m′ .cell d ≡ m .cell d) (kept : m′ .cell c .item ≡ m .cell c .item)
     (onto : m′ .cell c .next ≡ m .node n .first) (free : m′ .free ≡ m .free) (first : m′ .node n .first ≡ c)
     (elsewhere : (x : ℕ) → (x ≡ n → ⊥) → m′ .node x .first ≡ m .node x .first) (gone : own′ t ≡ 0)
-    (still : (u : ℕ) → (u ≡ t → ⊥) → own′ u ≡ own u) (proper : Proper (m .cell c .item)) (least : AtMost (m .cell c .item) (val m n)) where
+    (still : (u : ℕ) → (u ≡ t → ⊥) → own′ u ≡ own u) (proper : Proper (m .cell c .item))
+    (least : AtMost (m .cell c .item) (val m n)) where
   push-move : Moved (m .cell) (m′ .cell) (heads (m′ .free) (m′ .node) own′) (h .list) (2 * t + 1) (2 * n) c
   push-move =
-      move (m .cell) (m′ .cell) (h .owner) (h .rank) (heads (m .free) (m .node) own) (heads (m′ .free) (m′ .node) own′) (h .list) (h .chains)
+      move (m .cell) (m′ .cell) (h .owner) (h .rank) (heads (m .free) (m .node) own) (heads (m′ .free) (m′ .node) own′)
+      (h .list) (h .chains)
       (2 * t + 1) (2 * n) c (λ z. omega arith) some (head-thread (m .free) (m .node) own t ∙ mine) others
       (onto ∙ sym (head-node (m .free) (m .node) own n ln))
       (head-thread (m′ .free) (m′ .node) own′ t ∙ gone ∙ sym ended) (head-node (m′ .free) (m′ .node) own′ n ln ∙ first)
@@ -235,35 +250,35 @@ module _ (s : Shape) (m m′ : Shared) (own own′ : ℕ → ℕ) (h : Held s m 
         chains = mv .chained;
         sorted = λ k p. go mv k p (ℕ-discrete k n);
         total =
-            let a = sum-but (λ k. length (h .list (2 * k))) (λ k. length (mv .lists (2 * k))) (nodeCount s) n ln un (λ x p q. mv .length-x (2 * x) (λ z. omega arith) (λ z. q (omega arith))) in
-            let b = sum-but (λ u. length (h .list (2 * u + 1))) (λ u. length (mv .lists (2 * u + 1))) (s .threads) t lt ut (λ x p q. mv .length-x (2 * x + 1) (λ z. q (omega arith)) (λ z. omega arith)) in
+            let a = sum-but (nodeLength (h .list)) (nodeLength (mv .lists)) (nodeCount s) n ln un
+            (λ x p q. mv .length-x (2 * x) (λ z. omega arith) (λ z. q (omega arith))) in
+            let b = sum-but (threadLength (h .list)) (threadLength (mv .lists)) (s .threads) t lt ut
+            (λ x p q. mv .length-x (2 * x + 1) (λ z. q (omega arith)) (λ z. omega arith)) in
             let z : length (mv .lists 0) ≡ length (h .list 0) = mv .length-x 0 (λ z. omega arith) (λ z. omega arith) in
             omega (arith, a, b, z, mv .length-q, mv .length-o, h .total);
       }
     where
-      here : Moved (m .cell) (m′ .cell) (heads (m′ .free) (m′ .node) own′) (h .list) (2 * t + 1) (2 * n) c → Sorted (m .cell c .item ∷ items (m .cell) (h .list (2 * n)))
-      here mv = (
-        proper,
-        from-head (m .cell) (h .owner) (h .rank) (2 * n) (m .node n .first) (h .list (2 * n)) (node-chain s m own h n ln) (h .sorted n ln) (m .cell c .item) least,
-        h .sorted n ln,
-      )
+      here : Sorted (m .cell c .item ∷ items (m .cell) (h .list (2 * n)))
+      here = (proper, from-head (node-chain s m own h n ln) (h .sorted n ln) (m .cell c .item) least, h .sorted n ln)
 
-      go : (mv : Moved (m .cell) (m′ .cell) (heads (m′ .free) (m′ .node) own′) (h .list) (2 * t + 1) (2 * n) c) (k : ℕ) → 1 ≤ k → Dec (k ≡ n)
+      go : (mv : Moved (m .cell) (m′ .cell) (heads (m′ .free) (m′ .node) own′) (h .list) (2 * t + 1) (2 * n) c) (k : ℕ) → 1 ≤ k
+          → Dec (k ≡ n)
           → Sorted (items (m′ .cell) (mv .lists (2 * k)))
       go mv k p (yes e) =
           subst (λ y. Sorted (items (m′ .cell) (mv .lists (2 * y)))) (sym e)
-          (subst Sorted (sym (mv .items-q ∙ ap (λ i. i ∷ items (m .cell) (h .list (2 * n))) kept)) (here mv))
+          (subst Sorted (sym (mv .items-q ∙ ap (λ i. i ∷ items (m .cell) (h .list (2 * n))) kept)) here)
       go mv k p (no q) = subst Sorted (sym (mv .items-x (2 * k) (λ z. omega arith) (λ z. q (omega arith)))) (h .sorted k p)
 
   -- one copy more of the item
   pub counted-push : (i : Item) → counted s m′ i ≡ counted s m i + pick (sameItem i (m .cell c .item)) 1 0
-  unfolding inChain copies held-push push-move
+  unfolding inChain among held-push push-move
   counted-push i =
-      let a = sum-but (inChain (m .cell) (h .list) i) (inChain (m′ .cell) (push-move .lists) i) (nodeCount s) n ln un
-      (λ x p q. ap (copies i) (push-move .items-x (2 * x) (λ z. omega arith) (λ z. q (omega arith)))) in
-      let b : inChain (m′ .cell) (push-move .lists) i n ≡ pick (sameItem i (m .cell c .item)) 1 0 + inChain (m .cell) (h .list) i n =
-      ap (copies i) (push-move .items-q) ∙ ap (λ j. pick (sameItem i j) 1 0 + copies i (items (m .cell) (h .list (2 * n)))) kept in
-      omega (arith, counts s m′ own′ held-push i, counts s m own h i, a, b)
+      let same = sameItem i in
+      let a = sum-but (inChain (m .cell) (h .list) same) (inChain (m′ .cell) (push-move .lists) same) (nodeCount s) n ln un
+      (λ x p q. ap (among same) (push-move .items-x (2 * x) (λ z. omega arith) (λ z. q (omega arith)))) in
+      let b : inChain (m′ .cell) (push-move .lists) same n ≡ pick (same (m .cell c .item)) 1 0 + inChain (m .cell) (h .list) same n =
+      ap (among same) (push-move .items-q) ∙ ap (λ j. pick (same j) 1 0 + among same (items (m .cell) (h .list (2 * n)))) kept in
+      omega (arith, counts s m′ own′ held-push same, counts s m own h same, a, b)
 
 -- A pop: the head c of the root's list goes to the front of the free chain.
 module _ (s : Shape) (m m′ : Shared) (own : ℕ → ℕ) (h : Held s m own) (c : ℕ) (root : 1 ≤ nodeCount s) (some : 1 ≤ c)
@@ -272,7 +287,8 @@ module _ (s : Shape) (m m′ : Shared) (own : ℕ → ℕ) (h : Held s m own) (c
     (elsewhere : (x : ℕ) → (x ≡ 1 → ⊥) → m′ .node x .first ≡ m .node x .first) where
   pop-move : Moved (m .cell) (m′ .cell) (heads (m′ .free) (m′ .node) own) (h .list) 2 0 c
   pop-move =
-      move (m .cell) (m′ .cell) (h .owner) (h .rank) (heads (m .free) (m .node) own) (heads (m′ .free) (m′ .node) own) (h .list) (h .chains)
+      move (m .cell) (m′ .cell) (h .owner) (h .rank) (heads (m .free) (m .node) own) (heads (m′ .free) (m′ .node) own) (h .list)
+      (h .chains)
       2 0 c (λ z. omega arith) some (head-node (m .free) (m .node) own 1 (omega arith) ∙ head) others
       (onto ∙ sym (head-free (m .free) (m .node) own))
       (head-node (m′ .free) (m′ .node) own 1 (omega arith) ∙ first) (head-free (m′ .free) (m′ .node) own ∙ free)
@@ -289,8 +305,10 @@ module _ (s : Shape) (m m′ : Shared) (own : ℕ → ℕ) (h : Held s m own) (c
         chains = mv .chained;
         sorted = λ k p. go mv k p (ℕ-discrete k 1);
         total =
-            let a = sum-but (λ k. length (h .list (2 * k))) (λ k. length (mv .lists (2 * k))) (nodeCount s) 1 (omega arith) root (λ x p q. mv .length-x (2 * x) (λ z. q (omega arith)) (λ z. omega arith)) in
-            let b = sum-same (λ u. length (h .list (2 * u + 1))) (λ u. length (mv .lists (2 * u + 1))) (s .threads) (λ k l u. mv .length-x (2 * k + 1) (λ z. omega arith) (λ z. omega arith)) in
+            let a = sum-but (nodeLength (h .list)) (nodeLength (mv .lists)) (nodeCount s) 1 (omega arith) root
+            (λ x p q. mv .length-x (2 * x) (λ z. q (omega arith)) (λ z. omega arith)) in
+            let b = sum-same (threadLength (h .list)) (threadLength (mv .lists)) (s .threads)
+            (λ k l u. mv .length-x (2 * k + 1) (λ z. omega arith) (λ z. omega arith)) in
             omega (arith, a, b, mv .length-q, mv .length-o, h .total);
       }
     where
@@ -303,13 +321,14 @@ module _ (s : Shape) (m m′ : Shared) (own : ℕ → ℕ) (h : Held s m own) (c
 
   -- one copy less of the item
   pub counted-pop : (i : Item) → counted s m i ≡ counted s m′ i + pick (sameItem i (m .cell c .item)) 1 0
-  unfolding inChain copies held-pop pop-move
+  unfolding inChain among held-pop pop-move
   counted-pop i =
-      let a = sum-but (inChain (m .cell) (h .list) i) (inChain (m′ .cell) (pop-move .lists) i) (nodeCount s) 1 (omega arith) root
-      (λ x p q. ap (copies i) (pop-move .items-x (2 * x) (λ z. q (omega arith)) (λ z. omega arith))) in
-      let b : inChain (m .cell) (h .list) i 1 ≡ pick (sameItem i (m .cell c .item)) 1 0 + inChain (m′ .cell) (pop-move .lists) i 1 =
-      ap (copies i) (pop-move .items-o) in
-      omega (arith, counts s m′ own held-pop i, counts s m own h i, a, b)
+      let same = sameItem i in
+      let a = sum-but (inChain (m .cell) (h .list) same) (inChain (m′ .cell) (pop-move .lists) same) (nodeCount s) 1 (omega arith) root
+      (λ x p q. ap (among same) (pop-move .items-x (2 * x) (λ z. q (omega arith)) (λ z. omega arith))) in
+      let b : inChain (m .cell) (h .list) same 1 ≡ pick (same (m .cell c .item)) 1 0 + inChain (m′ .cell) (pop-move .lists) same 1 =
+      ap (among same) (pop-move .items-o) in
+      omega (arith, counts s m′ own held-pop same, counts s m own h same, a, b)
 
 -- An exchange of the lists of nodes n and k.
 module _ (s : Shape) (m m′ : Shared) (own : ℕ → ℕ) (h : Held s m own) (n k : ℕ) (ln : 1 ≤ n) (un : n ≤ nodeCount s) (lk : 1 ≤ k)
@@ -336,12 +355,13 @@ module _ (s : Shape) (m m′ : Shared) (own : ℕ → ℕ) (h : Held s m own) (n
         rank = ex .ranks;
         list = ex .lists;
         chains = λ o.
-            subst (λ cell. Chain cell (ex .owners) (ex .ranks) o (heads (m′ .free) (m′ .node) own o) (ex .lists o)) (sym cells) (ex .chained o);
+            subst (λ cell. Chain cell (ex .owners) (ex .ranks) o (heads (m′ .free) (m′ .node) own o) (ex .lists o)) (sym cells)
+            (ex .chained o);
         sorted = λ x p. subst (λ cell. Sorted (items cell (ex .lists (2 * x)))) (sym cells) (go x p (ℕ-discrete x n) (ℕ-discrete x k));
         total =
-            let a = sum-exchange (λ x. length (h .list (2 * x))) (λ x. length (ex .lists (2 * x))) (nodeCount s) n k ln un lk uk apart
+            let a = sum-exchange (nodeLength (h .list)) (nodeLength (ex .lists)) (nodeCount s) n k ln un lk uk apart
             (ap length (ex .list-o)) (ap length (ex .list-q)) (λ x p q. ap length (list-x x p q)) in
-            let b = sum-same (λ u. length (h .list (2 * u + 1))) (λ u. length (ex .lists (2 * u + 1))) (s .threads)
+            let b = sum-same (threadLength (h .list)) (threadLength (ex .lists)) (s .threads)
             (λ u l q. ap length (ex .list-x (2 * u + 1) (λ z. omega arith) (λ z. omega arith))) in
             let z : length (ex .lists 0) ≡ length (h .list 0) = ap length (ex .list-x 0 (λ z. omega arith) (λ z. omega arith)) in
             omega (arith, a, b, z, h .total);
@@ -359,9 +379,12 @@ module _ (s : Shape) (m m′ : Shared) (own : ℕ → ℕ) (h : Held s m own) (n
   pub counted-exchange : (i : Item) → counted s m′ i ≡ counted s m i
   unfolding inChain sum held-exchange exchange-lists
   counted-exchange i =
-      counts s m′ own held-exchange i
-      ∙ ap (λ cell. sum (λ x. copies i (items cell (exchange-lists .lists (2 * x)))) (nodeCount s)) cells
-      ∙ sum-exchange (inChain (m .cell) (h .list) i) (inChain (m .cell) (exchange-lists .lists) i) (nodeCount s) n k ln un lk uk apart
-      (ap (λ l. copies i (items (m .cell) l)) (exchange-lists .list-o)) (ap (λ l. copies i (items (m .cell) l)) (exchange-lists .list-q))
-      (λ x p q. ap (λ l. copies i (items (m .cell) l)) (list-x x p q))
-      ∙ sym (counts s m own h i)
+      let same = sameItem i in
+      counts s m′ own held-exchange same
+      ∙ ap (λ cell. sum (λ x. among same (items cell (exchange-lists .lists (2 * x)))) (nodeCount s)) cells
+      ∙ sum-exchange (inChain (m .cell) (h .list) same) (inChain (m .cell) (exchange-lists .lists) same)
+      (nodeCount s) n k ln un lk uk apart
+      (ap (λ l. among same (items (m .cell) l)) (exchange-lists .list-o))
+      (ap (λ l. among same (items (m .cell) l)) (exchange-lists .list-q))
+      (λ x p q. ap (λ l. among same (items (m .cell) l)) (list-x x p q))
+      ∙ sym (counts s m own h same)

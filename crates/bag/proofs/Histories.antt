@@ -1,5 +1,6 @@
--- What every call and every served turn keeps holds along every history. P holds of a region and of what is known beside it, F says how the
--- latter follows at a moment: for demand 3 the ledger, for a thread with an empty permission list nothing. Assumes nothing.
+-- What every call and every served turn keeps holds along every history. P holds of a region and of what is known beside it, F
+-- says how the latter follows at a moment: for demand 3 the ledger, for a thread with an empty permission list nothing.
+-- Assumes nothing.
 use Prim.Native.Nat.{ℕ, _*_, _/_}
 use mathlib.Core.Path.{_≡_, refl, sym, subst, _∙_}
 use mathlib.Core.Bool.{Bool, true, false}
@@ -89,7 +90,8 @@ module _ {X : Type 0} (P : List ℕ → X → Type 0) (F : Told → X → X → 
     -- a call, and what comes behind it
     module _ (b : List ℕ) (x : X) (g : P b x) where
       run-call : (schedule : List ℕ) (limit : ℕ) (answers : List ℕ) (rest : List Moment)
-          → ((x′ : X) → P (after b (run schedule limit answers)) x′ → Kept x′ rest) → Kept x (callMoments b (run schedule limit answers) ++ rest)
+          → ((x′ : X) → P (after b (run schedule limit answers)) x′ → Kept x′ rest)
+          → Kept x (callMoments b (run schedule limit answers) ++ rest)
       unfolding callMoments after runResult
       run-call schedule limit answers rest k =
           let q = eqb (runRefusal b schedule (length answers)) done in
@@ -109,7 +111,8 @@ module _ {X : Type 0} (P : List ℕ → X → Type 0) (F : Told → X → X → 
           let e = refused-layout b y ps (h .0) in
           then x nothing (layoutBytes y ps b) rest (subst (Next x nothing) (sym e) (quiet x b g)) (λ x′ g′. k x′ g′ (h .1))
       call-kept (put t i) cs h rest k =
-          then x (pick (eqb (putRefusal b t i) done) (begunPut t i) nothing) (putBytes b t i) rest (put-next b x g t i) (λ x′ g′. k x′ g′ h)
+          then x (pick (eqb (putRefusal b t i) done) (begunPut t i) nothing) (putBytes b t i) rest (put-next b x g t i)
+          (λ x′ g′. k x′ g′ h)
       call-kept (take t) cs h rest k =
           then x (pick (eqb (takeRefusal b t) done) (begunTake t) nothing) (takeBytes b t) rest (take-next b x g t) (λ x′ g′. k x′ g′ h)
       call-kept (run schedule limit answers) cs h rest k = run-call schedule limit answers rest (λ x′ g′. k x′ g′ h)

@@ -1,5 +1,5 @@
--- A laid-out region, read as shared memory and threads' records: it is readable, every node is empty, the cells chain as free, and every thread
--- is idle with the permission that layout gave it. Assumes nothing.
+-- A laid-out region, read as shared memory and threads' records: it is readable, every node is empty, the cells chain as free,
+-- and every thread is idle with the permission that layout gave it. Assumes nothing.
 use Prim.Native.Nat.{ℕ, zero, suc, _+_, _-_, _*_, _/_, _%_, _≤_, _<_}
 use native.Mathlib.Decide.{decLt}
 use native.Mathlib.Omega.{arith}
@@ -21,14 +21,15 @@ use Rattle.region.specs.declared.record.Cell.{Cell}
 use Rattle.region.specs.declared.record.Item.{Item}
 use Rattle.region.specs.declared.record.Node.{Node}
 use Rattle.region.specs.declared.shape.Shape.{Shape}
+use Rattle.region.proofs.Picks.{pick-good}
 use Rattle.region.proofs.Shapes.{between-least, between-most, is-between}
 use Rattle.layout.specs.Layout.{layoutRefusal, layoutBytes, cellWord, threadWord}
 use Rattle.layout.proofs.Laws.{threadWord-rest}
 use Rattle.readable.proofs.Laws.{Good, good}
 use Rattle.queue.proofs.LaidOutIsReadable.{header, node-word, cell-word, thread-word, laid-out-is-readable, same-shape}
 use Rattle.machine.specs.Begin.{frameIn}
-use Rattle.preserved.proofs.PlansGood.{pick-good}
-use Rattle.bag.specs.Tree.{inList, inNodes, inTree}
+use Rattle.bag.specs.Tree.{inList, inNodes, inTree, sameItem}
+use Rattle.bag.proofs.Chains.{empty-list}
 
 -- the chain of free cells: behind cell c comes c + 1, and cell C, like a number that is no cell, ends it
 unfoldable pub nextFree : ℕ → ℕ → ℕ
@@ -85,17 +86,12 @@ permission-word ps i =
     rw (eq-eqb ((33 * i + 0) % 33) 0 (omega arith), q) refl
 
 -- empty nodes hold nothing
-empty-list : (m : Shared) (i : Item) (n : ℕ) → inList m i n 0 ≡ 0
-unfolding inList pick
-empty-list m i zero = refl
-empty-list m i (suc n) = refl
-
-empty-nodes : (m : Shared) (i : Item) (l : ℕ) → ((n : ℕ) → m .node n ≡ emptyNode) → (n : ℕ) → inNodes m i l n ≡ 0
+empty-nodes : (m : Shared) (test : Item → Bool) (l : ℕ) → ((n : ℕ) → m .node n ≡ emptyNode) → (n : ℕ) → inNodes m test l n ≡ 0
 unfolding inNodes
-empty-nodes m i l h zero = refl
-empty-nodes m i l h (suc n) =
-    let e : inList m i l (m .node (suc n) .first) ≡ 0 = ap (λ v. inList m i l (v .first)) (h (suc n)) ∙ empty-list m i l in
-    omega (arith, e, empty-nodes m i l h n)
+empty-nodes m test l h zero = refl
+empty-nodes m test l h (suc n) =
+    let e : inList m test l (m .node (suc n) .first) ≡ 0 = ap (λ v. inList m test l (v .first)) (h (suc n)) ∙ empty-list m test l in
+    omega (arith, e, empty-nodes m test l h n)
 
 module _ (s : Shape) (ps b : List ℕ) (e : layoutRefusal s ps (length b) ≡ done) where
   abbrev laid : List ℕ
@@ -174,4 +170,4 @@ module _ (s : Shape) (ps b : List ℕ) (e : layoutRefusal s ps (length b) ≡ do
   unfolding inTree
   laid-out-holds-nothing i =
       subst (λ x. inTree (frameOf x) laid i ≡ 0) (sym (same-shape s ps b e))
-      (empty-nodes (sharedIn (frameOf s) laid) i (frameOf s .shape .cells) laid-node (nodeCount (frameOf s .shape)))
+      (empty-nodes (sharedIn (frameOf s) laid) (sameItem i) (frameOf s .shape .cells) laid-node (nodeCount (frameOf s .shape)))

@@ -1,5 +1,5 @@
--- The statements of specs/Operations.antt on operations, from the ledger alone: where a thread's operation stands in the ledger says what was
--- told last of the thread, and how many deciding accesses may still come. Assumes nothing.
+-- The statements of specs/Operations.antt on operations, from the ledger alone: where a thread's operation stands in the ledger
+-- says what was told last of the thread, and how many deciding accesses may still come. Assumes nothing.
 use Prim.Native.Nat.{ℕ, _+_}
 use native.Mathlib.Omega.{arith}
 use mathlib.Core.Path.{_≡_, refl, sym, ap, subst, subst₃, fun-ext, _∙_}

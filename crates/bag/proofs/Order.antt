@@ -1,5 +1,6 @@
--- The order of the tree, for all depths together: a clean node's value is at most that of every node below it. Each effect keeps it. Nodes
--- are numbers, their values and marks functions; of the order of values only reflexivity and transitivity are used. Assumes nothing.
+-- The order of the tree, for all depths together: a clean node's value is at most that of every node below it. Each effect
+-- keeps it. Nodes are numbers, their values and marks functions; of the order of values only reflexivity and transitivity are
+-- used. Assumes nothing.
 use Prim.Native.Nat.{ℕ, zero, suc, _+_, _*_, _/_, _≤_}
 use native.Mathlib.Decide.{ℕ-discrete}
 use native.Mathlib.Omega.{arith}
@@ -71,7 +72,8 @@ module _ {Value : Type 0} (_≼_ : Value → Value → Type 0) (≼-refl : (v : 
         go (yes ea) (yes ex) = subst (λ u. val′ u ≼ val′ x) (sym (ea ∙ sym ex)) (≼-refl (val′ x))
         go (yes ea) (no nx) =
             subst (λ u. u ≼ val′ x) (sym (ap val′ ea ∙ ev))
-            (subst (λ u. v ≼ u) (sym (b x (omega (arith, p, above-le a x h)) nx)) (≼-trans v (val n) (val x) le (subst (λ u. val u ≼ val x) ea (ord a x p h clean))))
+            (subst (λ u. v ≼ u) (sym (b x (omega (arith, p, above-le a x h)) nx))
+            (≼-trans v (val n) (val x) le (subst (λ u. val u ≼ val x) ea (ord a x p h clean))))
         go (no na) (yes ex) =
             let q = above-parent a n (subst (Above a) ex h) na in
             let g = above-le a (n / 2) q in
@@ -86,7 +88,9 @@ module _ {Value : Type 0} (_≼_ : Value → Value → Type 0) (≼-refl : (v : 
         go : Dec (a ≡ 1) → Dec (x ≡ 1) → val′ a ≼ val′ x
         go (yes ea) d = absurd (let z = sym (ap dirty′ ea) ∙ c in omega arith)
         go (no na) (yes ex) = absurd (let g = above-le a x h in omega arith)
-        go (no na) (no nx) = subst₂ (λ u w. u ≼ w) (sym (b a p na)) (sym (b x (omega (arith, p, above-le a x h)) nx)) (ord a x p h (sym (bd a p na) ∙ c))
+        go (no na) (no nx) =
+            subst₂ (λ u w. u ≼ w) (sym (b a p na)) (sym (b x (omega (arith, p, above-le a x h)) nx))
+            (ord a x p h (sym (bd a p na) ∙ c))
 
     -- Node n becomes clean: its children are clean and no less.
     pub clean-ordered : (n : ℕ) → 1 ≤ n → ((x : ℕ) → val′ x ≡ val x) → But dirty dirty′ n
@@ -103,7 +107,8 @@ module _ {Value : Type 0} (_≼_ : Value → Value → Type 0) (≼-refl : (v : 
         go (yes e) = subst (λ u. val u ≼ val x) (sym e) (under (below-children n x (subst (λ u. Above u x) e h)))
         go (no na) = ord a x p h (sym (bd a p na) ∙ c)
 
-    -- Node n and its child k exchange values; n is clean and k dirty. The child and its sibling j were clean, the child least of the three.
+    -- Node n and its child k exchange values; n is clean and k dirty. The child and its sibling j were clean, the child least
+    -- of the three.
     module _ (n k j : ℕ) (pn : 1 ≤ n) (pk : k / 2 ≡ n) (ck : dirty k ≡ 0) (cj : dirty j ≡ 0)
         (kids : (x : ℕ) → Above n x → (n ≡ x) ⊎ (Above k x ⊎ Above j x)) (pj : 1 ≤ j) (lk : val k ≼ val n) (lj : val k ≼ val j)
         (vn : val′ n ≡ val k) (vk : val′ k ≡ val n) (vx : (x : ℕ) → (x ≡ n → ⊥) → (x ≡ k → ⊥) → val′ x ≡ val x)

@@ -1,5 +1,5 @@
--- Every plan of a thread in its place: its effect is one that the mound allows, what it tells fits the thread's operation, and the facts of
--- its next place hold; or the turn is refused 11 for a counter that is spent, and never 7. Assumes nothing.
+-- Every plan of a thread in its place: its effect is one that the mound allows, what it tells fits the thread's operation, and
+-- the facts of its next place hold; or the turn is refused 11 for a counter that is spent, and never 7. Assumes nothing.
 use Prim.Native.Nat.{ℕ, _+_, _-_, _*_, _/_, _^_, _≤_, _<_}
 use native.Mathlib.Decide.{decLt}
 use native.Mathlib.Nat.{div-le-self, le-div-iff-mul-le, mod-lt}
@@ -26,6 +26,7 @@ use Rattle.region.specs.declared.record.NodeCopy.{NodeCopy}
 use Rattle.region.specs.declared.shape.Shape.{Shape}
 use Rattle.region.specs.declared.thread.Thread.{Thread}
 use Rattle.region.proofs.Levels.{level-holds}
+use Rattle.region.proofs.Picks.{pick-good}
 use Rattle.region.proofs.Shapes.{and-left, and-right, and-both, is-between, sizes}
 use Rattle.access.specs.Order.{itemLe, itemLt, topItem, valueOf}
 use Rattle.access.specs.Plan.{plan, moved, onTo, refused}
@@ -41,7 +42,6 @@ use Rattle.extract.specs.Extract.{rootRead, readRoot, headRemoved, removeHead}
 use Rattle.moundify.specs.Moundify.{returnAnswer, returning, mendReadNode, depthRead, mendReadDepth, mendReadLeft, marked, childLess, childrenRead, mendReadRight, exchangeAt, bothSame, exchangeWith, mendSwap, cleanAt, mendClean}
 use Rattle.machine.specs.Turn.{decide, decideAt}
 use Rattle.readable.proofs.Stores.{PlaceGood, ThreadGood, WaitsAbove}
-use Rattle.preserved.proofs.PlansGood.{pick-good}
 use Rattle.preserved.proofs.TreeLevels.{fits, level-unique, twice}
 use Rattle.bag.specs.Ledger.{Operation, none, putting, taking, holding}
 use Rattle.bag.proofs.Effects.{Mound, PushAsks, PopAsks, ExchangeAsks, CleanAsks, in-tree}
@@ -65,7 +65,8 @@ pub data Speaks (m : Shared) (op op′ : Operation) : Effect → Answer → Type
   grows : {d : ℕ} → op′ ≡ op → Speaks m op op′ (Grow d) Moved
   swaps : {n k : ℕ} {v w : Node} → op′ ≡ op → Speaks m op op′ (Exchange n v k w) Moved
   cleans : {n : ℕ} {v : Node} → op′ ≡ op → Speaks m op op′ (Clean n v) Moved
-  inserts : {n c x : ℕ} {v : Node} (i : Item) → op ≡ putting i → m .cell c .item ≡ i → op′ ≡ none → Speaks m op op′ (Push n v c x) Inserted
+  inserts : {n c x : ℕ} {v : Node} (i : Item) → op ≡ putting i → m .cell c .item ≡ i → op′ ≡ none
+      → Speaks m op op′ (Push n v c x) Inserted
   removes : {v : Node} {c : ℕ} → op ≡ taking → op′ ≡ holding (m .cell c .item) → Speaks m op op′ (Pop v c) Moved
   empties : op ≡ taking → op′ ≡ none → m .node 1 .dirty ≡ 0 → m .node 1 .first ≡ 0 → Speaks m op op′ Nothing Empty
   answers : {i : Item} → op ≡ holding i → op′ ≡ none → Speaks m op op′ Nothing (Took i)
@@ -161,7 +162,8 @@ module _ (s : Shape) (r : InRange s) (m : Shared) (own : ℕ → ℕ) (g : Mound
   unfolding refused plan
   is-refused u = refuses refl refl
 
-  mends-on : (u : Thread) (n w : ℕ) → u .own ≡ th .own → Takes u (mendingFor (u .after) (u .result)) op → InTree m n → Fits (moved (mending u n w))
+  mends-on : (u : Thread) (n w : ℕ) → u .own ≡ th .own → Takes u (mendingFor (u .after) (u .result)) op → InTree m n
+      → Fits (moved (mending u n w))
   unfolding moved plan mending atPlace withNode
   mends-on u n w e h k = moves op tt (reads refl) e (h, k)
 
@@ -230,7 +232,8 @@ module _ (s : Shape) (r : InRange s) (m : Shared) (own : ℕ → ℕ) (g : Mound
           let q = readNode m leaf in
           pick-good Fits (isLevel s (th .depth))
           (λ a. pick-good Fits (itemLe (th .item) (valueOf q))
-          (λ b. search-planned (withFirst (withSearch th (searching leaf (th .search .tries) 1 (th .depth))) q) refl h (omega arith) (l .0)
+          (λ b. search-planned (withFirst (withSearch th (searching leaf (th .search .tries) 1 (th .depth))) q) refl h
+          (omega arith) (l .0)
           (omega (arith, leaf-level)) leaf-in-tree)
           (λ b. let u = withFirst (withSearch th (searching leaf (nextTries s th) (th .search .lo) (th .search .hi))) q in
           goes-on u (failedPlace s th) refl
@@ -255,19 +258,24 @@ module _ (s : Shape) (r : InRange s) (m : Shared) (own : ℕ → ℕ) (g : Mound
 
     middle-is : middleLevel th ≡ middle
     unfolding middleLevel pick middle
-    middle-is = rw (lt-ltb (th .search .lo) (th .search .hi) (x .below), le-leb middle (level (th .search .leaf)) (omega (arith, x .below, x .hi))) refl
+    middle-is =
+        rw
+        (lt-ltb (th .search .lo) (th .search .hi) (x .below), le-leb middle (level (th .search .leaf)) (omega (arith, x .below, x .hi)))
+        refl
 
     ancestor-planned : Fits (readAncestor m th)
     unfolding readAncestor ancestorRead withFirst withCopies withSearch middle
     ancestor-planned =
-        pick-good Fits (eqb (middleLevel th) 0) (λ e. absurd (let z = eqb-true (middleLevel th) 0 e in omega (arith, z, middle-is, x .lo, x .below)))
+        pick-good Fits (eqb (middleLevel th) 0)
+        (λ e. absurd (let z = eqb-true (middleLevel th) 0 e in omega (arith, z, middle-is, x .lo, x .below)))
         (λ e. let q = readNode m (ancestor (th .search .leaf) (middleLevel th)) in
         let leaf = th .search .leaf in
         let tries = th .search .tries in
         pick-good (λ z. Fits (searchOn th (withFirst (withSearch th z) q))) (itemLe (th .item) (valueOf q))
         (λ a. search-planned (withFirst (withSearch th (searching leaf tries (th .search .lo) (middleLevel th))) q) refl h (x .lo)
         (omega (arith, middle-is, x .below)) (omega (arith, middle-is, x .below, x .hi)) (x .leaf))
-        (λ a. search-planned (withFirst (withSearch th (searching leaf tries (middleLevel th + 1) (th .search .hi))) q) refl h (omega arith)
+        (λ a. search-planned (withFirst (withSearch th (searching leaf tries (middleLevel th + 1) (th .search .hi))) q) refl h
+        (omega arith)
         (omega (arith, middle-is, x .below)) (x .hi) (x .leaf)))
 
   -- I5
@@ -323,7 +331,8 @@ module _ (s : Shape) (r : InRange s) (m : Shared) (own : ℕ → ℕ) (g : Mound
       (λ e. insert-planned h 1 root-in-tree a (sameNode (m .node 1) (th .copies .first .node)) (λ x. x) (λ x l. absurd (omega arith)))
 
   -- I7
-  parent-planned : Puts m th op → InTree m (th .node) → 2 ≤ th .node → Target m (th .node) (th .item) (th .copies .first) → Fits (readParent m th)
+  parent-planned : Puts m th op → InTree m (th .node) → 2 ≤ th .node → Target m (th .node) (th .item) (th .copies .first)
+      → Fits (readParent m th)
   unfolding readParent withSecond withCopies
   parent-planned h k l a =
       let q = readNode m (th .node / 2) in
@@ -338,9 +347,11 @@ module _ (s : Shape) (r : InRange s) (m : Shared) (own : ℕ → ℕ) (g : Mound
   unfolding insertBelow
   below-planned h k l a b =
       pick-good Fits (ltb (th .node) 2 || eqb (th .own) 0)
-      (λ e. absurd (true≢false (sym e ∙ neither (ltb (th .node) 2) (eqb (th .own) 0) (le-ltb (th .node) 2 l) (ne-eqb (th .own) 0 (λ z. omega (arith, z, h .some))))))
+      (λ e. absurd (true≢false (sym e
+      ∙ neither (ltb (th .node) 2) (eqb (th .own) 0) (le-ltb (th .node) 2 l) (ne-eqb (th .own) 0 (λ z. omega (arith, z, h .some))))))
       (λ e. insert-planned h (th .node) k a (nodeAndParent m th) (node-same m th)
-      (λ z w. subst (λ i. AtMost i (th .item)) (sym (ap valueOf (found (th .node / 2) (th .copies .second) (b .sound) (parent-same m th z)))) (b .most)))
+      (λ z w. subst (λ i. AtMost i (th .item))
+      (sym (ap valueOf (found (th .node / 2) (th .copies .second) (b .sound) (parent-same m th z)))) (b .most)))
     where
       neither : (p q : Bool) → p ≡ false → q ≡ false → p || q ≡ false
       neither true q e z = e
@@ -354,7 +365,8 @@ module _ (s : Shape) (r : InRange s) (m : Shared) (own : ℕ → ℕ) (g : Mound
       pick-good Fits (isDirty (q .node))
       (λ e. mends-on (withAfter (withFirst th q) 0) 1 0 refl h root-in-tree)
       (λ e. pick-good Fits (eqb (q .node .first) 0)
-      (λ z. moves none tt (empties (h .operation) refl (is-clean (q .node) e) (eqb-true (q .node .first) 0 z)) (sym (h .none)) (refl, refl))
+      (λ z. moves none tt (empties (h .operation) refl (is-clean (q .node) e) (eqb-true (q .node .first) 0 z)) (sym (h .none))
+      (refl, refl))
       (λ z. let ne = eqb-false (q .node .first) 0 z in
       goes-on (withFirst th q) RemoveHead refl (h, record { sound = sound-read m 1; clean = is-clean (q .node) e; some = omega arith })))
 
@@ -399,7 +411,8 @@ module _ (s : Shape) (r : InRange s) (m : Shared) (own : ℕ → ℕ) (g : Mound
         for a ea = h .0 .operation ∙ ap (λ x. pick x taking (holding (u .result))) ea
 
         go : (q : Bool) → eqb w 0 ≡ q → (a : Bool) → eqb (u .after) 0 ≡ a
-            → Fits (plan e (pick q (pick a (atPlace u ReadRoot) (goneIdle u)) (mending u (ancestor (u .node) (level w)) (w - mark (level w))))
+            → Fits (plan e (pick q (pick a (atPlace u ReadRoot) (goneIdle u))
+            (mending u (ancestor (u .node) (level w)) (w - mark (level w))))
             (pick (q && not a) (Took (u .result)) Moved))
         go true eq true ea =
             moves op al (quiet op refl) (ow (u .own) eo)
@@ -498,7 +511,8 @@ module _ (s : Shape) (r : InRange s) (m : Shared) (own : ℕ → ℕ) (g : Mound
       stays-by false q true e = (λ z. absurd (true≢false (sym z)), λ z. refl)
       stays-by false q false e = absurd (true≢false e)
 
-      swappable : u .copies .second .node .dirty ≡ 0 → u .copies .third .node .dirty ≡ 0 → childLess u ≡ true → Swappable m (u .node) (u .copies)
+      swappable : u .copies .second .node .dirty ≡ 0 → u .copies .third .node .dirty ≡ 0 → childLess u ≡ true
+          → Swappable m (u .node) (u .copies)
       unfolding childLess itemLt
       swappable cl cr e =
           let b = swaps-by (itemLe x₂ x₃) (itemLe x₁ x₂) (itemLe x₁ x₃) e in
@@ -618,8 +632,8 @@ module _ (s : Shape) (r : InRange s) (m : Shared) (own : ℕ → ℕ) (g : Mound
         let l = th .copies .second in
         let k = th .copies .third in
         pick-good Fits (itemLe (valueOf l) (valueOf k))
-        (λ e. exchange-planned h a (2 * n) (2 * n + 1) l k (omega arith) (omega arith) (omega arith) (λ x z. below-children n x z) (b .left) (b .right)
-        (b .clean-left) (b .clean-right) (b .less-left e) e)
+        (λ e. exchange-planned h a (2 * n) (2 * n + 1) l k (omega arith) (omega arith) (omega arith)
+        (λ x z. below-children n x z) (b .left) (b .right) (b .clean-left) (b .clean-right) (b .less-left e) e)
         (λ e. exchange-planned h a (2 * n + 1) (2 * n) k l (omega arith) (omega arith) (omega (arith, h .1 .0))
         (λ x z. turned (below-children n x z)) (b .right) (b .left) (b .clean-right) (b .clean-left) (b .less-right e)
         (item-total (valueOf l) (valueOf k) e))
@@ -630,7 +644,8 @@ module _ (s : Shape) (r : InRange s) (m : Shared) (own : ℕ → ℕ) (g : Mound
         turned (inr (inr p)) = inr (inl p)
 
     -- M6
-    clean-planned : Mends m th op → Dirty m (th .node) (th .copies .first) → Mended m (th .node) (th .copies .first) → Fits (mendClean m th w)
+    clean-planned : Mends m th op → Dirty m (th .node) (th .copies .first) → Mended m (th .node) (th .copies .first)
+        → Fits (mendClean m th w)
     unfolding mendClean cleanAt
     clean-planned h a b =
         let n = th .node in

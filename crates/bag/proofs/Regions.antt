@@ -1,5 +1,5 @@
 -- The invariant on the bytes of a region: a turn and the two beginnings keep it, and the ledger follows what they tell. Assumes nothing.
-use Prim.Native.Nat.{ℕ, _-_, _≤_, _<_, _^_}
+use Prim.Native.Nat.{ℕ, _≤_, _<_, _^_}
 use native.Mathlib.Decide.{ℕ-discrete}
 use native.Mathlib.Omega.{arith}
 use mathlib.Core.Path.{_≡_, refl, sym, ap, subst, subst₂, fun-ext, _∙_}
@@ -24,6 +24,7 @@ use Rattle.region.specs.declared.record.Item.{Item}
 use Rattle.region.specs.declared.shape.Shape.{Shape}
 use Rattle.region.specs.declared.thread.Thread.{Thread}
 use Rattle.region.proofs.Frames.{frame-parted}
+use Rattle.region.proofs.Picks.{upd-same, upd-other}
 use Rattle.region.proofs.Shapes.{and-left, between-least, between-most, sizes}
 use Rattle.region.proofs.Views.{length-setCellIn, shared-setCell, shared-setFree, shared-setThread, threads-setCell, threads-setFree, threads-setThread}
 use Rattle.access.specs.Effect.{effectShared}
@@ -43,7 +44,6 @@ use Rattle.preserved.proofs.Proved.{begun-put-good, begun-take-good, free-few, 
 use Rattle.bag.specs.History.{Told, nothing, begunPut as toldPut, begunTake as toldTake, answerTells, effectTells, turnTells}
 use Rattle.bag.specs.Ledger.{Operation, none, putting, taking, Ledger, Follows, still, put-begins, take-begins}
 use Rattle.bag.proofs.Carried.{turn-decides, turn-shared, turn-stays, turn-threads}
-use Rattle.bag.proofs.Cells.{upd-same, upd-other}
 use Rattle.bag.proofs.Effects.{Mound, begin-counts, begin-keeps, rely-same}
 use Rattle.bag.proofs.Facts.{At}
 use Rattle.bag.proofs.Histories.{Next}
@@ -83,7 +83,8 @@ module _ (s : Shape) (b : List ℕ) (l : Ledger) (g : Region s b l) where
       → Planned s m (owns th) t (th t .own) (l .operation t) (turnPlan (frameOf s) b t c)
   plan-fits t c lt ut =
       subst (Planned s m (owns th) t (th t .own) (l .operation t)) (sym (turn-decides s b t c lt ut))
-      (planned s (g .good .range) m (owns th) (g .holds .mound) t (th t) refl (l .operation t) (good-thread s b (g .good) t) (g .holds .at t) c)
+      (planned s (g .good .range) m (owns th) (g .holds .mound) t (th t) refl (l .operation t) (good-thread s b (g .good) t)
+      (g .holds .at t) c)
 
   -- a turn that changes nothing tells nothing
   module _ (t c : ℕ) where
@@ -127,7 +128,8 @@ module _ (s : Shape) (b : List ℕ) (l : Ledger) (g : Region s b l) where
                 record {
                   good = turn-good s b (g .good) t c;
                   holds =
-                      subst₂ (λ x y. Invariant s x y (st .after)) (sym (turn-shared s b t c (g .good) e)) (sym (turn-threads s b t c (g .good) e)) inv;
+                      subst₂ (λ x y. Invariant s x y (st .after)) (sym (turn-shared s b t c (g .good) e))
+                      (sym (turn-threads s b t c (g .good) e)) inv;
                 };
           }
 
@@ -145,7 +147,8 @@ module _ (s : Shape) (b : List ℕ) (l : Ledger) (g : Region s b l) where
     unfolding p refused plan
     turn-step = go (between 1 t (s .threads)) refl
       where
-        go : (q : Bool) → between 1 t (s .threads) ≡ q → Follow s l (effectTells (frameOf s) b t (p .answer) (p .effect)) (turnBytes (frameOf s) b t c)
+        go : (q : Bool) → between 1 t (s .threads) ≡ q
+            → Follow s l (effectTells (frameOf s) b t (p .answer) (p .effect)) (turnBytes (frameOf s) b t c)
         go true e =
             let lt = between-least 1 t (s .threads) e in
             let ut = between-most 1 t (s .threads) e in
@@ -205,7 +208,8 @@ module _ (s : Shape) (b : List ℕ) (l : Ledger) (g : Region s b l) (t : ℕ) (l
       where
         go : (u : ℕ) → Dec (u ≡ t) → upd (th s b l g) t taker u .own ≡ th s b l g u .own
         go u (yes e) =
-            ap (λ y. upd (th s b l g) t taker y .own) e ∙ ap (λ y. y .own) (upd-same (th s b l g) t taker) ∙ ap (λ y. th s b l g y .own) (sym e)
+            ap (λ y. upd (th s b l g) t taker y .own) e ∙ ap (λ y. y .own) (upd-same (th s b l g) t taker)
+            ∙ ap (λ y. th s b l g y .own) (sym e)
         go u (no n) = ap (λ y. y .own) (upd-other (th s b l g) t u taker n)
 
     abbrev takes : Ledger
@@ -278,7 +282,8 @@ module _ (s : Shape) (b : List ℕ) (l : Ledger) (g : Region s b l) (t : ℕ) (l
     put-threads : threadIn (frameOf s) (putBegun (frameOf s) b t i) ≡ upd (th s b l g) t putter
     unfolding putBegun frameOf
     put-threads =
-        threads-setThread (frameOf s) (setCellIn (frameOf s) (setWord b (frameOf s .free) next) c mine) within-cell (frame-parted s) t putter lt ut
+        threads-setThread (frameOf s) (setCellIn (frameOf s) (setWord b (frameOf s .free) next) c mine) within-cell
+        (frame-parted s) t putter lt ut
         (thread-fit s (g .good .range) putter
         (begun-put-good s (th s b l g t) (good-thread s b (g .good) t) i (omega arith) tag c few))
         ∙ ap (λ y. upd y t putter)
@@ -302,12 +307,14 @@ module _ (s : Shape) (b : List ℕ) (l : Ledger) (g : Region s b l) (t : ℕ) (l
         let ended : begun .cell c .next ≡ 0 = ap (λ y. y .next) (upd-same (m s b l g .cell) c mine) in
         record {
           keeps =
-              begin-keeps s (m s b l g) begun (owns (th s b l g)) (owns (upd (th s b l g) t putter)) (g .holds .mound) t c lt ut (omega arith) refl
+              begin-keeps s (m s b l g) begun (owns (th s b l g)) (owns (upd (th s b l g) t putter)) (g .holds .mound) t c lt ut
+              (omega arith) refl
               (at-rest .1) elsewhere ended refl refl refl own-now still-own;
           others = λ u n. upd-other (l .operation) t u (putting i) n;
           now = upd-same (l .operation) t (putting i);
           bag = λ j. g .holds .bag j ∙ sym
-              (begin-counts s (m s b l g) begun (owns (th s b l g)) (owns (upd (th s b l g) t putter)) (g .holds .mound) t c lt ut (omega arith) refl
+              (begin-counts s (m s b l g) begun (owns (th s b l g)) (owns (upd (th s b l g) t putter))
+              (g .holds .mound) t c lt ut (omega arith) refl
               (at-rest .1) elsewhere ended refl refl refl own-now still-own j);
         }
 

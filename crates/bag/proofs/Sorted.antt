@@ -14,7 +14,7 @@ use Rattle.region.proofs.Shapes.{and-left, and-right, and-both}
 use Rattle.access.specs.Order.{itemLe, topItem}
 use Rattle.access.proofs.OrderLaws.{item-refl, item-total, item-trans}
 use Rattle.bag.specs.Tree.{sameItem}
-use Rattle.bag.proofs.Chains.{Chain, ends, link, copies, items}
+use Rattle.bag.proofs.Chains.{Chain, ends, link, among, items}
 
 -- a is at most b
 abbrev pub AtMost : Item → Item → Type 0
@@ -48,12 +48,12 @@ pub item-same : (i : Item) → sameItem i i ≡ true
 unfolding sameItem
 item-same i = and-both (eq-eqb (i .key) (i .key) refl) (eq-eqb (i .tag) (i .tag) refl)
 
-from-all : (v j : Item) (is : List Item) → AllFrom v is → 1 ≤ copies j is → AtMost v j
-unfolding copies pick
+from-all : (v j : Item) (is : List Item) → AllFrom v is → 1 ≤ among (sameItem j) is → AtMost v j
+unfolding among pick
 from-all v j [] a h = absurd (omega arith)
 from-all v j (i ∷ is) a h = go (sameItem j i) refl h (from-all v j is (a .1))
   where
-    go : (q : Bool) → sameItem j i ≡ q → 1 ≤ pick q 1 0 + copies j is → (1 ≤ copies j is → AtMost v j) → AtMost v j
+    go : (q : Bool) → sameItem j i ≡ q → 1 ≤ pick q 1 0 + among (sameItem j) is → (1 ≤ among (sameItem j) is → AtMost v j) → AtMost v j
     go true e k r = subst (AtMost v) (sym (same-item j i e)) (a .0)
     go false e k r = r (omega arith)
 
@@ -61,39 +61,40 @@ from-all v j (i ∷ is) a h = go (sameItem j i) refl h (from-all v j is (a .1))
 abbrev pub valueAt : (ℕ → Cell) → ℕ → Item
 valueAt cell c = pick (eqb c 0) topItem (cell c .item)
 
-module _ (cell : ℕ → Cell) (own rank : ℕ → ℕ) (o : ℕ) where
+module _ {cell : ℕ → Cell} {own rank : ℕ → ℕ} {o : ℕ} where
   -- what is at most the head is at most every item
-  pub from-head : (c : ℕ) (cs : List ℕ) → Chain cell own rank o c cs → Sorted (items cell cs) → (v : Item) → AtMost v (valueAt cell c)
-      → AllFrom v (items cell cs)
+  pub from-head : {c : ℕ} {cs : List ℕ} → Chain cell own rank o c cs → Sorted (items cell cs) → (v : Item)
+      → AtMost v (valueAt cell c) → AllFrom v (items cell cs)
   unfolding items pick
-  from-head c cs ends h v l = tt
-  from-head c cs (link d {cs = ds} p eo er k) h v l =
+  from-head ends h v l = tt
+  from-head (link d {cs = ds} p eo er k) h v l =
       let m : AtMost v (cell d .item) = subst (λ q. AtMost v (pick q topItem (cell d .item))) (ne-eqb d 0 (λ z. omega arith)) l in
       (m, all-from v (cell d .item) (items cell ds) m (h .1))
 
   -- the head is at most every item of the list
-  pub head-least : (c : ℕ) (cs : List ℕ) → Chain cell own rank o c cs → Sorted (items cell cs) → (j : Item) → 1 ≤ copies j (items cell cs)
-      → AtMost (valueAt cell c) j
-  head-least c cs k h j l =
-      from-all (valueAt cell c) j (items cell cs) (from-head c cs k h (valueAt cell c) (item-refl (valueAt cell c))) l
+  pub head-least : {c : ℕ} {cs : List ℕ} → Chain cell own rank o c cs → Sorted (items cell cs) → (j : Item)
+      → 1 ≤ among (sameItem j) (items cell cs) → AtMost (valueAt cell c) j
+  head-least {c} {cs} k h j l =
+      from-all (valueAt cell c) j (items cell cs) (from-head k h (valueAt cell c) (item-refl (valueAt cell c))) l
 
   -- a list that holds anything has a proper head
-  pub head-proper : (c : ℕ) (cs : List ℕ) → Chain cell own rank o c cs → Sorted (items cell cs) → (j : Item) → 1 ≤ copies j (items cell cs)
-      → Proper (valueAt cell c)
-  unfolding items copies pick
-  head-proper c cs ends h j l = absurd (omega arith)
-  head-proper c cs (link d {cs = ds} p eo er k) h j l =
+  pub head-proper : {c : ℕ} {cs : List ℕ} → Chain cell own rank o c cs → Sorted (items cell cs) → (j : Item)
+      → 1 ≤ among (sameItem j) (items cell cs) → Proper (valueAt cell c)
+  unfolding items among pick
+  head-proper ends h j l = absurd (omega arith)
+  head-proper (link d {cs = ds} p eo er k) h j l =
       subst (λ q. Proper (pick q topItem (cell d .item))) (sym (ne-eqb d 0 (λ z. omega arith))) (h .0)
 
   -- the head is counted
-  pub head-counted : (c : ℕ) (cs : List ℕ) → Chain cell own rank o c cs → 1 ≤ c → 1 ≤ copies (cell c .item) (items cell cs)
-  unfolding items copies pick
-  head-counted c cs ends l = absurd (omega arith)
-  head-counted c cs (link d {cs = ds} p eo er k) l = rw (item-same (cell d .item)) (omega arith)
+  pub head-counted : {c : ℕ} {cs : List ℕ} → Chain cell own rank o c cs → 1 ≤ c → 1 ≤ among (sameItem (cell c .item)) (items cell cs)
+  unfolding items among pick
+  head-counted ends l = absurd (omega arith)
+  head-counted (link d {cs = ds} p eo er k) l = rw (item-same (cell d .item)) (omega arith)
 
   -- no value is above that of an empty list
-  pub top-value : (c : ℕ) (cs : List ℕ) → Chain cell own rank o c cs → Sorted (items cell cs) → AtMost (valueAt cell c) topItem
+  pub top-value : {c : ℕ} {cs : List ℕ} → Chain cell own rank o c cs → Sorted (items cell cs) → AtMost (valueAt cell c) topItem
   unfolding items pick
-  top-value c cs ends h = item-refl topItem
-  top-value c cs (link d {cs = ds} p eo er k) h =
-      subst (λ q. AtMost (pick q topItem (cell d .item)) topItem) (sym (ne-eqb d 0 (λ z. omega arith))) (item-total topItem (cell d .item) (h .0))
+  top-value ends h = item-refl topItem
+  top-value (link d {cs = ds} p eo er k) h =
+      subst (λ q. AtMost (pick q topItem (cell d .item)) topItem) (sym (ne-eqb d 0 (λ z. omega arith)))
+      (item-total topItem (cell d .item) (h .0))

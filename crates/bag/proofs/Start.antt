@@ -1,4 +1,5 @@
--- The invariant holds of a laid-out region with the empty ledger: every cell is free, every node empty, every thread idle. Assumes nothing.
+-- The invariant holds of a laid-out region with the empty ledger: every cell is free, every node empty, every thread idle.
+-- Assumes nothing.
 use Prim.Native.Nat.{ℕ, zero, suc, _+_, _-_, _*_, _/_, _%_, _≤_}
 use native.Mathlib.Decide.{ℕ-discrete}
 use native.Mathlib.Omega.{arith}
@@ -24,11 +25,12 @@ use Rattle.access.specs.Read.{readNode}
 use Rattle.access.proofs.OrderLaws.{item-refl}
 use Rattle.layout.specs.Layout.{layoutRefusal, layoutBytes}
 use Rattle.bag.specs.Ledger.{emptyLedger, none}
-use Rattle.bag.proofs.Chains.{Chain, ends, link, copies, items}
+use Rattle.bag.specs.Tree.{sameItem}
+use Rattle.bag.proofs.Chains.{Chain, ends, link, among, items}
 use Rattle.bag.proofs.Counts.{inChain}
 use Rattle.bag.proofs.Effects.{Mound}
 use Rattle.bag.proofs.Facts.{At}
-use Rattle.bag.proofs.Held.{Held, counted, counts, head-free, heads, val}
+use Rattle.bag.proofs.Held.{Held, nodeLength, threadLength, counted, counts, head-free, heads, val}
 use Rattle.bag.proofs.LaidOut.{laid-cell, laid-depth, laid-free, laid-good, laid-no-thread, laid-node, laid-thread, next-in-chain, next-past, nextFree}
 use Rattle.bag.proofs.Regions.{Region}
 use Rattle.bag.proofs.Sorted.{AtMost, Sorted, valueAt}
@@ -118,7 +120,8 @@ module _ (s : Shape) (ps b : List ℕ) (e : layoutRefusal s ps (length b) ≡ do
 
       go : Dec (o ≡ 0) → Chain (m .cell) (λ c. 0) (λ c. s .cells - c) o (heads (m .free) (m .node) (owns th) o) (listed (s .cells) o)
       go (yes z) =
-          subst (λ y. Chain (m .cell) (λ c. 0) (λ c. s .cells - c) y (heads (m .free) (m .node) (owns th) y) (listed (s .cells) y)) (sym z)
+          subst (λ y. Chain (m .cell) (λ c. 0) (λ c. s .cells - c) y (heads (m .free) (m .node) (owns th) y)
+          (listed (s .cells) y)) (sym z)
           (subst₂ (λ h l. Chain (m .cell) (λ c. 0) (λ c. s .cells - c) 0 h l)
           (start (s .cells) range ∙ sym (head-free (m .free) (m .node) (owns th) ∙ laid-free s ps b e)) (sym (listed-free (s .cells)))
           (free-chain (m .cell) (s .cells) (λ c. ap (λ x. x .next) (laid-cell s ps b e c)) (s .cells) 1 (omega arith) (omega arith)))
@@ -138,8 +141,9 @@ module _ (s : Shape) (ps b : List ℕ) (e : layoutRefusal s ps (length b) ≡ do
         chains = all-chains;
         sorted = λ n p. subst (λ l. Sorted (items (m .cell) l)) (sym (none-at n p)) tt;
         total =
-            let a = sum-zero (λ n. length (listed (s .cells) (2 * n))) (nodeCount s) (λ k l u. ap length (none-at k l)) in
-            let c = sum-zero (λ t. length (listed (s .cells) (2 * t + 1))) (s .threads) (λ k l u. ap length (listed-none (s .cells) (2 * k + 1) (λ z. omega arith))) in
+            let a = sum-zero (nodeLength (listed (s .cells))) (nodeCount s) (λ k l u. ap length (none-at k l)) in
+            let c = sum-zero (threadLength (listed (s .cells))) (s .threads)
+            (λ k l u. ap length (listed-none (s .cells) (2 * k + 1) (λ z. omega arith))) in
             let f : length (listed (s .cells) 0) ≡ s .cells = ap length (listed-free (s .cells)) ∙ length-from 1 (s .cells) in
             omega (arith, a, c, f);
       }
@@ -159,11 +163,12 @@ module _ (s : Shape) (ps b : List ℕ) (e : layoutRefusal s ps (length b) ≡ do
       }
 
   empty : (i : Item) → 0 ≡ counted s m i
-  unfolding inChain items copies held
+  unfolding inChain items among held
   empty i =
       sym
-      (counts s m (owns th) held i
-      ∙ sum-zero (inChain (m .cell) (listed (s .cells)) i) (nodeCount s) (λ k l u. ap (λ l. copies i (items (m .cell) l)) (none-at k l)))
+      (counts s m (owns th) held (sameItem i)
+      ∙ sum-zero (inChain (m .cell) (listed (s .cells)) (sameItem i)) (nodeCount s)
+      (λ k l u. ap (λ l. among (sameItem i) (items (m .cell) l)) (none-at k l)))
 
   pub laid-region : Region s laid emptyLedger
   laid-region =

@@ -14,6 +14,7 @@ use Rattle.region.specs.declared.frame.Frame.{Frame}
 use Rattle.region.specs.declared.record.Item.{Item}
 use Rattle.region.specs.declared.shape.Shape.{Shape}
 use Rattle.region.specs.declared.thread.Thread.{Thread}
+use Rattle.region.proofs.Picks.{upd-same, upd-other}
 use Rattle.access.specs.Effect.{effectShared}
 use Rattle.access.specs.Order.{topItem, valueOf}
 use Rattle.access.specs.Read.{readNode}
@@ -23,7 +24,6 @@ use Rattle.access.proofs.OrderLaws.{item-key, item-trans}
 use Rattle.bag.specs.History.{effectTells}
 use Rattle.bag.specs.Ledger.{Operation, none, holding, Ledger, Follows, still, put-decides, take-decides, empty-decides, take-answers, oneMore, oneLess}
 use Rattle.bag.specs.Tree.{sameItem}
-use Rattle.bag.proofs.Cells.{upd-same, upd-other}
 use Rattle.bag.proofs.Effects.{Keeps, Mound, in-tree, root-there, value-there, rely-same, grow-keeps, grow-counts, push-keeps, push-counts, pop-keeps, pop-counts, pop-own, exchange-keeps, exchange-counts, clean-keeps, clean-counts}
 use Rattle.bag.proofs.Facts.{At, stays}
 use Rattle.bag.proofs.Held.{val, counted, held-by, head-held}
@@ -131,7 +131,8 @@ module _ (s : Shape) (f : Frame) (b : List ℕ) (own own′ : ℕ → ℕ) (l : 
   -- an effect that moves no cell: the operation stays, or changes with the count as it is
   quiet : (e : Effect) (l′ : Ledger) (op′ : Operation) → own′ t ≡ own t → Keeps s m (effectShared m e) own own t
       → ((i : Item) → counted s (effectShared m e) i ≡ counted s m i) → ((i : Item) → l′ .bag i ≡ l .bag i)
-      → ((u : ℕ) → (u ≡ t → ⊥) → l′ .operation u ≡ l .operation u) → l′ .operation t ≡ op′ → Stepped s m (effectShared m e) own own′ l l′ t op′
+      → ((u : ℕ) → (u ≡ t → ⊥) → l′ .operation u ≡ l .operation u) → l′ .operation t ≡ op′
+      → Stepped s m (effectShared m e) own own′ l l′ t op′
   quiet e l′ op′ eo keeps counts same others now =
       record {
         keeps = subst (λ o. Keeps s m (effectShared m e) own o t) (sym (same-own eo)) keeps;
@@ -213,7 +214,8 @@ module _ (s : Shape) (f : Frame) (b : List ℕ) (own own′ : ℕ → ℕ) (l : 
         record {
           after = record { bag = oneLess (l .bag) i; operation = upd (l .operation) t (holding i) };
           follows = take-decides (is ∙ eo) (subst (λ k. 1 ≤ k) (sym (bag i)) (root-held s m own g (omega (arith, al .head, al .cell))))
-              (λ j h. item-key i j (root-below s m own g (al .clean) (omega (arith, al .head, al .cell)) j (subst (λ k. 1 ≤ k) (bag j) h)));
+              (λ j h. item-key i j (root-below s m own g (al .clean) (omega (arith, al .head, al .cell)) j
+              (subst (λ k. 1 ≤ k) (bag j) h)));
           stepped =
               record {
                 keeps = subst (λ o. Keeps s m (effectShared m (Pop v c)) own o t) (sym (same-own ow)) (pop-keeps s m own g v c al t);
@@ -250,8 +252,8 @@ module _ (s : Shape) (f : Frame) (b : List ℕ) (own own′ : ℕ → ℕ) (l : 
           after = later none;
           follows = take-answers (is ∙ eo);
           stepped =
-              quiet (Clean n v) (later none) op′ ow (clean-keeps s m own g n v al t) (clean-counts s m own g n v al) (λ j. refl) (λ u y. upd-other (l .operation) t u none y)
-              (upd-same (l .operation) t none ∙ sym en);
+              quiet (Clean n v) (later none) op′ ow (clean-keeps s m own g n v al t) (clean-counts s m own g n v al) (λ j. refl)
+              (λ u y. upd-other (l .operation) t u none y) (upd-same (l .operation) t none ∙ sym en);
           mine = λ p. refl;
         }
 

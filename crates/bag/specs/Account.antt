@@ -1,15 +1,14 @@
--- Where the cells are: in the tree, with a put that is begun and not answered, or in the free chain. These are all C, so a put that nothing
--- else refuses is refused 10 exactly when tree and begun puts hold all C. Proved in proofs/Account.antt.
+-- Where the cells are: in the tree, with a put that is begun and not answered, or in the free chain. These are all C, so a put
+-- that nothing else refuses is refused 10 exactly when tree and begun puts hold all C. Proved in proofs/Account.antt.
 use Prim.Native.Nat.{ℕ, zero, suc, _+_}
 use mathlib.Core.Path.{_≡_}
 use mathlib.Core.Bool.{Bool, true}
 use mathlib.Core.List.{List}
-use lib.Dec.{eqb}
 use Rattle.region.specs.Answer.{done, noFreeCell}
 use Rattle.region.specs.Pick.{pick}
 use Rattle.region.specs.Place.{placeNumber}
 use Rattle.region.specs.Shape.{between, nodeCount}
-use Rattle.region.specs.Shared.{Shared, sharedIn, threadIn}
+use Rattle.region.specs.Shared.{sharedIn, threadIn}
 use Rattle.region.specs.declared.frame.Frame.{Frame}
 use Rattle.region.specs.declared.place.Place.{Place}
 use Rattle.region.specs.declared.place.Place.the-variants.{ReadDepth, InsertBelow}
@@ -17,22 +16,16 @@ use Rattle.region.specs.declared.record.Item.{Item}
 use Rattle.region.specs.declared.thread.Thread.{Thread}
 use Rattle.readable.specs.Readable.{readable, shapeIn}
 use Rattle.machine.specs.Begin.{frameIn, isIdle, isItem, mayPut, putRefusal}
+use Rattle.bag.specs.Tree.{inList, inNodes}
 
--- the cells of a list "from its first cell by next cells to 0, at most" n of them
-unfoldable pub listCells : Shared → ℕ → ℕ → ℕ
-listCells m zero c = 0
-listCells m (suc n) c = pick (eqb c 0) 0 (suc (listCells m n (m .cell c .next)))
-
--- the cells in the lists of nodes 1 to n, with at most l cells each
-unfoldable pub nodesCells : Shared → ℕ → ℕ → ℕ
-unfolding listCells
-nodesCells m l zero = 0
-nodesCells m l (suc n) = nodesCells m l n + listCells m l (m .node (suc n) .first)
+-- the test that every item passes, so that all cells count
+abbrev pub anyItem : Item → Bool
+anyItem i = true
 
 -- "in the lists of nodes 1 to 2^D − 1, each list .. at most C of them"
 unfoldable pub treeCells : Frame → List ℕ → ℕ
-unfolding nodesCells
-treeCells f b = nodesCells (sharedIn f b) (f .shape .cells) (nodeCount (f .shape))
+unfolding inNodes
+treeCells f b = inNodes (sharedIn f b) anyItem (f .shape .cells) (nodeCount (f .shape))
 
 -- "Put of v": I1 to I8, where a put stands from its beginning, at I1, to its answer
 unfoldable pub isPutPlace : Place → Bool
@@ -50,8 +43,8 @@ begunPuts f b = putsAmong (threadIn f b) (f .shape .threads)
 
 -- the free chain: "first free cell", and on by next cells
 unfoldable pub freeCells : Frame → List ℕ → ℕ
-unfolding listCells
-freeCells f b = listCells (sharedIn f b) (f .shape .cells) (sharedIn f b .free)
+unfolding inList
+freeCells f b = inList (sharedIn f b) anyItem (f .shape .cells) (sharedIn f b .free)
 
 -- tree, begun puts and free chain account for all C cells
 abbrev pub AllCellsAccounted : List ℕ → Type 0

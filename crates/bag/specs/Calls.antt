@@ -1,5 +1,5 @@
--- The calls on a region, with their arguments as given (document 01, The bag: "any list of calls on it .. put, take, run, check and refused
--- layouts, with whatever arguments, refused or not").
+-- The calls on a region, with their arguments as given (document 01, The bag: "any list of calls on it .. put, take, run, check
+-- and refused layouts, with whatever arguments, refused or not").
 use Prim.Native.Nat.{ℕ}
 use mathlib.Core.Path.{_≡_}
 use mathlib.Core.List.{List, [], _∷_}

@@ -1,5 +1,6 @@
--- The ceiling (document 01, A run): "From a laid-out region, with all nodes clean, no other thread moving and no turn refused 11, a take
--- begun at depth d ends in at most 5 × d accesses." Said of every readable region, which a laid-out one stays. Proved in proofs/Ceiling.antt.
+-- The ceiling (document 01, A run): "From a laid-out region, with all nodes clean, no other thread moving and no turn refused
+-- 11, a take begun at depth d ends in at most 5 × d accesses." Said of every readable region, which a laid-out one stays.
+-- Proved in proofs/Ceiling.antt.
 use Prim.Native.Nat.{ℕ, suc, _*_, _≤_}
 use mathlib.Core.Path.{_≡_}
 use mathlib.Core.Bool.{true}

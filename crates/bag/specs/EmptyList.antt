@@ -1,5 +1,5 @@
--- "On such a region no call or turn of a thread with an empty permission list changes it" (demand 3); "0 is the empty list and grants nothing"
--- (document 01, The region).
+-- "On such a region no call or turn of a thread with an empty permission list changes it" (demand 3); "0 is the empty list and
+-- grants nothing" (document 01, The region).
 use Prim.Native.Nat.{ℕ, _-_, _≤_}
 use mathlib.Core.Path.{_≡_}
 use mathlib.Core.List.{List}
@@ -11,8 +11,8 @@ use Rattle.machine.specs.Begin.{frameIn, putBytes, takeBytes}
 use Rattle.machine.specs.Turn.{turnBytes}
 use Rattle.bag.specs.Moments.{Throughout}
 
--- whatever thread t calls, and whatever turn it gets, the region b stays as it is; the frame is the laid-out one still, so a run that began
--- earlier goes by the same
+-- whatever thread t calls, and whatever turn it gets, the region b stays as it is; the frame is the laid-out one still, so a
+-- run that began earlier goes by the same
 pub record LeavesAlone (s : Shape) (b : List ℕ) (t : ℕ) : Type 0 where
   pub put : (i : Item) → putBytes b t i ≡ b
   pub take : takeBytes b t ≡ b

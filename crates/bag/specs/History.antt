@@ -1,6 +1,6 @@
--- The history of a list of calls: a moment for each call and for each served turn of a run, with what it tells the bag and the region after
--- it. "It is told the calls' arguments, the deciding accesses in the order of the served turns, and the item that an E2 takes; it sees
--- nothing else. The machine of demand 2 gives these from the layout and the calls alone."
+-- The history of a list of calls: a moment for each call and for each served turn of a run, with what it tells the bag and the
+-- region after it. "It is told the calls' arguments, the deciding accesses in the order of the served turns, and the item that
+-- an E2 takes; it sees nothing else. The machine of demand 2 gives these from the layout and the calls alone."
 use Prim.Native.Nat.{ℕ, _/_}
 use mathlib.Core.List.{List, [], _∷_, _++_}
 use lib.Dec.{eqb}

@@ -1,7 +1,7 @@
--- Demand 3 in so many words, over what the moments of a history told: each operation's one deciding access, and what each moment makes of
--- the bag, which is what the tree holds. "An operation begins with a put or take call that is not refused. It is answered by the first turn of
--- its thread, before that thread's next beginning, that answers inserted, took or empty. A deciding access belongs to its thread's operation
--- begun last."
+-- Demand 3 in so many words, over what the moments of a history told: each operation's one deciding access, and what each
+-- moment makes of the bag, which is what the tree holds. "An operation begins with a put or take call that is not refused. It
+-- is answered by the first turn of its thread, before that thread's next beginning, that answers inserted, took or empty. A
+-- deciding access belongs to its thread's operation begun last."
 use Prim.Native.Nat.{ℕ, _+_, _≤_}
 use mathlib.Core.Path.{_≡_}
 use mathlib.Core.Bool.{Bool, true, false}

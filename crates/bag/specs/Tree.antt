@@ -14,18 +14,18 @@ use Rattle.region.specs.declared.record.Item.{Item}
 unfoldable pub sameItem : Item → Item → Bool
 sameItem i j = eqb (i .key) (j .key) && eqb (i .tag) (j .tag)
 
--- copies of i among at most n cells from cell c on
-unfoldable pub inList : Shared → Item → ℕ → ℕ → ℕ
-unfolding sameItem
-inList m i zero c = 0
-inList m i (suc n) c = pick (eqb c 0) 0 (pick (sameItem i (m .cell c .item)) 1 0 + inList m i n (m .cell c .next))
+-- the cells whose item passes the test, among at most n cells from cell c on
+unfoldable pub inList : Shared → (Item → Bool) → ℕ → ℕ → ℕ
+inList m test zero c = 0
+inList m test (suc n) c = pick (eqb c 0) 0 (pick (test (m .cell c .item)) 1 0 + inList m test n (m .cell c .next))
 
--- copies of i in the lists of nodes 1 to n, with at most l cells each
-unfoldable pub inNodes : Shared → Item → ℕ → ℕ → ℕ
+-- the same in the lists of nodes 1 to n, with at most l cells each
+unfoldable pub inNodes : Shared → (Item → Bool) → ℕ → ℕ → ℕ
 unfolding inList
-inNodes m i l zero = 0
-inNodes m i l (suc n) = inNodes m i l n + inList m i l (m .node (suc n) .first)
+inNodes m test l zero = 0
+inNodes m test l (suc n) = inNodes m test l n + inList m test l (m .node (suc n) .first)
 
+-- copies of i in the tree
 unfoldable pub inTree : Frame → List ℕ → Item → ℕ
-unfolding inNodes
-inTree f b i = inNodes (sharedIn f b) i (f .shape .cells) (nodeCount (f .shape))
+unfolding inNodes sameItem
+inTree f b i = inNodes (sharedIn f b) (sameItem i) (f .shape .cells) (nodeCount (f .shape))

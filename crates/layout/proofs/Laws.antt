@@ -1,11 +1,11 @@
 -- A laid-out region, word by word. Assumes nothing.
-use Prim.Native.Nat.{ℕ, zero, suc, _+_, _-_, _*_, _/_, _%_, _^_, _≤_, _<_}
+use Prim.Native.Nat.{ℕ, zero, suc, _+_, _-_, _*_, _/_, _%_, _≤_, _<_}
 use native.Mathlib.Nat.{add-zero, add-suc, suc-add}
 use native.Mathlib.Omega.{arith}
-use mathlib.Core.Path.{_≡_, refl, sym, ap, subst, _∙_}
-use mathlib.Core.Bool.{Bool, true, false, _&&_}
+use mathlib.Core.Path.{_≡_, refl, sym, ap, _∙_}
+use mathlib.Core.Bool.{true}
 use mathlib.Core.List.{List, [], _∷_}
-use borrow.Author.Tests.{eq-eqb, ne-eqb, lt-ltb, le-ltb, ltb-true, ltb-false, eqb-true, eqb-false, leb-true}
+use borrow.Author.Tests.{eq-eqb, ne-eqb, ltb-true, leb-true}
 use lib.Dec.{leb, ltb, eqb}
 use lib.ListN.{length, getD}
 use Rattle.words.specs.Word.{word, setWords, Fit}
@@ -13,17 +13,12 @@ use Rattle.words.proofs.Laws.{word-stored, length-setWords}
 use Rattle.region.specs.Answer.{done}
 use Rattle.region.specs.Frame.{frameOf}
 use Rattle.region.specs.Pick.{pick}
-use Rattle.region.specs.Shape.{InRange, nodeCount, regionWords}
+use Rattle.region.specs.Shape.{InRange, regionWords}
 use Rattle.region.specs.declared.shape.Shape.{Shape}
+use Rattle.region.proofs.Picks.{pick-good}
 use Rattle.region.proofs.Shapes.{and-left, and-right, sizes}
-use Rattle.layout.specs.Layout.{Accepted, atMost, permissionsFit, layoutRefusal, cellWord, threadWord, laidWord, laidWords, layoutBytes}
+use Rattle.layout.specs.Layout.{Accepted, atMost, layoutRefusal, cellWord, threadWord, laidWord, laidWords, layoutBytes}
 use Rattle.layout.proofs.Turns.{accepted, permitted}
-
--- Choosing keeps a bound that both choices keep.
-pub pick-most : (q : Bool) (a b m : ℕ) → (q ≡ true → a ≤ m) → (q ≡ false → b ≤ m) → pick q a b ≤ m
-unfolding pick
-pick-most true a b m h g = h refl
-pick-most false a b m h g = g refl
 
 at-most : (m : ℕ) (xs : List ℕ) (i : ℕ) → atMost m xs ≡ true → getD xs i 0 ≤ m
 unfolding atMost
@@ -35,14 +30,14 @@ at-most m (x ∷ xs) (suc i) e = at-most m xs i (and-right (leb x m) (atMost m x
 pub cellWord-most : (cells j : ℕ) → cellWord cells j ≤ cells
 unfolding cellWord
 cellWord-most cells j =
-    pick-most (eqb (j % 3) 2) _ 0 cells
-    (λ e. pick-most (ltb (j / 3 + 1) cells) (j / 3 + 2) 0 cells (λ h. omega (arith, ltb-true (j / 3 + 1) cells h)) (λ h. omega arith))
+    pick-good (λ x. x ≤ cells) (eqb (j % 3) 2)
+    (λ e. pick-good (λ x. x ≤ cells) (ltb (j / 3 + 1) cells) (λ h. omega (arith, ltb-true (j / 3 + 1) cells h)) (λ h. omega arith))
     (λ e. omega arith)
 
 pub threadWord-most : (ps : List ℕ) (j : ℕ) → atMost 3 ps ≡ true → threadWord ps j ≤ 3
 unfolding threadWord
 threadWord-most ps j a =
-    pick-most (eqb (j % 33) 0) (getD ps (j / 33) 0) 0 3 (λ e. at-most 3 ps (j / 33) a) (λ e. omega arith)
+    pick-good (λ x. x ≤ 3) (eqb (j % 33) 0) (λ e. at-most 3 ps (j / 33) a) (λ e. omega arith)
 
 pub threadWord-rest : (ps : List ℕ) (i j : ℕ) → 0 < j → j < 33 → threadWord ps (33 * i + j) ≡ 0
 unfolding threadWord pick
@@ -54,9 +49,9 @@ module _ (s : Shape) (ps : List ℕ) (r : InRange s) (a : atMost 3 ps ≡ true) 
   laid-most : (k : ℕ) → laidWord s ps k ≤ 4096
   unfolding laidWord
   laid-most k =
-      pick-most (ltb k 6) _ _ 4096 (λ e. header k)
-      (λ e. pick-most (ltb k (frameOf s .cells)) 0 _ 4096 (λ h. omega arith)
-      (λ h. pick-most (ltb k (frameOf s .threads)) _ _ 4096
+      pick-good (λ x. x ≤ 4096) (ltb k 6) (λ e. header k)
+      (λ e. pick-good (λ x. x ≤ 4096) (ltb k (frameOf s .cells)) (λ h. omega arith)
+      (λ h. pick-good (λ x. x ≤ 4096) (ltb k (frameOf s .threads))
       (λ g. omega (arith, cellWord-most (s .cells) (k - frameOf s .cells), r .cells-most, sizes s (r .depth-most)))
       (λ g. omega (arith, threadWord-most ps (k - frameOf s .threads) a))))
     where
@@ -113,6 +108,7 @@ module _ (s : Shape) (ps b : List ℕ) (e : layoutRefusal s ps (length b) ≡ do
       let z : 0 + k ≡ k = omega arith in
       ap (λ l. word l k) laid-bytes
       ∙ ap (word (setWords b 0 (laidWords s ps 0 (regionWords s)))) (sym z)
-      ∙ word-stored (laidWords s ps 0 (regionWords s)) b 0 k (omega (arith, n, laid-exact)) (laid-fit s ps laid-shape laid-permissions 0 (regionWords s)) (omega (arith, n, h))
+      ∙ word-stored (laidWords s ps 0 (regionWords s)) b 0 k (omega (arith, n, laid-exact))
+      (laid-fit s ps laid-shape laid-permissions 0 (regionWords s)) (omega (arith, n, h))
       ∙ laid-at s ps 0 (regionWords s) k h
       ∙ ap (laidWord s ps) z

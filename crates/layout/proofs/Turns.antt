@@ -1,5 +1,5 @@
 -- One turn of each loop and each way out of the functions, over plain variables. Assumes nothing.
-use Prim.Native.Nat.{ℕ, zero, suc, _+_, _-_, _*_, _/_, _%_, _≤_, _<_}
+use Prim.Native.Nat.{ℕ, suc, _+_, _-_, _*_, _/_, _%_, _≤_, _<_}
 use native.Mathlib.Numerals.{add-one}
 use native.Mathlib.Omega.{arith}
 use mathlib.Core.Path.{_≡_, refl, sym, ap, _∙_}
@@ -14,10 +14,10 @@ use Rattle.words.proofs.Laws.{length-setWord}
 use Rattle.region.specs.Answer.{done, badShape, badLength}
 use Rattle.region.specs.Frame.{frameOf}
 use Rattle.region.specs.Pick.{pick}
-use Rattle.region.specs.Shape.{InRange, shapeFits, regionWords}
+use Rattle.region.specs.Shape.{shapeFits, regionWords}
 use Rattle.region.specs.declared.frame.Frame.{Frame}
 use Rattle.region.specs.declared.shape.Shape.{Shape}
-use Rattle.region.proofs.Shapes.{in-range, words-most}
+use Rattle.region.proofs.Shapes.{in-range}
 use Rattle.layout.specs.Layout.{Accepted, LaidOut, Laying, atMost, permissionsFit, layoutRefusal, cellWord, threadWord, laidWord, laidWords, layoutBytes}
 
 -- The permissions: those not yet looked at decide.
@@ -72,12 +72,6 @@ module _ (s : Shape) (ps : List ℕ) (l : ℕ) (q : Bool) (eq : q ≡ shapeFits 
       pub no-refusal : l ≡ 4 * w → done ≡ layoutRefusal s ps l
       unfolding layoutRefusal pick
       no-refusal e = rw (← eq, not-false q gq, ← ep, not-false p gp, ← ew, eq-eqb l (4 * w) e) refl
-
-pub shape-in-range : (s : Shape) (q : Bool) → q ≡ shapeFits s → not q ≡ false → InRange s
-shape-in-range s q e g = in-range s (sym e ∙ not-false q g)
-
-pub few-bytes : (s : Shape) (q : Bool) (w : ℕ) → q ≡ shapeFits s → not q ≡ false → w ≡ regionWords s → w ≤ 20547
-few-bytes s q w e g ew = omega (arith, words-most s (shape-in-range s q e g))
 
 -- The words.
 module _ (cells j : ℕ) where

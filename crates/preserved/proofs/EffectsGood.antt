@@ -1,36 +1,28 @@
 -- An effect in range keeps a region readable. Assumes nothing.
-use Prim.Native.Nat.{ℕ, zero, suc, _+_, _-_, _*_, _^_, _≤_, _<_}
+use Prim.Native.Nat.{ℕ, _+_, _*_, _^_, _≤_, _<_}
 use native.Mathlib.Omega.{arith}
-use mathlib.Core.Path.{_≡_, refl, sym, ap, subst, _∙_}
+use mathlib.Core.Path.{sym, subst, _∙_}
 use mathlib.Core.Logic.{inl, inr}
-use mathlib.Core.Bool.{true}
 use mathlib.Core.List.{List}
-use lib.Dec.{eqb}
-use lib.ListN.{length}
-use Rattle.words.specs.Word.{word, Fit}
-use Rattle.region.specs.Frame.{Parted, Within, frameOf}
-use Rattle.region.specs.Pick.{pick, upd}
+use Rattle.words.specs.Word.{Fit}
+use Rattle.region.specs.Frame.{frameOf}
+use Rattle.region.specs.Pick.{upd}
 use Rattle.region.specs.Record.{nodeWords, cellWords, zeroItem}
-use Rattle.region.specs.Shape.{InRange, nodeCount, regionWords}
+use Rattle.region.specs.Shape.{InRange}
 use Rattle.region.specs.Shared.{Shared, cellIn, sharedIn}
-use Rattle.region.specs.declared.frame.Frame.{Frame}
 use Rattle.region.specs.declared.record.Cell.{Cell}
 use Rattle.region.specs.declared.record.Node.{Node}
 use Rattle.region.specs.declared.shape.Shape.{Shape}
 use Rattle.region.proofs.Frames.{frame-parted}
+use Rattle.region.proofs.Picks.{upd-good}
 use Rattle.region.proofs.Shapes.{sizes}
-use Rattle.access.specs.Effect.{effectShared, effectBytes, freed}
+use Rattle.access.specs.Effect.{effectShared, effectBytes}
 use Rattle.access.specs.declared.effect.Effect.{Effect}
 use Rattle.access.specs.declared.effect.Effect.the-variants.{Nothing, Grow, Push, Pop, Exchange, Clean}
 use Rattle.access.proofs.EffectLaws.{Elsewhere, EffectFits, effect-shared, effect-word, length-effect}
-use Rattle.readable.specs.Readable.{threadReadable, shapeIn}
 use Rattle.readable.proofs.Laws.{Good}
-use Rattle.readable.proofs.Stores.{NodeGood, CellGood, SharedGood, good-shared, good-within, make-good, shape-kept, thread-reads, zero-good}
-use Rattle.preserved.proofs.PlansGood.{NodeIn, CellIn, EffectGood, pick-good, some-nodes}
-
-upd-good : {A : Type 0} (P : A → Type 0) (f : ℕ → A) (n : ℕ) (a : A) → ((k : ℕ) → P (f k)) → P a → (k : ℕ) → P (upd f n a k)
-unfolding upd
-upd-good P f n a hf ha k = pick-good P (eqb k n) (λ e. ha) (λ e. hf k)
+use Rattle.readable.proofs.Stores.{NodeGood, CellGood, SharedGood, good-shared, good-within, make-good, shape-kept, thread-reads}
+use Rattle.preserved.proofs.PlansGood.{EffectGood, some-nodes}
 
 module _ (s : Shape) (m : Shared) (g : SharedGood s m) where
   put-node : (n : ℕ) (v : Node) → NodeGood (s .cells) v → (k : ℕ) → NodeGood (s .cells) (upd (m .node) n v k)
@@ -42,34 +34,17 @@ module _ (s : Shape) (m : Shared) (g : SharedGood s m) where
   pub effect-good : (e : Effect) → EffectGood s e → SharedGood s (effectShared m e)
   unfolding effectShared
   effect-good Nothing h = g
-  effect-good (Grow d) h =
-      record { node = g .node; cell = g .cell; depth-least = h .0; depth-most = h .1; free = g .free }
+  effect-good (Grow d) h = search
   effect-good (Push n v c x) h =
-      record {
-        node = put-node n v (h .2);
-        cell = put-cell c (record { item = m .cell c .item; next = x }) (record { key = g .cell c .key; tag = g .cell c .tag; next = h .3 });
-        depth-least = g .depth-least;
-        depth-most = g .depth-most;
-        free = g .free;
-      }
+      let linked : CellGood (s .cells) (record { item = m .cell c .item; next = x }) =
+      record { key = g .cell c .key; tag = g .cell c .tag; next = h .3 } in
+      search (put-node n v (h .2), put-cell c _ linked)
   effect-good (Pop v c) h =
-      record {
-        node = put-node 1 v (h .1);
-        cell = put-cell c (record { item = zeroItem; next = m .free }) (record { key = omega arith; tag = omega arith; next = g .free });
-        depth-least = g .depth-least;
-        depth-most = g .depth-most;
-        free = h .0 .1;
-      }
-  effect-good (Exchange n v k w) h =
-      record {
-        node = upd-good (NodeGood (s .cells)) (upd (m .node) n v) k w (put-node n v (h .2)) (h .3);
-        cell = g .cell;
-        depth-least = g .depth-least;
-        depth-most = g .depth-most;
-        free = g .free;
-      }
-  effect-good (Clean n v) h =
-      record { node = put-node n v (h .1); cell = g .cell; depth-least = g .depth-least; depth-most = g .depth-most; free = g .free }
+      let freed : CellGood (s .cells) (record { item = zeroItem; next = m .free }) =
+      record { key = omega arith; tag = omega arith; next = g .free } in
+      search (put-node 1 v (h .1), put-cell c _ freed)
+  effect-good (Exchange n v k w) h = search (upd-good (NodeGood (s .cells)) (upd (m .node) n v) k w (put-node n v (h .2)) (h .3))
+  effect-good (Clean n v) h = search (put-node n v (h .1))
 
 module _ (s : Shape) (r : InRange s) where
   few-cells : s .cells < 2 ^ 32

@@ -1,20 +1,20 @@
 -- Every plan keeps what a readable region promises: its effect and its thread's record are in range. Assumes nothing.
-use Prim.Native.Nat.{ℕ, zero, suc, _+_, _-_, _*_, _/_, _%_, _^_, _≤_, _<_, min}
+use Prim.Native.Nat.{ℕ, _+_, _-_, _*_, _/_, _^_, _≤_, _<_}
 use native.Mathlib.Nat.{div-le-self, mod-lt}
 use native.Mathlib.Omega.{arith}
-use mathlib.Core.Path.{_≡_, refl, sym, ap, subst, _∙_}
+use mathlib.Core.Path.{_≡_, refl, sym, subst}
 use mathlib.Core.Bool.{Bool, true, false, not, _&&_, _||_, true≢false}
-use borrow.Author.Tests.{ltb-true, ltb-false, leb-true, leb-false, eqb-true, eqb-false, not-true, not-false}
+use borrow.Author.Tests.{ltb-true, ltb-false, eqb-false, not-true}
 use lib.Dec.{leb, ltb, eqb}
 use lib.Pow.{pow-mono, pow-pos}
 use Rattle.region.specs.Answer.{unreadable, counterSpent}
-use Rattle.region.specs.Level.{ancestor, level, mark}
+use Rattle.region.specs.Level.{ancestor, level}
 use Rattle.region.specs.Pick.{pick}
 use Rattle.region.specs.Shape.{InRange, between, nodeCount}
 use Rattle.region.specs.Shared.{Shared}
-use Rattle.region.specs.Thread.{idleThread, goneIdle, begunPut, begunTake, mending, returned, atPlace, withItem, withOwn, withDepth, withSearch, withNode, withAfter, withResult, withFirst, withSecond, withThird}
+use Rattle.region.specs.Thread.{goneIdle, mending, returned, atPlace, withItem, withOwn, withDepth, withSearch, withNode, withAfter, withResult, withFirst, withSecond, withThird}
 use Rattle.region.specs.declared.answer.Answer.{Answer}
-use Rattle.region.specs.declared.answer.Answer.the-variants.{Moved, Idle}
+use Rattle.region.specs.declared.answer.Answer.the-variants.{Moved}
 use Rattle.region.specs.declared.place.Place.{Place}
 use Rattle.region.specs.declared.place.Place.the-variants.{Idle as AtRest, ReadDepth, ReadLeaf, ReadAncestor, GrowDepth, ReadTarget, InsertAtRoot, ReadParent, InsertBelow, ReadRoot, RemoveHead, MendReadNode, MendReadDepth, MendReadLeft, MendReadRight, MendSwap, MendClean}
 use Rattle.region.specs.declared.record.Item.{Item}
@@ -23,6 +23,7 @@ use Rattle.region.specs.declared.record.NodeCopy.{NodeCopy}
 use Rattle.region.specs.declared.shape.Shape.{Shape}
 use Rattle.region.specs.declared.thread.Search.{Search}
 use Rattle.region.specs.declared.thread.Thread.{Thread}
+use Rattle.region.proofs.Picks.{pick-good}
 use Rattle.region.proofs.Shapes.{and-left, and-right, between-least, between-most, sizes}
 use Rattle.access.specs.Order.{itemLe, itemLt, valueOf}
 use Rattle.access.specs.Plan.{plan, moved, onTo, refused}
@@ -30,16 +31,11 @@ use Rattle.access.specs.Read.{isDirty, isLevel, isNode, isSpent, readNode, same
 use Rattle.access.specs.declared.effect.Effect.{Effect}
 use Rattle.access.specs.declared.effect.Effect.the-variants.{Nothing, Grow, Push, Pop, Exchange, Clean}
 use Rattle.access.specs.declared.plan.Plan.{Plan}
-use Rattle.insert.specs.Insert.{searching, readDepth, searchOn, leafOf, nextTries, failedPlace, leafFailed, leafRead, readLeaf, ancestorRead, middleLevel, readAncestor, growDepth, targetPlace, readTarget, insertAt, insertAtRoot, readParent, bothSame as nodeAndParent, insertBelow}
+use Rattle.insert.specs.Insert.{searching, readDepth, searchOn, leafOf, nextTries, failedPlace, leafFailed, leafRead, readLeaf, ancestorRead, middleLevel, readAncestor, growDepth, targetPlace, readTarget, insertAt, insertAtRoot, readParent, insertBelow}
 use Rattle.extract.specs.Extract.{rootRead, readRoot, headRemoved, removeHead}
 use Rattle.moundify.specs.Moundify.{returnAnswer, returning, mendReadNode, depthRead, mendReadDepth, mendReadLeft, marked, childLess, childrenRead, mendReadRight, exchangeAt, bothSame, exchangeWith, mendSwap, cleanAt, mendClean}
-use Rattle.readable.proofs.Stores.{NodeGood, CellGood, CopyGood, FieldsGood, WaitsAbove, PlaceGood, ThreadGood, SharedGood, idle-good}
+use Rattle.readable.proofs.Stores.{NodeGood, CopyGood, FieldsGood, WaitsAbove, PlaceGood, ThreadGood, SharedGood, idle-good}
 use Rattle.preserved.proofs.TreeLevels.{twice, waits-at-child, waits-marked, waits-returned}
-
-pub pick-good : {A : Type 0} (P : A → Type 0) (q : Bool) {a b : A} → (q ≡ true → P a) → (q ≡ false → P b) → P (pick q a b)
-unfolding pick
-pick-good P true h g = h refl
-pick-good P false h g = g refl
 
 pub or-left : (a b : Bool) → a || b ≡ false → a ≡ false
 or-left true b e = e
@@ -89,250 +85,52 @@ place-same s t u (MendReadRight w) et en h = subst (λ n. WaitsAbove n w) en h
 place-same s t u (MendSwap w) et en h = subst (λ n. WaitsAbove n w) en h
 place-same s t u (MendClean w) et en h = subst (λ n. WaitsAbove n w) en h
 
--- Setters keep the fields in range.
+-- Setters keep the fields in range: each field is as it was, or what the setter was given.
 module _ (s : Shape) (t : Thread) (g : FieldsGood s t) where
   pub fields-at : (p : Place) → FieldsGood s (atPlace t p)
   unfolding atPlace
-  fields-at p =
-      record {
-        permission = g .permission;
-        item-key = g .item-key;
-        item-tag = g .item-tag;
-        own = g .own;
-        depth = g .depth;
-        leaf = g .leaf;
-        tries = g .tries;
-        lo = g .lo;
-        hi = g .hi;
-        node = g .node;
-        after = g .after;
-        result-key = g .result-key;
-        result-tag = g .result-tag;
-        first = g .first;
-        second = g .second;
-        third = g .third;
-      }
+  fields-at p = search
 
   pub fields-depth : (d : ℕ) → d ≤ s .depth → FieldsGood s (withDepth t d)
   unfolding withDepth
-  fields-depth d h =
-      record {
-        permission = g .permission;
-        item-key = g .item-key;
-        item-tag = g .item-tag;
-        own = g .own;
-        depth = h;
-        leaf = g .leaf;
-        tries = g .tries;
-        lo = g .lo;
-        hi = g .hi;
-        node = g .node;
-        after = g .after;
-        result-key = g .result-key;
-        result-tag = g .result-tag;
-        first = g .first;
-        second = g .second;
-        third = g .third;
-      }
+  fields-depth d h = search
 
   pub fields-search : (x : Search) → x .leaf ≤ nodeCount s → x .tries ≤ s .threshold → x .lo ≤ s .depth → x .hi ≤ s .depth
       → FieldsGood s (withSearch t x)
   unfolding withSearch
-  fields-search x hl ht hlo hhi =
-      record {
-        permission = g .permission;
-        item-key = g .item-key;
-        item-tag = g .item-tag;
-        own = g .own;
-        depth = g .depth;
-        leaf = hl;
-        tries = ht;
-        lo = hlo;
-        hi = hhi;
-        node = g .node;
-        after = g .after;
-        result-key = g .result-key;
-        result-tag = g .result-tag;
-        first = g .first;
-        second = g .second;
-        third = g .third;
-      }
+  fields-search x hl ht hlo hhi = search
 
   pub fields-node : (n : ℕ) → n ≤ nodeCount s → FieldsGood s (withNode t n)
   unfolding withNode
-  fields-node n h =
-      record {
-        permission = g .permission;
-        item-key = g .item-key;
-        item-tag = g .item-tag;
-        own = g .own;
-        depth = g .depth;
-        leaf = g .leaf;
-        tries = g .tries;
-        lo = g .lo;
-        hi = g .hi;
-        node = h;
-        after = g .after;
-        result-key = g .result-key;
-        result-tag = g .result-tag;
-        first = g .first;
-        second = g .second;
-        third = g .third;
-      }
+  fields-node n h = search
 
   pub fields-after : (a : ℕ) → a ≤ 1 → FieldsGood s (withAfter t a)
   unfolding withAfter
-  fields-after a h =
-      record {
-        permission = g .permission;
-        item-key = g .item-key;
-        item-tag = g .item-tag;
-        own = g .own;
-        depth = g .depth;
-        leaf = g .leaf;
-        tries = g .tries;
-        lo = g .lo;
-        hi = g .hi;
-        node = g .node;
-        after = h;
-        result-key = g .result-key;
-        result-tag = g .result-tag;
-        first = g .first;
-        second = g .second;
-        third = g .third;
-      }
+  fields-after a h = search
 
   pub fields-result : (i : Item) → i .key < 2 ^ 32 → i .tag ≤ 65535 → FieldsGood s (withResult t i)
   unfolding withResult
-  fields-result i hk ht =
-      record {
-        permission = g .permission;
-        item-key = g .item-key;
-        item-tag = g .item-tag;
-        own = g .own;
-        depth = g .depth;
-        leaf = g .leaf;
-        tries = g .tries;
-        lo = g .lo;
-        hi = g .hi;
-        node = g .node;
-        after = g .after;
-        result-key = hk;
-        result-tag = ht;
-        first = g .first;
-        second = g .second;
-        third = g .third;
-      }
+  fields-result i hk ht = search
 
   pub fields-item : (i : Item) → i .key < 2 ^ 32 → i .tag ≤ 65535 → FieldsGood s (withItem t i)
   unfolding withItem
-  fields-item i hk ht =
-      record {
-        permission = g .permission;
-        item-key = hk;
-        item-tag = ht;
-        own = g .own;
-        depth = g .depth;
-        leaf = g .leaf;
-        tries = g .tries;
-        lo = g .lo;
-        hi = g .hi;
-        node = g .node;
-        after = g .after;
-        result-key = g .result-key;
-        result-tag = g .result-tag;
-        first = g .first;
-        second = g .second;
-        third = g .third;
-      }
+  fields-item i hk ht = search
 
   pub fields-own : (c : ℕ) → c ≤ s .cells → FieldsGood s (withOwn t c)
   unfolding withOwn
-  fields-own c h =
-      record {
-        permission = g .permission;
-        item-key = g .item-key;
-        item-tag = g .item-tag;
-        own = h;
-        depth = g .depth;
-        leaf = g .leaf;
-        tries = g .tries;
-        lo = g .lo;
-        hi = g .hi;
-        node = g .node;
-        after = g .after;
-        result-key = g .result-key;
-        result-tag = g .result-tag;
-        first = g .first;
-        second = g .second;
-        third = g .third;
-      }
+  fields-own c h = search
 
   pub fields-first : (q : NodeCopy) → CopyGood (s .cells) q → FieldsGood s (withFirst t q)
   unfolding withFirst
-  fields-first q h =
-      record {
-        permission = g .permission;
-        item-key = g .item-key;
-        item-tag = g .item-tag;
-        own = g .own;
-        depth = g .depth;
-        leaf = g .leaf;
-        tries = g .tries;
-        lo = g .lo;
-        hi = g .hi;
-        node = g .node;
-        after = g .after;
-        result-key = g .result-key;
-        result-tag = g .result-tag;
-        first = h;
-        second = g .second;
-        third = g .third;
-      }
+  fields-first q h = search
 
   pub fields-second : (q : NodeCopy) → CopyGood (s .cells) q → FieldsGood s (withSecond t q)
   unfolding withSecond
-  fields-second q h =
-      record {
-        permission = g .permission;
-        item-key = g .item-key;
-        item-tag = g .item-tag;
-        own = g .own;
-        depth = g .depth;
-        leaf = g .leaf;
-        tries = g .tries;
-        lo = g .lo;
-        hi = g .hi;
-        node = g .node;
-        after = g .after;
-        result-key = g .result-key;
-        result-tag = g .result-tag;
-        first = g .first;
-        second = h;
-        third = g .third;
-      }
+  fields-second q h = search
 
   pub fields-third : (q : NodeCopy) → CopyGood (s .cells) q → FieldsGood s (withThird t q)
   unfolding withThird
-  fields-third q h =
-      record {
-        permission = g .permission;
-        item-key = g .item-key;
-        item-tag = g .item-tag;
-        own = g .own;
-        depth = g .depth;
-        leaf = g .leaf;
-        tries = g .tries;
-        lo = g .lo;
-        hi = g .hi;
-        node = g .node;
-        after = g .after;
-        result-key = g .result-key;
-        result-tag = g .result-tag;
-        first = g .first;
-        second = g .second;
-        third = h;
-      }
+  fields-third q h = search
 
   -- on to a place, to mending, idle
   pub at-good : (p : Place) → PlaceGood s t p → ThreadGood s (atPlace t p)
@@ -389,7 +187,8 @@ module _ (s : Shape) (r : InRange s) (m : Shared) (sm : SharedGood s m) where
     readDepth-good =
         let d = fields-depth s t g (m .depth) (sm .depth-most) in
         onTo-good s _
-        (fields-search s (withDepth t (m .depth)) d (searching (t .search .leaf) 0 (t .search .lo) (t .search .hi)) (g .leaf) (omega arith) (g .lo) (g .hi))
+        (fields-search s (withDepth t (m .depth)) d (searching (t .search .leaf) 0 (t .search .lo) (t .search .hi))
+        (g .leaf) (omega arith) (g .lo) (g .hi))
         ReadLeaf
         (omega (arith, r .threshold-least))
 
@@ -573,7 +372,8 @@ module _ (s : Shape) (r : InRange s) (m : Shared) (sm : SharedGood s m) where
           (λ h. mending-good s u gu _ _ (ancestor-few (u .node) (level w) (gu .node))
           (waits-returned (u .node) w (omega (arith, gu .node, few-nodes)) (eqb-false w 0 h) (subst (λ n. WaitsAbove n w) (sym en) hw)))
 
-      pub returning-good : (e : Effect) → EffectGood s e → (u : Thread) → FieldsGood s u → u .node ≡ t .node → PlanGood s (returning e u w)
+      pub returning-good : (e : Effect) → EffectGood s e → (u : Thread) → FieldsGood s u → u .node ≡ t .node
+          → PlanGood s (returning e u w)
       unfolding returning
       returning-good e he u gu en = plan-good s e (returned u w) (returnAnswer u w) he (returned-good u gu en)
 
@@ -648,8 +448,10 @@ module _ (s : Shape) (r : InRange s) (m : Shared) (sm : SharedGood s m) where
           (λ e. plan-good s (Exchange (t .node) (updated n (q .node .first) 0) c (updated (q .node) (n .first) 1)) (mending t c w) Moved (
             (omega arith, g .node),
             (cl, cu),
-            updated-good n (q .node .first) 0 (g .first .node) (or-left (isSpent n) (isSpent (q .node)) e) (hq .node .first) (omega arith),
-            updated-good (q .node) (n .first) 1 (hq .node) (or-right (isSpent n) (isSpent (q .node)) e) (g .first .node .first) (omega arith),
+            updated-good n (q .node .first) 0 (g .first .node) (or-left (isSpent n) (isSpent (q .node)) e) (hq .node .first)
+                (omega arith),
+            updated-good (q .node) (n .first) 1 (hq .node) (or-right (isSpent n) (isSpent (q .node)) e) (g .first .node .first)
+                (omega arith),
           )
           (mending-good s t g c w cu (waits-at-child (t .node) c w (omega arith) lo hi (omega (arith, cu, few-nodes)) hw))))
           (λ k. onTo-good s t g (MendReadNode w) hw))

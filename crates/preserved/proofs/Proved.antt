@@ -1,24 +1,23 @@
 -- The theorems of specs/Theorems.antt: a readable region is read as records in range (readable's laws), every plan is in range
 -- (PlansGood), carrying it out keeps the region readable (EffectsGood), and what is stored elsewhere is left alone (region's views).
 -- Assumes nothing.
-use Prim.Native.Nat.{ℕ, zero, suc, _+_, _-_, _*_, _^_, _≤_, _<_}
+use Prim.Native.Nat.{ℕ, _+_, _*_, _^_, _≤_, _<_}
 use native.Mathlib.Omega.{arith}
 use mathlib.Core.Path.{_≡_, refl, sym, ap, subst, _∙_}
 use mathlib.Core.Logic.{inl, inr}
-use mathlib.Core.Bool.{Bool, true, false, _&&_, true≢false}
+use mathlib.Core.Bool.{Bool, true, false, true≢false}
 use mathlib.Core.List.{List}
-use borrow.Author.Tests.{eqb-true, eqb-false, eq-eqb, leb-true, ne-eqb}
+use borrow.Author.Tests.{eqb-true, eq-eqb, leb-true}
 use lib.Dec.{leb, eqb}
 use lib.ListN.{length}
-use Rattle.words.specs.Word.{word, setWord, Fit}
+use Rattle.words.specs.Word.{word, setWord}
 use Rattle.words.proofs.Laws.{word-other, length-setWord}
 use Rattle.region.specs.Answer.{done, badThread, noFreeCell}
-use Rattle.region.specs.Frame.{Within, frameOf, nodesOf, cellsOf, threadsOf}
-use Rattle.region.specs.Pick.{pick, upd}
+use Rattle.region.specs.Frame.{Within, frameOf, nodesOf}
+use Rattle.region.specs.Pick.{pick}
 use Rattle.region.specs.Shape.{InRange, between}
 use Rattle.region.specs.Shared.{Shared, entry, cellIn, setCellIn, setNodeIn, threadIn, setThreadIn, sharedIn}
-use Rattle.region.specs.Thread.{begunPut, begunTake, idleThread, threadSize}
-use Rattle.region.specs.declared.answer.Answer.{Answer}
+use Rattle.region.specs.Thread.{begunPut, begunTake, idleThread}
 use Rattle.region.specs.declared.answer.Answer.the-variants.{Idle as AnswerIdle}
 use Rattle.region.specs.declared.frame.Frame.{Frame}
 use Rattle.region.specs.declared.place.Place.{Place}
@@ -29,6 +28,7 @@ use Rattle.region.specs.declared.record.Node.{Node}
 use Rattle.region.specs.declared.shape.Shape.{Shape}
 use Rattle.region.specs.declared.thread.Thread.{Thread}
 use Rattle.region.proofs.Frames.{frame-parted}
+use Rattle.region.proofs.Picks.{pick-good, upd-other}
 use Rattle.region.proofs.Shapes.{and-left, and-right, between-least, between-most, sizes}
 use Rattle.region.proofs.Views.{length-setCellIn, length-setNodeIn, length-setThreadIn, shared-setCell, shared-setFree, threads-setCell, threads-setFree, threads-setThread, threads-kept, word-setCell, word-setCellIn, word-setNode, word-setThread}
 use Rattle.access.specs.Effect.{effectBytes, freedBytes, pushBytes}
@@ -44,7 +44,7 @@ use Rattle.machine.specs.Begin.{frameIn, isIdle, isItem, mayPut, mayTake, putBe
 use Rattle.machine.specs.Turn.{carriedOut, decide, decideAt, staysPut, turnBytes, turnPlan}
 use Rattle.preserved.specs.Theorems.{Apart, OutsideEffect, TurnKeepsReadable, PutKeepsReadable, TakeKeepsReadable, TurnKeepsShape, PutKeepsShape, TakeKeepsShape, TurnLeavesOthers, PutLeavesOthers, TakeLeavesOthers, TurnLeavesWords}
 use Rattle.preserved.proofs.EffectsGood.{cell-fit, good-effect, put-cell, thread-elsewhere}
-use Rattle.preserved.proofs.PlansGood.{PlanGood, at-good, fields-item, fields-own, pick-good, plan-good, refused-good, readDepth-good, readLeaf-good, readAncestor-good, growDepth-good, readTarget-good, insertAtRoot-good, readParent-good, insertBelow-good, readRoot-good, removeHead-good, mendReadNode-good, mendReadDepth-good, mendReadLeft-good, mendReadRight-good, mendSwap-good, mendClean-good}
+use Rattle.preserved.proofs.PlansGood.{PlanGood, at-good, fields-item, fields-own, plan-good, readDepth-good, readLeaf-good, readAncestor-good, growDepth-good, readTarget-good, insertAtRoot-good, readParent-good, insertBelow-good, readRoot-good, removeHead-good, mendReadNode-good, mendReadDepth-good, mendReadLeft-good, mendReadRight-good, mendSwap-good, mendClean-good}
 
 -- every place's plan is in range
 module _ (s : Shape) (r : InRange s) (m : Shared) (sm : SharedGood s m) (t : Thread) (gt : ThreadGood s t) (c : ℕ) where
@@ -154,11 +154,12 @@ module _ (s : Shape) (b : List ℕ) (g : Good s b) where
   unfolding frameOf
   good-setFree v h =
       let m = good-shared s b g in
+      let few : v < 2 ^ 32 = omega (arith, h, g .range .cells-most, sizes s (g .range .depth-most)) in
       make-good s (setWord b 5 v)
       (shape-kept s b (setWord b 5 v) (g .shape) (λ k l. word-other b 5 k v (λ e. omega arith)))
       (g .range)
       (length-setWord b 5 v ∙ g .exact)
-      (subst (SharedGood s) (sym (shared-setFree (frameOf s) b (good-within s b g) (frame-parted s) v (omega (arith, h, g .range .cells-most, sizes s (g .range .depth-most)))))
+      (subst (SharedGood s) (sym (shared-setFree (frameOf s) b (good-within s b g) (frame-parted s) v few))
       (record { node = m .node; cell = m .cell; depth-least = m .depth-least; depth-most = m .depth-most; free = h }))
       (threads-kept-passing (setWord b 5 v) (λ j l. word-other b 5 j v (λ e. omega arith)))
 
@@ -181,7 +182,8 @@ module _ (s : Shape) (b : List ℕ) (g : Good s b) where
       }))
       (threads-kept-passing (setCellIn (frameOf s) b c v) (λ j x. word-setCellIn (frameOf s) b w c j v (inr (omega arith))))
 
-pub begun-put-good : (s : Shape) (t : Thread) → ThreadGood s t → (i : Item) → i .key < 2 ^ 32 → i .tag ≤ 65535 → (own : ℕ) → own ≤ s .cells
+pub begun-put-good : (s : Shape) (t : Thread) → ThreadGood s t → (i : Item) → i .key < 2 ^ 32 → i .tag ≤ 65535 → (own : ℕ)
+    → own ≤ s .cells
     → ThreadGood s (begunPut t i own)
 unfolding begunPut
 begun-put-good s t g i hk ht own h =
@@ -286,19 +288,14 @@ put-keeps-readable b e t i = readable-good (shapeIn b) (putBytes b t i) (put-goo
 pub put-keeps-shape : PutKeepsShape
 put-keeps-shape b e t i = put-good b (good b e) t i .shape
 
--- What a turn leaves alone.
-other : (h : ℕ → Thread) (t u : ℕ) (v : Thread) → (u ≡ t → ⊥) → upd h t v u ≡ h u
-unfolding upd pick
-other h t u v n = rw (ne-eqb u t n) refl
-
--- storing a record of thread t's leaves every other thread's alone
+-- What a turn leaves alone: storing a record of thread t's leaves every other thread's alone
 store-others : (s : Shape) (b : List ℕ) → InRange s → Within (frameOf s) (length b) → (t : ℕ) → 1 ≤ t → t ≤ s .threads
     → (v : Thread) → ThreadGood s v → (u : ℕ) → (u ≡ t → ⊥)
     → threadIn (frameOf s) (setThreadIn (frameOf s) b t v) u ≡ threadIn (frameOf s) b u
 unfolding frameOf
 store-others s b r w t l m v g u n =
     ap (λ h. h u) (threads-setThread (frameOf s) b w (frame-parted s) t v l m (thread-fit s r v g))
-    ∙ other (threadIn (frameOf s) b) t u v n
+    ∙ upd-other (threadIn (frameOf s) b) t u v n
 
 pub effect-threads : (s : Shape) (b : List ℕ) → Good s b → (e : Effect)
     → threadIn (frameOf s) (effectBytes (frameOf s) b e) ≡ threadIn (frameOf s) b
@@ -352,13 +349,15 @@ put-leaves-others b e t i u n =
     store-others s (ownStored s b i) (g .range) (good-within s (ownStored s b i) g₂) t (put-least b t i k) (put-most b t i k) _
     (put-thread-good s b i g (put-key b t i k) (put-tag b t i k) (put-free b t i k) t) u n
     ∙ ap (λ h. h u)
-    (threads-setCell (frameIn b) (freeMoved s b) (good-within s (freeMoved s b) g₁) (frame-parted s) (own s b) (record { item = i; next = 0 })
+    (threads-setCell (frameIn b) (freeMoved s b) (good-within s (freeMoved s b) g₁) (frame-parted s) (own s b)
+    (record { item = i; next = 0 })
     ∙ threads-setFree (frameIn b) b (good-within s b g) (frame-parted s) (cellIn (frameIn b) b (own s b) .next)))
     (λ h. refl)
 
 -- an effect changes none but its own words
 module _ (f : Frame) (j : ℕ) where
-  node-leaves : (b : List ℕ) → Within f (length b) → (n : ℕ) (v : Node) → Apart (entry (nodesOf f) n) 3 j → word (setNodeIn f b n v) j ≡ word b j
+  node-leaves : (b : List ℕ) → Within f (length b) → (n : ℕ) (v : Node) → Apart (entry (nodesOf f) n) 3 j
+      → word (setNodeIn f b n v) j ≡ word b j
   node-leaves b w n v o = word-setNode f b w n j v o
 
   within-node : (b : List ℕ) → Within f (length b) → (n : ℕ) (v : Node) → Within f (length (setNodeIn f b n v))

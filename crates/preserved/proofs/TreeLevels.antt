@@ -3,9 +3,8 @@ use Prim.Native.Nat.{ℕ, zero, suc, _+_, _-_, _*_, _/_, _^_, _≤_, _<_}
 use native.Mathlib.Nat.{le-div-iff-mul-le, div-lt-iff-lt-mul}
 use native.Mathlib.Decide.{decLt}
 use native.Mathlib.Omega.{arith}
-use mathlib.Core.Path.{_≡_, refl, sym, ap, subst, _∙_}
+use mathlib.Core.Path.{_≡_, sym, ap, subst, _∙_}
 use borrow.Author.Tests.{lt-ltb}
-use lib.Dec.{ltb}
 use lib.Pow.{pow-mono, pow-pos, pow-add}
 use Rattle.region.specs.Level.{ancestor, digits, level, mark}
 use Rattle.region.specs.Pick.{pick}

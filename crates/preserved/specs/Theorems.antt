@@ -1,5 +1,5 @@
 -- What holds of every turn and every beginning on a readable region. Each statement is proved under its name in proofs/Proved.antt.
-use Prim.Native.Nat.{ℕ, _+_, _-_, _*_, _≤_, _<_}
+use Prim.Native.Nat.{ℕ, _+_, _≤_, _<_}
 use mathlib.Core.Path.{_≡_}
 use mathlib.Core.Logic.{_⊎_}
 use mathlib.Core.Bool.{true}

@@ -1,23 +1,23 @@
 -- A laid-out region is readable: each word is what layout's definition says, and that is in range. Assumes nothing.
-use Prim.Native.Nat.{ℕ, zero, suc, _+_, _-_, _*_, _^_, _≤_, _<_}
-use native.Mathlib.Nat.{add-zero, add-suc, suc-add, add-assoc}
+use Prim.Native.Nat.{ℕ, zero, suc, _+_, _-_, _*_, _≤_, _<_}
+use native.Mathlib.Nat.{add-zero}
 use native.Mathlib.Omega.{arith}
 use mathlib.Core.Path.{_≡_, refl, sym, ap, subst, subst⁻¹, _∙_}
-use mathlib.Core.Bool.{Bool, true, _&&_}
+use mathlib.Core.Bool.{true, _&&_}
 use mathlib.Core.List.{List, [], _∷_}
 use borrow.Author.Tests.{le-leb, eq-eqb, lt-ltb, le-ltb}
-use lib.Dec.{leb, eqb}
+use lib.Dec.{eqb}
 use lib.ListN.{length, getD}
 use Rattle.words.specs.Word.{word}
 use Rattle.region.specs.Answer.{done}
 use Rattle.region.specs.Frame.{frameOf}
 use Rattle.region.specs.Pick.{pick}
-use Rattle.region.specs.Shape.{InRange, between, shapeFits, nodeCount, regionWords}
+use Rattle.region.specs.Shape.{InRange, shapeFits, nodeCount, regionWords}
 use Rattle.region.specs.declared.shape.Shape.{Shape}
 use Rattle.region.proofs.Shapes.{and-both, is-between, fits-in-range, sizes}
-use Rattle.layout.specs.Layout.{atMost, layoutRefusal, cellWord, threadWord, laidWord, layoutBytes}
+use Rattle.layout.specs.Layout.{layoutRefusal, cellWord, threadWord, laidWord, layoutBytes}
 use Rattle.layout.proofs.Laws.{cellWord-most, threadWord-most, threadWord-rest, laid-shape, laid-permissions, laid-length, laid-word}
-use Rattle.readable.specs.Readable.{anyWord, nodeMaxima, cellMaxima, threadMaxima, bounded, threadReadable, allRecords, treeReadable, fieldsReadable, shapeIn, readable}
+use Rattle.readable.specs.Readable.{nodeMaxima, cellMaxima, threadMaxima, bounded, threadReadable, allRecords, treeReadable, fieldsReadable, shapeIn, readable}
 use Rattle.readable.proofs.Laws.{all-pass, bounded-all}
 use Rattle.queue.specs.Theorems.{LaidOutIsReadable}
 
@@ -117,7 +117,8 @@ module _ (s : Shape) (ps b : List ℕ) (e : layoutRefusal s ps (length b) ≡ do
       and-both
       (and-both
       (and-both
-      (is-between 1 (word laid 4) (s .depth) (omega (arith, header 4 (omega arith))) (omega (arith, header 4 (omega arith), r .depth-least)))
+      (is-between 1 (word laid 4) (s .depth) (omega (arith, header 4 (omega arith)))
+      (omega (arith, header 4 (omega arith), r .depth-least)))
       (le-leb (word laid 5) (s .cells) (omega (arith, header 5 (omega arith), r .cells-least))))
       nodes-pass)
       cells-pass

@@ -8,12 +8,12 @@ use Rattle.region.specs.declared.shape.Shape.{Shape}
 use Rattle.machine.specs.Run.{runRefusal, runResult}
 
 -- the shape that layout's numbers give: D, C, T, H
-abbrev pub shapeOf : ℕ → ℕ → ℕ → ℕ → Shape
-shapeOf d c t h = record { depth = d; cells = c; threads = t; threshold = h }
+abbrev pub shapeGiven : ℕ → ℕ → ℕ → ℕ → Shape
+shapeGiven d c t h = record { depth = d; cells = c; threads = t; threshold = h }
 
 -- the item that put's numbers give
-abbrev pub itemOf : ℕ → ℕ → Item
-itemOf k t = record { key = k; tag = t }
+abbrev pub itemGiven : ℕ → ℕ → Item
+itemGiven k t = record { key = k; tag = t }
 
 -- a run's three numbers in one: bits 0 to 15 the refusal (0 none), 16 to 31 the turns served, 32 to 63 the accesses made
 abbrev pub packed : ℕ → ℕ → ℕ → ℕ

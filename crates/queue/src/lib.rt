@@ -5,7 +5,7 @@ ghost use mathlib.Core.Path.{_≡_};
 ghost use Rattle.layout.specs.Layout.{LaidOut};
 ghost use Rattle.readable.specs.Readable.{checkAnswer};
 ghost use Rattle.machine.specs.Begin.{PutBegun, TakeBegun};
-ghost use Rattle.queue.specs.Calls.{PackAsked, RunDone, itemOf, packed, shapeOf};
+ghost use Rattle.queue.specs.Calls.{PackAsked, RunDone, itemGiven, packed, shapeGiven};
 use region::Item;
 use region::Shape;
 
@@ -19,7 +19,7 @@ pub extern "C" fn mound_layout(
     threshold: u32,
     permissions: &[u8],
 ) -> u32
-    ensures { λ r. ⌜ LaidOut (shapeOf depth cells threads threshold) (now (permissions .entry)) (now (region .entry)) (now (region .exit)) r ⌝ }
+    ensures { λ r. ⌜ LaidOut (shapeGiven depth cells threads threshold) (now (permissions .entry)) (now (region .entry)) (now (region .exit)) r ⌝ }
 {
     layout::lay_out(
         region,
@@ -36,7 +36,7 @@ pub extern "C" fn mound_layout(
 // Begins a put of an item, a key with a tag, by a thread: 0 if begun. Refusals 7, 3, 4, 8, 9, 10.
 #[no_mangle]
 pub extern "C" fn mound_put(region: &mut [u8], thread: u32, key: u32, tag: u32) -> u32
-    ensures { λ r. ⌜ PutBegun (now (region .entry)) (now (region .exit)) thread (itemOf key tag) r ⌝ }
+    ensures { λ r. ⌜ PutBegun (now (region .entry)) (now (region .exit)) thread (itemGiven key tag) r ⌝ }
 {
     machine::begin_put(region, thread, Item { key, tag })
 }

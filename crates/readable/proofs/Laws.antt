@@ -1,9 +1,9 @@
 -- What a readable region is, record by record: the shape, the length, and each record of each part. Assumes nothing.
-use Prim.Native.Nat.{ℕ, zero, suc, _+_, _-_, _*_, _≤_, _<_}
+use Prim.Native.Nat.{ℕ, zero, suc, _+_, _*_, _≤_, _<_}
 use native.Mathlib.Nat.{add-zero, add-suc, suc-add}
 use native.Mathlib.Omega.{arith}
-use mathlib.Core.Path.{_≡_, refl, sym, ap, subst, _∙_}
-use mathlib.Core.Bool.{Bool, true, false, _&&_}
+use mathlib.Core.Path.{_≡_, refl, sym, subst, _∙_}
+use mathlib.Core.Bool.{Bool, true, _&&_}
 use mathlib.Core.List.{List, [], _∷_}
 use borrow.Author.Tests.{leb-true, le-leb, eqb-true, eq-eqb}
 use lib.Dec.{leb, eqb}
@@ -11,7 +11,6 @@ use lib.ListN.{length, getD}
 use Rattle.words.specs.Word.{word}
 use Rattle.region.specs.Frame.{Within, frameOf}
 use Rattle.region.specs.Shape.{InRange, between, shapeFits, nodeCount, regionWords}
-use Rattle.region.specs.Thread.{threadSize}
 use Rattle.region.specs.declared.shape.Shape.{Shape}
 use Rattle.region.proofs.Frames.{frame-within}
 use Rattle.region.proofs.Shapes.{and-left, and-right, and-both, between-least, between-most, in-range, fits-in-range, is-between}

@@ -4,24 +4,22 @@ use native.Mathlib.Decide.{ℕ-discrete, decLt}
 use native.Mathlib.Nat.{add-zero, add-suc, suc-add}
 use native.Mathlib.Omega.{arith}
 use mathlib.Core.Path.{_≡_, refl, sym, ap, subst, subst₂, subst₃, _∙_}
-use mathlib.Core.Logic.{_⊎_, inl, inr}
+use mathlib.Core.Logic.{inl, inr}
 use mathlib.Core.Bool.{Bool, true, false, _&&_}
 use mathlib.Core.List.{List, [], _∷_}
-use borrow.Author.Tests.{leb-true, le-leb, lt-leb, eq-eqb, ne-eqb}
-use lib.Dec.{leb, eqb, lit<}
+use borrow.Author.Tests.{leb-true, le-leb}
+use lib.Dec.{leb}
 use lib.ListN.{length, getD}
 use lib.Pow.{pow-mono}
-use Rattle.words.specs.Word.{word, setWord, wordsAt, setWords, Fit}
-use Rattle.words.proofs.Laws.{word-same, word-other, length-setWord, word-stored}
-use Rattle.region.specs.Frame.{Part, Parted, Within, frameOf, nodesOf, cellsOf, threadsOf}
+use Rattle.words.specs.Word.{word, wordsAt, Fit}
+use Rattle.region.specs.Frame.{Part, Within, frameOf, nodesOf, cellsOf, threadsOf}
 use Rattle.region.specs.Level.{level}
-use Rattle.region.specs.Pick.{pick, upd}
+use Rattle.region.specs.Pick.{pick}
 use Rattle.region.specs.Place.{placeNumber, placeOf, waitingLevels}
-use Rattle.region.specs.Record.{nodeOf, nodeWords, nodeAt, emptyNode, cellOf, cellWords, cellAt, zeroCell, zeroCopy}
+use Rattle.region.specs.Record.{nodeAt, emptyNode, cellAt, zeroCell, zeroCopy}
 use Rattle.region.specs.Shape.{InRange, between, nodeCount, regionWords}
-use Rattle.region.specs.Shared.{Shared, entry, loadEntry, nodeIn, setNodeIn, cellIn, setCellIn, threadIn, setThreadIn, sharedIn}
-use Rattle.region.specs.Thread.{threadSize, threadOf, threadWords, idleThread, threadAt}
-use Rattle.region.specs.declared.frame.Frame.{Frame}
+use Rattle.region.specs.Shared.{Shared, entry, loadEntry, nodeIn, cellIn, threadIn, setThreadIn, sharedIn}
+use Rattle.region.specs.Thread.{threadSize, threadWords, idleThread, threadAt}
 use Rattle.region.specs.declared.place.Place.{Place}
 use Rattle.region.specs.declared.place.Place.the-variants.{Idle, ReadDepth, ReadLeaf, ReadAncestor, GrowDepth, ReadTarget, InsertAtRoot, ReadParent, InsertBelow, ReadRoot, RemoveHead, MendReadNode, MendReadDepth, MendReadLeft, MendReadRight, MendSwap, MendClean}
 use Rattle.region.specs.declared.record.Cell.{Cell}
@@ -31,9 +29,10 @@ use Rattle.region.specs.declared.shape.Shape.{Shape}
 use Rattle.region.specs.declared.thread.Thread.{Thread}
 use Rattle.region.proofs.Frames.{frame-within, frame-parted}
 use Rattle.region.proofs.Levels.{level-most}
+use Rattle.region.proofs.Picks.{pick-good}
 use Rattle.region.proofs.Shapes.{and-left, and-right, and-both, between-least, between-most, is-between, sizes}
-use Rattle.region.proofs.Views.{Outside, length-setNodeIn, length-setCellIn, length-setThreadIn, word-setNodeIn, word-setCellIn, word-setThreadIn, word-setThread, thread-stored-words, shared-setThread}
-use Rattle.readable.specs.Readable.{anyWord, nodeMaxima, cellMaxima, threadMaxima, triesMost, waitingMost, bounded, threadReadable, shapeIn, readable}
+use Rattle.region.proofs.Views.{Outside, length-setThreadIn, word-setThreadIn, word-setThread, thread-stored-words, shared-setThread}
+use Rattle.readable.specs.Readable.{anyWord, nodeMaxima, cellMaxima, threadMaxima, triesMost, waitingMost, bounded, threadReadable, shapeIn}
 use Rattle.readable.proofs.Laws.{Good, bounded-all, bounded-at}
 
 -- Records in range.
@@ -182,142 +181,22 @@ waiting-rule s t (MendReadRight w) g = g
 waiting-rule s t (MendSwap w) g = g
 waiting-rule s t (MendClean w) g = g
 
-waits-few : (n w : ℕ) → WaitsAbove n w → w ≤ anyWord
-waits-few n w h = omega (arith, pow-mono {i = level n - 1} {j = 31} (omega (arith, level-most n)))
-
 waiting-few : (s : Shape) (t : Thread) (p : Place) → PlaceGood s t p → waitingLevels p ≤ anyWord
-waiting-few s t Idle g = omega arith
-waiting-few s t ReadDepth g = omega arith
-waiting-few s t ReadLeaf g = omega arith
-waiting-few s t ReadAncestor g = omega arith
-waiting-few s t GrowDepth g = omega arith
-waiting-few s t ReadTarget g = omega arith
-waiting-few s t InsertAtRoot g = omega arith
-waiting-few s t ReadParent g = omega arith
-waiting-few s t InsertBelow g = omega arith
-waiting-few s t ReadRoot g = omega arith
-waiting-few s t RemoveHead g = omega arith
-waiting-few s t (MendReadNode w) g = waits-few (t .node) w g
-waiting-few s t (MendReadDepth w) g = waits-few (t .node) w g
-waiting-few s t (MendReadLeft w) g = waits-few (t .node) w g
-waiting-few s t (MendReadRight w) g = waits-few (t .node) w g
-waiting-few s t (MendSwap w) g = waits-few (t .node) w g
-waiting-few s t (MendClean w) g = waits-few (t .node) w g
+unfolding waitingMost
+waiting-few s t p g =
+    let levels = pow-mono {i = level (t .node) - 1} {j = 31} (omega (arith, level-most (t .node))) in
+    let few : waitingMost (placeNumber p) (t .node) ≤ anyWord = pick-good (λ x. x ≤ anyWord) _ (λ e. omega arith) (λ e. omega arith) in
+    omega (arith, waiting-rule s t p g, few)
 
 module _ (s : Shape) (r : InRange s) where
   maxima-fit : Fit (threadMaxima s)
-  maxima-fit =
-      let z = sizes s (r .depth-most) in
-      let fewcells : s .cells < 2 ^ 32 = omega (arith, r .cells-most, z) in
-      let fewlevels : s .depth < 2 ^ 32 = omega (arith, r .depth-most) in
-      let fewnodes : nodeCount s < 2 ^ 32 = omega (arith, z) in
-      let fewtries : s .threshold < 2 ^ 32 = omega (arith, r .threshold-most) in
-      (lit< tt, (lit< tt, (lit< tt, (lit< tt, (fewcells, (fewlevels, (fewnodes, (fewtries, (fewlevels, (fewlevels, (fewnodes, (lit< tt, (lit< tt, (lit< tt, (lit< tt, (fewcells, (lit< tt, (lit< tt, (lit< tt, (lit< tt, (fewcells, (fewcells, (lit< tt, (lit< tt, (lit< tt, (lit< tt, (fewcells, (fewcells, (lit< tt, (lit< tt, (lit< tt, (lit< tt, (fewcells, tt)))))))))))))))))))))))))))))))))
+  maxima-fit = (omega arith, (omega arith, (omega arith, omega (arith, r, sizes s (r .depth-most)))))
 
   module _ (t : Thread) (h : ThreadGood s t) where
     thread-le : AllLe (threadWords t) (threadMaxima s)
     thread-le =
         let g = h .fields in
-        let waiting-any : waitingLevels (t .place) ≤ anyWord = waiting-few s t (t .place) (h .place) in (
-          g .permission,
-          (
-            number-most (t .place),
-            (
-              below-any (g .item-key),
-              (
-                g .item-tag,
-                (
-                  g .own,
-                  (
-                    g .depth,
-                    (
-                      g .leaf,
-                      (
-                        g .tries,
-                        (
-                          g .lo,
-                          (
-                            g .hi,
-                            (
-                              g .node,
-                              (
-                                waiting-any,
-                                (
-                                  g .after,
-                                  (
-                                    below-any (g .result-key),
-                                    (
-                                      g .result-tag,
-                                      (
-                                        g .first .node .first,
-                                        (
-                                          g .first .node .dirty,
-                                          (
-                                            below-any (g .first .node .counter),
-                                            (
-                                              below-any (g .first .head .key),
-                                              (
-                                                g .first .head .tag,
-                                                (
-                                                  g .first .head .next,
-                                                  (
-                                                    g .second .node .first,
-                                                    (
-                                                      g .second .node .dirty,
-                                                      (
-                                                        below-any (g .second .node .counter),
-                                                        (
-                                                          below-any (g .second .head .key),
-                                                          (
-                                                            g .second .head .tag,
-                                                            (
-                                                              g .second .head .next,
-                                                              (
-                                                                g .third .node .first,
-                                                                (
-                                                                  g .third .node .dirty,
-                                                                  (
-                                                                    below-any (g .third .node .counter),
-                                                                    (
-                                                                      below-any (g .third .head .key),
-                                                                      (
-                                                                        g .third .head .tag,
-                                                                        (
-                                                                          g .third .head .next,
-                                                                          tt,
-                                                                        ),
-                                                                      ),
-                                                                    ),
-                                                                  ),
-                                                                ),
-                                                              ),
-                                                            ),
-                                                          ),
-                                                        ),
-                                                      ),
-                                                    ),
-                                                  ),
-                                                ),
-                                              ),
-                                            ),
-                                          ),
-                                        ),
-                                      ),
-                                    ),
-                                  ),
-                                ),
-                              ),
-                            ),
-                          ),
-                        ),
-                      ),
-                    ),
-                  ),
-                ),
-              ),
-            ),
-          ),
-        )
+        (g .permission, (number-most (t .place), (below-any (g .item-key), omega (arith, g, waiting-few s t (t .place) (h .place)))))
 
     pub thread-fit : Fit (threadWords t)
     thread-fit = all-fit (threadWords t) (threadMaxima s) thread-le maxima-fit
@@ -429,8 +308,12 @@ make-good s b es r el m ts =
       depth-least = m .depth-least;
       depth-most = m .depth-most;
       free-most = m .free;
-      nodes = λ i l. node-bounded (s .cells) b _ (subst (NodeGood (s .cells)) (load-at nodeAt emptyNode (nodesOf (frameOf s)) b i l) (m .node (suc i)));
-      cells = λ i l. cell-bounded (s .cells) b _ (subst (CellGood (s .cells)) (load-at cellAt zeroCell (cellsOf (frameOf s)) b i l) (m .cell (suc i)));
+      nodes = λ i l.
+          node-bounded (s .cells) b _ (subst (NodeGood (s .cells)) (load-at nodeAt emptyNode (nodesOf (frameOf s)) b i l)
+          (m .node (suc i)));
+      cells = λ i l.
+          cell-bounded (s .cells) b _ (subst (CellGood (s .cells)) (load-at cellAt zeroCell (cellsOf (frameOf s)) b i l)
+          (m .cell (suc i)));
       threads = ts;
     }
 
@@ -460,7 +343,8 @@ place-good s t h (suc (suc (suc (suc (suc (suc (suc (suc (suc (suc (suc (suc (su
 place-good s t h (suc (suc (suc (suc (suc (suc (suc (suc (suc (suc (suc (suc (suc (suc zero)))))))))))))) w l gt gw = gw
 place-good s t h (suc (suc (suc (suc (suc (suc (suc (suc (suc (suc (suc (suc (suc (suc (suc zero))))))))))))))) w l gt gw = gw
 place-good s t h (suc (suc (suc (suc (suc (suc (suc (suc (suc (suc (suc (suc (suc (suc (suc (suc zero)))))))))))))))) w l gt gw = gw
-place-good s t h (suc (suc (suc (suc (suc (suc (suc (suc (suc (suc (suc (suc (suc (suc (suc (suc (suc n))))))))))))))))) w l gt gw = absurd (omega arith)
+place-good s t h (suc (suc (suc (suc (suc (suc (suc (suc (suc (suc (suc (suc (suc (suc (suc (suc (suc n))))))))))))))))) w l gt gw =
+    absurd (omega arith)
 
 fit : {n : ℕ} → n ≤ anyWord → n < 2 ^ 32
 fit h = omega arith
@@ -521,7 +405,8 @@ module _ (s : Shape) (r : InRange s) (b : List ℕ) (at : ℕ) (e : threadReadab
   place-of-good =
       place-good s (threadAt b at) (r .threshold-least) (getD (wordsAt b at 33) 1 0) (getD (wordsAt b at 33) 11 0) (le 1 (omega arith))
       (subst₂ (λ x y. x ≤ triesMost s y) (sym (is 7 (omega arith))) (sym (is 1 (omega arith))) tries-pass)
-      (subst₃ (λ x y z. x ≤ waitingMost y z) (sym (is 11 (omega arith))) (sym (is 1 (omega arith))) (sym (is 10 (omega arith))) waiting-pass)
+      (subst₃ (λ x y z. x ≤ waitingMost y z) (sym (is 11 (omega arith))) (sym (is 1 (omega arith)))
+      (sym (is 10 (omega arith))) waiting-pass)
 
   thread-good : ThreadGood s (threadAt b at)
   thread-good = record { fields = fields-good; place = place-of-good }

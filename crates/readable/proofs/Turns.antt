@@ -1,11 +1,11 @@
 -- One turn of each loop and each way out of the functions, over plain variables. Assumes nothing.
-use Prim.Native.Nat.{ℕ, zero, suc, _+_, _-_, _*_, _%_, _^_, _≤_, _<_}
+use Prim.Native.Nat.{ℕ, suc, _+_, _-_, _*_, _%_, _^_, _≤_, _<_}
 use native.Mathlib.Nat.{add-suc, add-zero}
 use native.Mathlib.Numerals.{add-one}
 use native.Mathlib.Omega.{arith}
 use mathlib.Core.Path.{_≡_, refl, sym, ap, subst, subst₂, _∙_}
 use mathlib.Core.Bool.{Bool, true, false, not, _&&_, and-true}
-use mathlib.Core.List.{List, [], _∷_}
+use mathlib.Core.List.{List}
 use borrow.Author.Tests.{lt-leb, le-leb, eq-eqb, ne-eqb, eqb-true, not-true, not-false}
 use lib.Dec.{leb, eqb}
 use lib.ListN.{length, getD, drop, drop-of-length-le}
@@ -16,13 +16,13 @@ use Rattle.words.proofs.Laws.{word-fits}
 use Rattle.region.specs.Frame.{Within, frameOf}
 use Rattle.region.specs.Level.{level}
 use Rattle.region.specs.Pick.{pick}
-use Rattle.region.specs.Shape.{InRange, between, shapeFits, nodeCount, regionWords}
+use Rattle.region.specs.Shape.{between, shapeFits, nodeCount, regionWords}
 use Rattle.region.specs.Thread.{threadSize}
 use Rattle.region.specs.declared.frame.Frame.{Frame}
 use Rattle.region.specs.declared.shape.Shape.{Shape}
 use Rattle.region.proofs.Frames.{frame-within}
 use Rattle.region.proofs.Levels.{level-most}
-use Rattle.region.proofs.Shapes.{and-left, and-right, in-range, shifted, words-most}
+use Rattle.region.proofs.Shapes.{and-left, and-right, in-range, shifted}
 use Rattle.readable.specs.Readable.{FieldsAsked, ThreadAsked, ThreadsAsked, anyWord, nodeMaxima, cellMaxima, threadMaxima, triesMost, waitingMost, bounded, threadReadable, allRecords, treeReadable, fieldsReadable, shapeIn, isWhole, readable, checkAnswer}
 
 free : (b : List ℕ) (k : ℕ) → Bytes b → leb (word b k) anyWord ≡ true
@@ -187,7 +187,8 @@ module _ (s : Shape) (b : List ℕ) (at : ℕ) (q : Bool) (ms : List ℕ) (g : T
   unfolding threadReadable
   thread-bad n = rw (← words-test, not-true q n) refl
 
-  module _ (gq : not q ≡ false) (p : ℕ) (ep : p ≡ word b (at + 1)) (m : ℕ) (em : m ≡ triesMost s p) (t : ℕ) (et : t ≡ word b (at + 7)) where
+  module _ (gq : not q ≡ false) (p : ℕ) (ep : p ≡ word b (at + 1)) (m : ℕ) (em : m ≡ triesMost s p) (t : ℕ)
+      (et : t ≡ word b (at + 7)) where
     pub tries-bad : m < t → false ≡ threadReadable s b at
     unfolding threadReadable
     tries-bad h = rw (← words-test, not-false q gq, ← ep, ← em, ← et, lt-leb t m h) refl
@@ -287,16 +288,8 @@ module _ (b : List ℕ) (s : Shape) (es : s ≡ shapeIn b) (q : Bool) (eq : q �
   pub shape-bad : not q ≡ true → false ≡ isWhole b
   shape-bad n = rw (← shape-test, not-true q n) refl
 
-  module _ (gq : not q ≡ false) where
-    pub shape-in-range : InRange s
-    shape-in-range = in-range s (sym eq ∙ not-false q gq)
-
-    module _ (w : ℕ) (ew : w ≡ regionWords s) where
-      pub few-words : w ≤ 20547
-      few-words = omega (arith, words-most s shape-in-range)
-
-      pub length-decides : eqb (length b) (4 * w) ≡ isWhole b
-      length-decides = rw (← shape-test, not-false q gq) (ap (λ k. eqb (length b) (4 * k)) (ew ∙ ap regionWords es))
+  pub length-decides : not q ≡ false → (w : ℕ) → w ≡ regionWords s → eqb (length b) (4 * w) ≡ isWhole b
+  length-decides n w ew = rw (← shape-test, not-false q n) (ap (λ k. eqb (length b) (4 * k)) (ew ∙ ap regionWords es))
 
 -- The whole region: the shape and the length, then the fields.
 module _ (b : List ℕ) (q : Bool) (eq : q ≡ isWhole b) where

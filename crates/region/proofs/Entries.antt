@@ -3,12 +3,10 @@
 use Prim.Native.Nat.{ℕ, zero, suc, _+_, _-_, _*_, _≤_, _<_}
 use native.Mathlib.Nat.{mul-le-mul-left}
 use native.Mathlib.Omega.{arith}
-use mathlib.Core.Path.{_≡_, refl, sym, ap, subst, _∙_}
-use mathlib.Core.Bool.{true, false}
+use mathlib.Core.Path.{_≡_, refl, ap}
 use mathlib.Core.List.{List}
 use Rattle.region.specs.Frame.{Part}
 use Rattle.region.specs.Pick.{pick}
-use Rattle.region.specs.Shape.{between}
 use Rattle.region.specs.Shared.{entry, loadEntry, storeEntry}
 use Rattle.region.proofs.Shapes.{below, above, is-between}
 

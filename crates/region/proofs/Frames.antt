@@ -1,8 +1,8 @@
 -- The frame of a region that holds one queue: its parts end within a region of its length, and lie apart. Assumes nothing.
-use Prim.Native.Nat.{ℕ, _+_, _-_, _*_, _^_, _≤_}
+use Prim.Native.Nat.{ℕ, _*_}
 use native.Mathlib.Omega.{arith}
 use mathlib.Core.Path.{_≡_}
-use Rattle.region.specs.Frame.{Apart, before, behind, Parted, Within, frameOf}
+use Rattle.region.specs.Frame.{before, Parted, Within, frameOf}
 use Rattle.region.specs.Shape.{InRange, regionWords}
 use Rattle.region.specs.declared.shape.Shape.{Shape}
 

@@ -2,6 +2,7 @@
 pub mod Entries
 pub mod Frames
 pub mod Levels
+pub mod Picks
 pub mod Places
 mod Returns
 pub mod Shapes

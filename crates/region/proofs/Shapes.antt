@@ -1,10 +1,10 @@
 -- What a shape in range tells, as numbers, and back; the sizes that follow from it. Assumes nothing.
-use Prim.Native.Nat.{ℕ, zero, suc, _+_, _-_, _*_, _%_, _^_, _≤_, _<_}
+use Prim.Native.Nat.{ℕ, _-_, _*_, _%_, _^_, _≤_, _<_}
 use native.Mathlib.Nat.{mod-eq-of-lt, one-mul}
 use native.Mathlib.Omega.{arith}
 use mathlib.Core.Path.{_≡_, refl, sym, ap, _∙_}
 use mathlib.Core.Bool.{Bool, true, false, not, _&&_, true≢false}
-use borrow.Author.Tests.{leb-true, le-leb, lt-leb, le-ltb, not-true, not-false}
+use borrow.Author.Tests.{leb-true, le-leb, lt-leb, not-true, not-false}
 use lib.Dec.{leb}
 use lib.Pow.{pow-mono, pow-pos, pow-lt}
 use Rattle.region.specs.Shape.{InRange, between, shapeFits, regionWords}
@@ -140,3 +140,11 @@ module _ (s : Shape) (d : Bool) (ed : d ≡ between 1 (s .depth) 12) where
 pub words-most : (s : Shape) → InRange s → regionWords s ≤ 20547
 unfolding regionWords
 words-most s r = omega (arith, sizes s (r .depth-most))
+
+-- What a shape that passed its test tells the code behind the test.
+module _ (s : Shape) (q : Bool) (eq : q ≡ shapeFits s) (gq : not q ≡ false) where
+  pub shape-in-range : InRange s
+  shape-in-range = in-range s (sym eq ∙ not-false q gq)
+
+  pub few-words : (w : ℕ) → w ≡ regionWords s → w ≤ 20547
+  few-words w ew = omega (arith, words-most s shape-in-range)

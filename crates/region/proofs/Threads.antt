@@ -2,12 +2,12 @@
 -- are read as that record. Assumes nothing.
 use Prim.Native.Nat.{ℕ, suc, _+_}
 use native.Mathlib.Omega.{arith}
-use mathlib.Core.Path.{_≡_, refl, sym, ap, _∙_}
-use mathlib.Core.List.{List, [], _∷_, _++_}
+use mathlib.Core.Path.{_≡_, ap, _∙_}
+use mathlib.Core.List.{List, [], _∷_}
 use lib.ListN.{getD}
 use Rattle.words.specs.Word.{wordsAt, setWords}
 use Rattle.region.specs.Place.{placeOf, placeNumber, waitingLevels}
-use Rattle.region.specs.Record.{itemOf, copyOf, copyWords, copyAt, setCopyAt}
+use Rattle.region.specs.Record.{itemOf, copyWords, copyAt, setCopyAt}
 use Rattle.region.specs.Thread.{searchOf, threadOf, threadWords, threadAt, setThreadAt}
 use Rattle.region.specs.declared.place.Place.{Place}
 use Rattle.region.specs.declared.record.NodeCopy.{NodeCopy}
@@ -90,7 +90,8 @@ thread-stored b b₁ b₂ b₃ b′ at t n w en ew e₁ e₂ e₃ e₄ =
     let k₁ = on at .0 in
     let k₂ = on at .1 ∙ ap (λ k. suc (suc (suc (suc (suc (suc k)))))) k₁ in
     let k₃ = on at .2 ∙ ap (λ k. suc (suc (suc (suc (suc (suc k)))))) k₂ in
-    let f₁ : b₁ ≡ setWords b at (stored t (placeNumber (t .place)) (waitingLevels (t .place))) = e₁ ∙ (λ i. setWords b at (stored t (en i) (ew i))) in
+    let f₁ : b₁ ≡ setWords b at (stored t (placeNumber (t .place)) (waitingLevels (t .place))) =
+    e₁ ∙ (λ i. setWords b at (stored t (en i) (ew i))) in
     let f₂ = e₂ ∙ (λ i. setWords (f₁ i) (k₁ i) (copyWords (t .copies .first))) in
     let f₃ = e₃ ∙ (λ i. setWords (f₂ i) (k₂ i) (copyWords (t .copies .second))) in
     e₄ ∙ (λ i. setWords (f₃ i) (k₃ i) (copyWords (t .copies .third)))

@@ -4,20 +4,20 @@ use Prim.Native.Nat.{ℕ, zero, suc, _+_, _-_, _*_, _^_, _≤_, _<_}
 use native.Mathlib.Nat.{mul-le-mul-left}
 use native.Mathlib.Decide.{ℕ-discrete, decLt}
 use native.Mathlib.Omega.{arith}
-use mathlib.Core.Path.{_≡_, refl, sym, ap, subst, fun-ext, _∙_}
+use mathlib.Core.Path.{_≡_, refl, ap, fun-ext, _∙_}
 use mathlib.Core.Logic.{_⊎_, inl, inr, ⊎-elim}
 use mathlib.Core.Bool.{Bool, true, false}
 use mathlib.Core.List.{List}
 use borrow.Author.Tests.{eq-eqb, ne-eqb}
 use lib.Dec.{eqb}
 use lib.ListN.{length, getD}
-use Rattle.words.specs.Word.{word, setWord, wordsAt, setWords, Bytes, Fit}
-use Rattle.words.proofs.Laws.{word-stored, word-same, word-other, word-apart, wordsAt-same, wordsAt-reads, length-setWord, length-setWords, bytes-setWord, bytes-setWords}
+use Rattle.words.specs.Word.{word, setWord, Fit}
+use Rattle.words.proofs.Laws.{word-stored, word-same, word-other, word-apart, wordsAt-same, wordsAt-reads, length-setWords}
 use Rattle.region.specs.Frame.{Part, Apart, before, behind, Parted, Within, partSize, depthOf, freeOf, nodesOf, cellsOf, threadsOf}
 use Rattle.region.specs.Pick.{pick, upd}
 use Rattle.region.specs.Record.{nodeOf, nodeWords, emptyNode, nodeAt, setNodeAt, cellOf, cellWords, zeroCell, cellAt, setCellAt}
 use Rattle.region.specs.Shape.{between, nodeCount}
-use Rattle.region.specs.Shared.{Shared, entry, loadEntry, storeEntry, nodeIn, setNodeIn, cellIn, setCellIn, threadIn, setThreadIn, sharedIn, putNode, putCell, putDepth, putFree}
+use Rattle.region.specs.Shared.{entry, loadEntry, storeEntry, nodeIn, setNodeIn, cellIn, setCellIn, threadIn, setThreadIn, sharedIn, putNode, putCell, putDepth, putFree}
 use Rattle.region.specs.Thread.{threadSize, threadOf, threadWords, idleThread, threadAt, setThreadAt}
 use Rattle.region.specs.declared.frame.Frame.{Frame}
 use Rattle.region.specs.declared.record.Cell.{Cell}
@@ -204,39 +204,30 @@ unfolding setNodeIn setNodeAt
 length-setNodeIn f b n v =
     stays setNodeAt (nodesOf f) (λ l. length l ≡ length b) (λ l k u e. length-setWords (nodeWords u) l k ∙ e) b n v refl
 
-pub bytes-setNodeIn : (f : Frame) (b : List ℕ) (n : ℕ) (v : Node) → Bytes b → Bytes (setNodeIn f b n v)
-unfolding setNodeIn setNodeAt
-bytes-setNodeIn f b n v = stays setNodeAt (nodesOf f) Bytes (λ l k u. bytes-setWords (nodeWords u) l k) b n v
-
 pub length-setCellIn : (f : Frame) (b : List ℕ) (c : ℕ) (v : Cell) → length (setCellIn f b c v) ≡ length b
 unfolding setCellIn setCellAt
 length-setCellIn f b c v =
     stays setCellAt (cellsOf f) (λ l. length l ≡ length b) (λ l k u e. length-setWords (cellWords u) l k ∙ e) b c v refl
-
-pub bytes-setCellIn : (f : Frame) (b : List ℕ) (c : ℕ) (v : Cell) → Bytes b → Bytes (setCellIn f b c v)
-unfolding setCellIn setCellAt
-bytes-setCellIn f b c v = stays setCellAt (cellsOf f) Bytes (λ l k u. bytes-setWords (cellWords u) l k) b c v
 
 pub length-setThreadIn : (f : Frame) (b : List ℕ) (t : ℕ) (v : Thread) → length (setThreadIn f b t v) ≡ length b
 unfolding setThreadIn setThreadAt
 length-setThreadIn f b t v =
     stays setThreadAt (threadsOf f) (λ l. length l ≡ length b) (λ l k u e. length-setWords (threadWords u) l k ∙ e) b t v refl
 
-pub bytes-setThreadIn : (f : Frame) (b : List ℕ) (t : ℕ) (v : Thread) → Bytes b → Bytes (setThreadIn f b t v)
-unfolding setThreadIn setThreadAt
-bytes-setThreadIn f b t v = stays setThreadAt (threadsOf f) Bytes (λ l k u. bytes-setWords (threadWords u) l k) b t v
-
 -- What each store changes lies within its part.
 module _ (f : Frame) (b : List ℕ) (w : Within f (length b)) where
-  pub word-setNodeIn : (n j : ℕ) (v : Node) → Outside ((nodesOf f) .start) (partSize (nodesOf f)) j → word (setNodeIn f b n v) j ≡ word b j
+  pub word-setNodeIn : (n j : ℕ) (v : Node) → Outside ((nodesOf f) .start) (partSize (nodesOf f)) j
+      → word (setNodeIn f b n v) j ≡ word b j
   unfolding setNodeIn
   word-setNodeIn n j v o = store-only node-codec emptyNode (nodesOf f) (omega arith) b n j v o
 
-  pub word-setCellIn : (c j : ℕ) (v : Cell) → Outside ((cellsOf f) .start) (partSize (cellsOf f)) j → word (setCellIn f b c v) j ≡ word b j
+  pub word-setCellIn : (c j : ℕ) (v : Cell) → Outside ((cellsOf f) .start) (partSize (cellsOf f)) j
+      → word (setCellIn f b c v) j ≡ word b j
   unfolding setCellIn
   word-setCellIn c j v o = store-only cell-codec zeroCell (cellsOf f) (omega arith) b c j v o
 
-  pub word-setThreadIn : (t j : ℕ) (v : Thread) → Outside ((threadsOf f) .start) (partSize (threadsOf f)) j → word (setThreadIn f b t v) j ≡ word b j
+  pub word-setThreadIn : (t j : ℕ) (v : Thread) → Outside ((threadsOf f) .start) (partSize (threadsOf f)) j
+      → word (setThreadIn f b t v) j ≡ word b j
   unfolding setThreadIn
   word-setThreadIn t j v o = store-only thread-codec (idleThread 0) (threadsOf f) (w .stride) b t j v o
 
@@ -292,9 +283,6 @@ module _ (f : Frame) (b : List ℕ) (w : Within f (length b)) where
           free = free-kept f b (setNodeIn f b n v) (node-keeps n v (freeOf f) (parted .free-nodes)) i;
         }
 
-    pub threads-setNode : (n : ℕ) (v : Node) → threadIn f (setNodeIn f b n v) ≡ threadIn f b
-    threads-setNode n v = threads-kept f b w (setNodeIn f b n v) (node-keeps n v (threadsOf f) (flip (parted .nodes-threads)))
-
     pub shared-setCell : (c : ℕ) (v : Cell) → 1 ≤ c → c ≤ f .shape .cells → Fit (cellWords v)
         → sharedIn f (setCellIn f b c v) ≡ putCell (sharedIn f b) c v
     unfolding sharedIn setCellIn cellIn
@@ -321,9 +309,6 @@ module _ (f : Frame) (b : List ℕ) (w : Within f (length b)) where
           depth = word-same b (f .depth) v (w .depth) g i;
           free = free-kept f b (setWord b (f .depth) v) (depth-keeps v (freeOf f) (flip (parted .depth-free))) i;
         }
-
-    pub threads-setDepth : (v : ℕ) → threadIn f (setWord b (f .depth) v) ≡ threadIn f b
-    threads-setDepth v = threads-kept f b w (setWord b (f .depth) v) (depth-keeps v (threadsOf f) (flip (parted .depth-threads)))
 
     pub shared-setFree : (v : ℕ) → v < 2 ^ 32 → sharedIn f (setWord b (f .free) v) ≡ putFree (sharedIn f b) v
     unfolding sharedIn

@@ -1,11 +1,12 @@
 -- Where the parts of a queue lie in its region: word offsets, counted from 0.
-use Prim.Native.Nat.{ℕ, _+_, _-_, _*_, _≤_}
+use Prim.Native.Nat.{ℕ, _+_, _*_, _≤_}
 use Rattle.region.specs.Shape.{nodeCount}
 use Rattle.region.specs.Thread.{threadSize}
 use Rattle.region.specs.declared.frame.Frame.{Frame}
 use Rattle.region.specs.declared.shape.Shape.{Shape}
 
--- "Six words: D, C, T, H, present depth, first free cell. Then 2^D − 1 nodes of three words .. Then C cells .. Then T threads of 33 words"
+-- "Six words: D, C, T, H, present depth, first free cell. Then 2^D − 1 nodes of three words .. Then C cells .. Then T threads
+-- of 33 words"
 unfoldable pub frameOf : Shape → Frame
 frameOf s =
     record {

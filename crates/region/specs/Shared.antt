@@ -2,8 +2,7 @@
 -- range reads as the empty node, the zero cell or the idle thread with no permission, and a store out of range stores nothing.
 use Prim.Native.Nat.{ℕ, _+_, _-_, _*_}
 use mathlib.Core.List.{List}
-use mathlib.Core.Bool.{Bool}
-use Rattle.words.specs.Word.{word, setWord}
+use Rattle.words.specs.Word.{word}
 use Rattle.region.specs.Frame.{Part, nodesOf, cellsOf, threadsOf}
 use Rattle.region.specs.Pick.{pick, upd}
 use Rattle.region.specs.Record.{emptyNode, zeroCell, nodeAt, setNodeAt, cellAt, setCellAt}

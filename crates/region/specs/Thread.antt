@@ -1,6 +1,6 @@
 -- The thread's record as a run of 33 words, and the values that its methods hand back (document 01, The region).
 use Prim.Native.Nat.{ℕ, _-_}
-use mathlib.Core.List.{List, [], _∷_, _++_}
+use mathlib.Core.List.{List, _∷_, _++_}
 use lib.Dec.{eqb}
 use lib.ListN.{getD}
 use Rattle.words.specs.Word.{wordsAt, setWords}

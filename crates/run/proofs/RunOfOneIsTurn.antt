@@ -1,4 +1,5 @@
--- A run of one turn is the turn by itself: its refusal is decided by the region alone, and the list of its turns has one. Assumes nothing.
+-- A run of one turn is the turn by itself: its refusal is decided by the region alone, and the list of its turns has one.
+-- Assumes nothing.
 use Prim.Native.Nat.{ℕ, _/_, _≤_}
 use native.Mathlib.Nat.{zero-add}
 use native.Mathlib.Omega.{arith}

@@ -1,4 +1,5 @@
--- The run over plain variables: one turn, the loop's invariant and its turns, the refusals in their order, and the whole call. Assumes nothing.
+-- The run over plain variables: one turn, the loop's invariant and its turns, the refusals in their order, and the whole call.
+-- Assumes nothing.
 use Prim.Native.Nat.{ℕ, suc, _+_, _-_, _*_, _/_, _%_, _≤_, _<_}
 use native.Mathlib.Numerals.{add-one}
 use native.Mathlib.Omega.{arith}

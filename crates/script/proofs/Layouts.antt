@@ -1,5 +1,5 @@
--- A layout that is not refused leaves the same bytes whatever it found: stores of words are stores of their bytes, and they leave none out.
--- Assumes nothing.
+-- A layout that is not refused leaves the same bytes whatever it found: stores of words are stores of their bytes, and they
+-- leave none out. Assumes nothing.
 use Prim.Native.Nat.{ℕ, suc, _+_, _*_, _/_, _%_}
 use native.Mathlib.Numerals.{add-one, add-two, add-three}
 use native.Mathlib.Omega.{arith}

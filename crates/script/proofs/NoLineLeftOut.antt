@@ -34,7 +34,8 @@ one-more s (suc n) at line b h = ways (ltb at (length s)) refl (readLine s at) r
     ways true q (LineRead l) e rest =
         let in-it = ltb-true at (length s) q in
         lines-read s at line b (suc n) in-it l e
-        ∙ ap (after (lineText line (l .thread) (callOutcome b (l .what) (l .thread)))) (rest (l .next) (suc line) (callBytes b (l .what) (l .thread)) (omega (arith, line-long s at l e)))
+        ∙ ap (after (lineText line (l .thread) (callOutcome b (l .what) (l .thread))))
+        (rest (l .next) (suc line) (callBytes b (l .what) (l .thread)) (omega (arith, line-long s at l e)))
         ∙ sym (lines-read s at line b n in-it l e)
 
 pub no-line-left-out : NoLineLeftOut

@@ -1,5 +1,5 @@
--- Reading the opening and a line: each way out of the functions, over plain variables; and a line that can be read takes ten bytes or more.
--- Assumes nothing.
+-- Reading the opening and a line: each way out of the functions, over plain variables; and a line that can be read takes ten
+-- bytes or more. Assumes nothing.
 use Prim.Native.Nat.{ℕ, _+_, _^_, _≤_, _<_}
 use native.Mathlib.Omega.{arith}
 use mathlib.Core.Path.{_≡_, refl, sym, ap, _∙_}
@@ -173,7 +173,8 @@ unfolding readLine pick
 line-long s at l e = ways (textAt s at (ascii "put ")) (textAt s at (ascii "take ")) (textAt s at (ascii "turn ")) e
   where
     ways : (p q r : Bool)
-        → pick p (putLine (fieldsAt s (at + 4))) (pick q (takeLine (fieldsAt s (at + 5))) (pick r (turnLine (fieldsAt s (at + 5))) NotLine))
+        → pick p (putLine (fieldsAt s (at + 4)))
+        (pick q (takeLine (fieldsAt s (at + 5))) (pick r (turnLine (fieldsAt s (at + 5))) NotLine))
         ≡ LineRead l → at + 10 ≤ l .next
     ways true q r e = omega (arith, fields-long s (at + 4) l (put-fields (fieldsAt s (at + 4)) l e))
     ways false true r e = omega (arith, fields-long s (at + 5) l (take-fields (fieldsAt s (at + 5)) l e))

@@ -72,7 +72,8 @@ module _ (s : List ℕ) (at line : ℕ) (b : List ℕ) where
 
     pub lines-read : (l : ScriptLine) → readLine s at ≡ LineRead l
         → linesFrom (suc n) s at line b
-        ≡ after (lineText line (l .thread) (callOutcome b (l .what) (l .thread))) (linesFrom n s (l .next) (suc line) (callBytes b (l .what) (l .thread)))
+        ≡ after (lineText line (l .thread) (callOutcome b (l .what) (l .thread)))
+        (linesFrom n s (l .next) (suc line) (callBytes b (l .what) (l .thread)))
     unfolding linesFrom pick
     lines-read l e = rw (lt-ltb at (length s) h, e) refl
 
@@ -115,7 +116,8 @@ run-start s start b out a h =
       region = ap (λ n. linesFrom n s start 1 b .region) e;
     }
 
-module _ {s : List ℕ} {start : ℕ} {b₀ out₀ : List ℕ} {a : ℕ} {b out : List ℕ} {at line k : ℕ} (e : Running s start b₀ out₀ a b out at line k) where
+module _ {s : List ℕ} {start : ℕ} {b₀ out₀ : List ℕ} {a : ℕ} {b out : List ℕ} {at line k : ℕ}
+    (e : Running s start b₀ out₀ a b out at line k) where
   -- printing xs, after which `next` is left, keeps the whole
   printed-more : (next : Ran) {out′ : List ℕ} {k′ : ℕ} (xs : List ℕ) → rest s at line b ≡ after xs next → Wrote out out′ k k′ xs
       → sets out′ k′ (next .printed) ≡ sets out₀ a (whole s start b₀ .printed)
@@ -183,17 +185,20 @@ module _ {s : List ℕ} {start : ℕ} {b₀ out₀ : List ℕ} {a : ℕ} {b out 
         pub run-less : length s - l .next < length s - at
         run-less = omega (arith, line-next)
 
-        pub run-more : {b′ : List ℕ} (o : Outcome) → CallMade b b′ (l .what) (l .thread) o → length b′ ≡ length b → {out′ : List ℕ} {k′ : ℕ}
+        pub run-more : {b′ : List ℕ} (o : Outcome) → CallMade b b′ (l .what) (l .thread) o → length b′ ≡ length b
+            → {out′ : List ℕ} {k′ : ℕ}
             → Wrote out out′ k k′ (lineText line (l .thread) o) → Running s start b₀ out₀ a b′ out′ (l .next) (line + 1) k′
         unfolding rest
         run-more {b′} o m z {out′} {k′} w =
             let text : List ℕ = lineText line (l .thread) o in
+            let more : ℕ = suc (length s) - (line + 1) in
             let left : rest s at line b ≡ after text (rest s (l .next) (line + 1) b′) =
             ap (λ n. linesFrom n s at line b) one-less
-            ∙ lines-read s at line b (suc (length s) - (line + 1)) h l (sym er ∙ g)
-            ∙ ap (λ x. after (lineText line (l .thread) x) (linesFrom (suc (length s) - (line + 1)) s (l .next) (suc line) (callBytes b (l .what) (l .thread)))) (sym (m .outcome))
-            ∙ ap (λ x. after text (linesFrom (suc (length s) - (line + 1)) s (l .next) (suc line) x)) (sym (m .bytes))
-            ∙ ap (λ n. after text (linesFrom (suc (length s) - (line + 1)) s (l .next) n b′)) (sym (add-one line)) in
+            ∙ lines-read s at line b more h l (sym er ∙ g)
+            ∙ ap (λ x. after (lineText line (l .thread) x) (linesFrom more s (l .next) (suc line) (callBytes b (l .what) (l .thread))))
+            (sym (m .outcome))
+            ∙ ap (λ x. after text (linesFrom more s (l .next) (suc line) x)) (sym (m .bytes))
+            ∙ ap (λ n. after text (linesFrom more s (l .next) n b′)) (sym (add-one line)) in
             record {
               short = e .short;
               room = e .room;

@@ -14,7 +14,7 @@ use lib.Seq.{drop-at, length-take-le, take-at}
 use Rattle.region.specs.Answer.{done, badShape}
 use Rattle.region.specs.Pick.{pick}
 use Rattle.region.specs.Shape.{InRange, regionWords, shapeFits}
-use Rattle.region.proofs.Shapes.{and-both, and-left, and-not-left, and-not-right, in-range}
+use Rattle.region.proofs.Shapes.{and-both, and-left, and-not-left, and-not-right, shape-in-range}
 use Rattle.layout.specs.Layout.{LaidOut, atMost, layoutBytes, layoutRefusal, permissionsFit}
 use Rattle.layout.proofs.Laws.{laid-length as laid-exactly, laid-permissions, laid-shape}
 use Rattle.region.specs.declared.answer.Answer.the-variants.{Refused}
@@ -72,7 +72,7 @@ module _ (u : Setup) where
 
     module _ (g : not q ≡ false) where
       some-threads : 1 ≤ u .shape .threads
-      some-threads = in-range (u .shape) (sym eq ∙ not-false q g) .threads-least
+      some-threads = shape-in-range (u .shape) q eq g .threads-least
 
       pub over : 3 < u .permission → badShape ≡ setupRefusal u
       unfolding setupRefusal layoutRefusal pick
@@ -93,7 +93,8 @@ module _ (u : Setup) (e : setupRefusal u ≡ done) where
   unfolding setupRefusal pick
   fine = ways (leb (u .shape .depth) 8) refl e
     where
-      ways : (q : Bool) → leb (u .shape .depth) 8 ≡ q → pick q (layoutRefusal (u .shape) (permissionsOf u) (regionLength u)) badShape ≡ done → Fine
+      ways : (q : Bool) → leb (u .shape .depth) 8 ≡ q
+          → pick q (layoutRefusal (u .shape) (permissionsOf u) (regionLength u)) badShape ≡ done → Fine
       ways true g e = record { shallow = leb-true (u .shape .depth) 8 g; exact = e }
       ways false g e = absurd (omega arith)
 
@@ -111,8 +112,8 @@ module _ (u : Setup) (e : setupRefusal u ≡ done) where
   fine-permission =
       record {
         fits =
-            omega
-            (arith, over-same 3 (u .permission) (u .shape .threads) (fine-shape .threads-least) (laid-permissions (u .shape) (permissionsOf u) zeros accepted));
+            let all = laid-permissions (u .shape) (permissionsOf u) zeros accepted in
+            omega (arith, over-same 3 (u .permission) (u .shape .threads) (fine-shape .threads-least) all);
       }
 
   module _ (all : List ℕ) (same : all ≡ replicate 64 (u .permission)) where
@@ -129,8 +130,9 @@ module _ (u : Setup) (e : setupRefusal u ≡ done) where
   fine-length : regionLength u ≤ 13068
   unfolding regionWords
   fine-length =
-      omega
-      (arith, fine-shape, pow-mono {i = u .shape .depth - 1} {j = 7} (omega (arith, fine .shallow)), pow-mono {i = u .shape .depth} {j = 8} (fine .shallow))
+      let leaves = pow-mono {i = u .shape .depth - 1} {j = 7} (omega (arith, fine .shallow)) in
+      let nodes = pow-mono {i = u .shape .depth} {j = 8} (fine .shallow) in
+      omega (arith, fine-shape, leaves, nodes)
 
   laid-length : length (laidRegion u) ≡ regionLength u
   unfolding laidRegion zeros
@@ -188,7 +190,8 @@ module _ (s : List ℕ) (u : Setup) (g g₁ out : List ℕ) (a : ℕ) (r : ℕ) 
     unfolding pick
     refused-left = rw (← e .answer, ne-eqb r done n) at (e .bytes)
 
-    pub setup-refused : (out′ : List ℕ) (k : ℕ) → Wrote out out′ a k (lineText 0 0 (Answered (Refused r))) → SetupRan s u g g₁ out out′ a k
+    pub setup-refused : (out′ : List ℕ) (k : ℕ) → Wrote out out′ a k (lineText 0 0 (Answered (Refused r)))
+        → SetupRan s u g g₁ out out′ a k
     unfolding refused
     setup-refused out′ k w =
         record {
@@ -222,16 +225,21 @@ module _ (s : List ℕ) (u : Setup) (g g₁ out : List ℕ) (a : ℕ) (r : ℕ) 
         pub ready-part : 4 * w ≡ length (take (4 * w) g₁)
         ready-part = part-length u ready w ew g₁ (same ∙ lent)
 
+        all-laid : length (laidRegion u) ≡ 4 * w
+        all-laid = laid-length u ready ∙ sym (exact-length u ready w ew)
+
         part : take (4 * w) g₁ ≡ laidRegion u
-        part = ap (take (4 * w)) laid ∙ take-at (laidRegion u) (drop (regionLength u) g) (4 * w) (laid-length u ready ∙ sym (exact-length u ready w ew))
+        part = ap (take (4 * w)) laid ∙ take-at (laidRegion u) (drop (regionLength u) g) (4 * w) all-laid
 
         beyond : drop (4 * w) g₁ ≡ drop (regionLength u) g
-        beyond = ap (drop (4 * w)) laid ∙ drop-at (laidRegion u) (drop (regionLength u) g) (4 * w) (laid-length u ready ∙ sym (exact-length u ready w ew))
+        beyond = ap (drop (4 * w)) laid ∙ drop-at (laidRegion u) (drop (regionLength u) g) (4 * w) all-laid
 
-        pub setup-ran : (b out′ : List ℕ) (k : ℕ) → LinesRan s (u .next) (take (4 * w) g₁) b out out′ a k → length b ≡ length (take (4 * w) g₁)
+        pub setup-ran : (b out′ : List ℕ) (k : ℕ) → LinesRan s (u .next) (take (4 * w) g₁) b out out′ a k
+            → length b ≡ length (take (4 * w) g₁)
             → SetupRan s u g (b ++ drop (4 * w) g₁) out out′ a k
         setup-ran b out′ k l z =
-            let all : linesFrom (length s) s (u .next) 1 (take (4 * w) g₁) ≡ setupThen s u = ap (linesFrom (length s) s (u .next) 1) part ∙ sym ran in
+            let all : linesFrom (length s) s (u .next) 1 (take (4 * w) g₁) ≡ setupThen s u =
+            ap (linesFrom (length s) s (u .next) 1) part ∙ sym ran in
             record {
               output = subst (λ x. Wrote out out′ a k (x .printed)) all (l .output);
               region =

@@ -69,5 +69,6 @@ module _ (s out out₁ g : List ℕ) (k : ℕ) (w : Wrote out out₁ 0 k outputH
       (subst (Wrote out₁ out′ k m) (sym (append-nil (lineText 0 0 Unreadable))) v)
       refl
 
-  pub opened : (u : Setup) → r ≡ OpeningRead u → (out′ g′ : List ℕ) (m : ℕ) → SetupRan s u g g′ out₁ out′ k m → ScriptRan s out out′ g g′ m
+  pub opened : (u : Setup) → r ≡ OpeningRead u → (out′ g′ : List ℕ) (m : ℕ) → SetupRan s u g g′ out₁ out′ k m
+      → ScriptRan s out out′ g g′ m
   opened u n out′ g′ m v = whole-ran (setupThen s u) (ap (openingThen s) n) out′ g′ m (v .output) (v .region)

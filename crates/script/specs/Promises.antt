@@ -16,8 +16,8 @@ use Rattle.script.specs.declared.reading.What.{What}
 abbrev pub regionRoom : ℕ
 regionRoom = 13068
 
--- a line of the output has at most 55 bytes, a line of the script that can be read at least ten; so 60,000 bytes print at most 6,000 lines,
--- and one more that cannot be read
+-- a line of the output has at most 55 bytes, a line of the script that can be read at least ten; so 60,000 bytes print at most
+-- 6,000 lines, and one more that cannot be read
 abbrev pub linesRoom : ℕ
 linesRoom = 330055
 

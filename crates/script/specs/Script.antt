@@ -1,4 +1,5 @@
--- What a script prints, and the region that it leaves, from its bytes (document 01, The script program): `scriptRun`, below all it is made of.
+-- What a script prints, and the region that it leaves, from its bytes (document 01, The script program): `scriptRun`, below all
+-- it is made of.
 use Prim.Native.Nat.{ℕ, zero, suc, _*_}
 use mathlib.Core.List.{List, [], _++_}
 use lib.Dec.{leb, ltb, eqb}
@@ -51,14 +52,14 @@ after text r = record { printed = text ++ r .printed; region = r .region }
 abbrev pub nothingMore : List ℕ → Ran
 nothingMore b = record { printed = []; region = b }
 
--- line n of the script on the region b, and the rest: "A line that cannot be read prints `unreadable` as its answer, thread, key and tag 0,
--- and ends the program"
+-- line n of the script on the region b, and the rest: "A line that cannot be read prints `unreadable` as its answer, thread,
+-- key and tag 0, and ends the program"
 abbrev pub lineThen : Line → ℕ → List ℕ → (ScriptLine → Ran) → Ran
 lineThen NotLine n b rest = after (lineText n 0 Unreadable) (nothingMore b)
 lineThen (LineRead l) n b rest = after (lineText n (l .thread) (callOutcome b (l .what) (l .thread))) (rest l)
 
--- the lines from a position on, the first of them line n, on the region b. The first argument is the most lines there can be: a line that is
--- read takes bytes, so as many lines as bytes leave none out (`NoLineLeftOut` in Theorems.antt).
+-- the lines from a position on, the first of them line n, on the region b. The first argument is the most lines there can be: a
+-- line that is read takes bytes, so as many lines as bytes leave none out (`NoLineLeftOut` in Theorems.antt).
 unfoldable pub linesFrom : ℕ → List ℕ → ℕ → ℕ → List ℕ → Ran
 linesFrom zero s at n b = nothingMore b
 linesFrom (suc most) s at n b =

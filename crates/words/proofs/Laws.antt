@@ -1,14 +1,13 @@
--- The laws of words and runs: what was stored is read back, what lies apart is left alone, lengths stay, what is read fits, and stores apart commute.
+-- The laws of words and runs: what was stored is read back, what lies apart is left alone, lengths stay, what is read fits.
 -- Assumes nothing.
-use Prim.Native.Nat.{ℕ, zero, suc, _+_, _-_, _*_, _/_, _%_, _^_, _≤_, _<_}
+use Prim.Native.Nat.{ℕ, zero, suc, _+_, _*_, _/_, _%_, _^_, _≤_, _<_}
 use native.Mathlib.Nat.{add-zero, add-suc, suc-add, div-div-eq-div-mul}
 use native.Mathlib.Omega.{arith}
-use native.Mathlib.Decide.{ℕ-discrete}
-use mathlib.Core.Path.{_≡_, refl, sym, ap, subst, _∙_}
+use mathlib.Core.Path.{_≡_, refl, sym, ap, _∙_}
 use mathlib.Core.Logic.{_≢_, _⊎_, inl, inr, ⊎-elim}
-use mathlib.Core.List.{List, [], _∷_, _++_}
-use lib.ListN.{length, getD, set, take, drop, length-set}
-use lib.Seq.{getD-set-same, getD-set-other, set-comm, drop-cons, take-suc, take-suc-set}
+use mathlib.Core.List.{List, [], _∷_}
+use lib.ListN.{length, getD, set, length-set}
+use lib.Seq.{getD-set-same, getD-set-other}
 use Rattle.words.specs.Word.{word, setWord, wordsAt, setWords, Bytes, Fit}
 
 -- Lengths stay.
@@ -20,16 +19,12 @@ pub length-setWords : (vs b : List ℕ) (at : ℕ) → length (setWords b at vs)
 length-setWords [] b at = refl
 length-setWords (v ∷ vs) b at = length-setWords vs (setWord b at v) (suc at) ∙ length-setWord b at v
 
-pub length-wordsAt : (b : List ℕ) (at n : ℕ) → length (wordsAt b at n) ≡ n
-length-wordsAt b at zero = refl
-length-wordsAt b at (suc n) = ap suc (length-wordsAt b (suc at) n)
-
 -- A number is the sum of its four bytes.
 bytes-sum : (v : ℕ) → v < 2 ^ 32
     → v % 256 + 256 * (v / 256 % 256) + 65536 * (v / 65536 % 256) + 16777216 * (v / 16777216 % 256) ≡ v
 bytes-sum v h = rw (← div-div-eq-div-mul v 256 256, ← div-div-eq-div-mul v 65536 256, ← div-div-eq-div-mul v 256 256) (omega arith)
 
--- Four stores in a row: what they leave elsewhere, what is read back, and a store elsewhere before or after them.
+-- Four stores in a row: what they leave elsewhere, and what is read back.
 one : List ℕ → ℕ → ℕ → List ℕ
 one b i p = set b i p
 
@@ -53,15 +48,6 @@ module _ (b : List ℕ) (i p q r s : ℕ) where
       ∙ getD-set-other (two b i p q) (i + 2) j r 0 h₂
       ∙ getD-set-other (one b i p) (i + 1) j q 0 h₁
       ∙ getD-set-other b i j p 0 h₀
-
-  four-past : (j x : ℕ) → i ≢ j → i + 1 ≢ j → i + 2 ≢ j → i + 3 ≢ j
-      → set (four b i p q r s) j x ≡ four (set b j x) i p q r s
-  unfolding four
-  four-past j x h₀ h₁ h₂ h₃ =
-      set-comm (three b i p q r) (i + 3) j s x h₃
-      ∙ ap (λ l. set l (i + 3) s) (set-comm (two b i p q) (i + 2) j r x h₂)
-      ∙ ap (λ l. set (set l (i + 2) r) (i + 3) s) (set-comm (one b i p) (i + 1) j q x h₁)
-      ∙ ap (λ l. set (set (set l (i + 1) q) (i + 2) r) (i + 3) s) (set-comm b i j p x h₀)
 
   module _ (h : i + 4 ≤ length b) where
     four-0 : getD (four b i p q r s) i 0 ≡ p
@@ -122,47 +108,12 @@ pub word-fits : (b : List ℕ) (k : ℕ) → Bytes b → word b k < 2 ^ 32
 unfolding word
 word-fits b k h = omega (arith, h (4 * k), h (4 * k + 1), h (4 * k + 2), h (4 * k + 3))
 
-bytes-set : (b : List ℕ) (i v : ℕ) → Bytes b → v < 256 → Bytes (set b i v)
-bytes-set [] i v h f j = h j
-bytes-set (x ∷ b) zero v h f zero = f
-bytes-set (x ∷ b) zero v h f (suc j) = h (suc j)
-bytes-set (x ∷ b) (suc i) v h f zero = h zero
-bytes-set (x ∷ b) (suc i) v h f (suc j) = bytes-set b i v (λ k. h (suc k)) f j
-
-pub bytes-setWord : (b : List ℕ) (k v : ℕ) → Bytes b → Bytes (setWord b k v)
-unfolding setWord four
-bytes-setWord b k v h =
-    let p = v % 256 in
-    let q = v / 256 % 256 in
-    let r = v / 65536 % 256 in
-    let h₁ = bytes-set b (4 * k) p h (omega arith) in
-    let h₂ = bytes-set (one b (4 * k) p) (4 * k + 1) q h₁ (omega arith) in
-    let h₃ = bytes-set (two b (4 * k) p q) (4 * k + 2) r h₂ (omega arith) in
-    bytes-set (three b (4 * k) p q r) (4 * k + 3) (v / 16777216 % 256) h₃ (omega arith)
-
-pub bytes-setWords : (vs b : List ℕ) (at : ℕ) → Bytes b → Bytes (setWords b at vs)
-bytes-setWords [] b at h = h
-bytes-setWords (v ∷ vs) b at h = bytes-setWords vs (setWord b at v) (suc at) (bytes-setWord b at v h)
-
-pub wordsAt-fit : (b : List ℕ) (at n : ℕ) → Bytes b → Fit (wordsAt b at n)
-wordsAt-fit b at zero h = tt
-wordsAt-fit b at (suc n) h = (word-fits b at h, wordsAt-fit b (suc at) n h)
-
--- Runs. A word before or behind a stored run is left alone, and so is a run.
+-- Runs. A word before or behind a stored run is left alone.
 pub word-apart : (vs b : List ℕ) (at k : ℕ) → (k < at) ⊎ (at + length vs ≤ k) → word (setWords b at vs) k ≡ word b k
 word-apart [] b at k o = refl
 word-apart (v ∷ vs) b at k o =
     word-apart vs (setWord b at v) (suc at) k (⊎-elim (λ h. inl (omega arith)) (λ h. inr (omega arith)) o)
     ∙ word-other b at k v (⊎-elim (λ h. omega arith) (λ h. omega arith) o)
-
-pub wordsAt-apart : (vs b : List ℕ) (at p n : ℕ) → (p + n ≤ at) ⊎ (at + length vs ≤ p)
-    → wordsAt (setWords b at vs) p n ≡ wordsAt b p n
-wordsAt-apart vs b at p zero o = refl
-wordsAt-apart vs b at p (suc n) o =
-    cc (
-      word-apart vs b at p (⊎-elim (λ h. inl (omega arith)) (λ h. inr (omega arith)) o),
-      wordsAt-apart vs b at (suc p) n (⊎-elim (λ h. inl (omega arith)) (λ h. inr (omega arith)) o),
-    )
 
 -- A run is read from its own words alone.
 pub wordsAt-reads : (b b′ : List ℕ) (at n : ℕ) → ((i : ℕ) → at ≤ i → i < at + n → word b i ≡ word b′ i)
@@ -193,27 +144,3 @@ word-stored (v ∷ vs) b at (suc i) h f l =
     ap (word (setWords (setWord b at v) (suc at) vs)) (add-suc at i ∙ sym (suc-add at i))
     ∙ word-stored vs (setWord b at v) (suc at) i (rw length-setWord (omega arith)) (f .1) (omega arith)
 word-stored [] b at i h f l = absurd (omega arith)
-
--- Stores apart commute.
-pub setWord-comm : (b : List ℕ) (j k u v : ℕ) → j ≢ k → setWord (setWord b j u) k v ≡ setWord (setWord b k v) j u
-unfolding setWord four
-setWord-comm b j k u v n =
-    let p = u % 256 in
-    let q = u / 256 % 256 in
-    let r = u / 65536 % 256 in
-    let s = u / 16777216 % 256 in
-    let x = v % 256 in
-    let y = v / 256 % 256 in
-    let z = v / 65536 % 256 in
-    let w = v / 16777216 % 256 in
-    let at = 4 * k in
-    ap
-    (λ l. set (set (set l (at + 1) y) (at + 2) z) (at + 3) w)
-    (four-past b (4 * j) p q r s at x (omega arith) (omega arith) (omega arith) (omega arith))
-    ∙ ap
-    (λ l. set (set l (at + 2) z) (at + 3) w)
-    (four-past (one b at x) (4 * j) p q r s (at + 1) y (omega arith) (omega arith) (omega arith) (omega arith))
-    ∙ ap
-    (λ l. set l (at + 3) w)
-    (four-past (two b at x y) (4 * j) p q r s (at + 2) z (omega arith) (omega arith) (omega arith) (omega arith))
-    ∙ four-past (three b at x y z) (4 * j) p q r s (at + 3) w (omega arith) (omega arith) (omega arith) (omega arith)

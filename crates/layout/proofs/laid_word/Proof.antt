@@ -22,7 +22,9 @@ cast-cell-word : tie.Need-cast-cell-word
 cast-cell-word c = search needs
 
 cell-word-requires : tie.Need-cell-word-requires
-cell-word-requires c κs = omega (arith, sizes (c .before .before .before .before .before .args .shape) (c .before .before .before .before .before .pre .shape .depth-most), c .before .before .before .before .before .pre .shape)
+cell-word-requires c κs =
+    let o = c .before .before .before .before .before in
+    omega (arith, sizes (o .args .shape) (o .pre .shape .depth-most), o .pre .shape)
 
 returns-3 : tie.Need-returns-3
 returns-3 c = search laid-cell

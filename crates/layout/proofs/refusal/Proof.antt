@@ -1,9 +1,10 @@
 -- `layout::refusal` meets its contract: the first test that fails decides. Assumes nothing.
 use native.Mathlib.Omega.{arith}
 use borrow.Author.Needs.{needs}
+use Rattle.region.proofs.Shapes.{shape-in-range, few-words}
 use Rattle.layout.proofs.refusal.Statement.{statement}
 use Rattle.layout.proofs.refusal.Tie as tie
-use Rattle.layout.proofs.Turns.{bad-shape, bad-permissions, bad-length, no-refusal, shape-in-range, few-bytes}
+use Rattle.layout.proofs.Turns.{bad-shape, bad-permissions, bad-length, no-refusal}
 
 fits-requires : tie.Need-fits-requires
 fits-requires c κs = search needs
@@ -21,7 +22,9 @@ word-count-requires : tie.Need-word-count-requires
 word-count-requires c κs = search shape-in-range
 
 mul-if3 : tie.Need-mul-if3
-mul-if3 c = omega (arith, few-bytes (c .before .before .before .before .before .before .args .shape) (c .before .before .before .before .fits2 .result) (c .word-count .result) (c .before .before .before .before .fits2 .ensures) (c .before .before .before .if1 .left) (c .word-count .ensures))
+mul-if3 c =
+    let l = c .before .before .before in
+    omega (arith, few-words _ _ (l .before .fits2 .ensures) (l .if1 .left) _ (c .word-count .ensures))
 
 returns-3 : tie.Need-returns-3
 returns-3 c = search bad-length

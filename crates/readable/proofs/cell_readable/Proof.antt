@@ -11,7 +11,8 @@ load-word-requires : tie.Need-load-word-requires
 load-word-requires c κs = search needs
 
 returns : tie.Need-returns
-returns c = let a = c .before .before .before .args in cell-bad (a .b .now) (a .at) (a .cells) (c .before .load-word .result) (c .before .load-word .ensures) (c .if1 .taken) (λ i. c .before .before .shared-slice-known .given i .fits)
+returns c =
+    cell-bad _ _ _ _ (c .before .load-word .ensures) (c .if1 .taken) (λ i. c .before .before .shared-slice-known .given i .fits)
 
 add-load-word-2 : tie.Need-add-load-word-2
 add-load-word-2 c = search needs
@@ -20,7 +21,9 @@ load-word-requires-2 : tie.Need-load-word-requires-2
 load-word-requires-2 c κs = search needs
 
 returns-2 : tie.Need-returns-2
-returns-2 c = let a = c .before .before .before .before .args in cell-rest (a .b .now) (a .at) (a .cells) (c .before .before .load-word .result) (c .load-word2 .result) (c .before .before .load-word .ensures) (c .before .if1 .left) (c .load-word2 .ensures) (λ i. c .before .before .before .shared-slice-known .given i .fits)
+returns-2 c =
+    cell-rest _ _ _ _ _ (c .before .before .load-word .ensures) (c .before .if1 .left) (c .load-word2 .ensures)
+    (λ i. c .before .before .before .shared-slice-known .given i .fits)
 
 pub cell-readable-spec : {M : Type 1} → statement M
 cell-readable-spec =

@@ -10,7 +10,8 @@ load-shape-requires : tie.Need-load-shape-requires
 load-shape-requires c κs = search readable-long
 
 of-requires : tie.Need-of-requires
-of-requires c κs = subst InRange (sym (c .load-shape .ensures)) (readable-shape (c .before .before .args .b .now) (c .before .before .pre))
+of-requires c κs =
+    subst InRange (sym (c .load-shape .ensures)) (readable-shape (c .before .before .args .b .now) (c .before .before .pre))
 
 returns : tie.Need-returns
 returns c = c .of .ensures ∙ ap frameOf (c .before .load-shape .ensures)

@@ -1,9 +1,10 @@
 -- `readable::is_whole` meets its contract: the first test that fails decides. Assumes nothing.
 use native.Mathlib.Omega.{arith}
 use borrow.Author.Needs.{needs}
+use Rattle.region.proofs.Shapes.{shape-in-range, few-words}
 use Rattle.readable.proofs.is_whole.Statement.{statement}
 use Rattle.readable.proofs.is_whole.Tie as tie
-use Rattle.readable.proofs.Turns.{too-short, shape-bad, shape-in-range, few-words, length-decides}
+use Rattle.readable.proofs.Turns.{too-short, shape-bad, length-decides}
 
 returns : tie.Need-returns
 returns c = search too-short
@@ -21,7 +22,7 @@ word-count-requires : tie.Need-word-count-requires
 word-count-requires c κs = search shape-in-range
 
 mul-result : tie.Need-mul-result
-mul-result c = omega (arith, few-words (c .before .before .before .before .before .before .args .b .now) (c .before .before .before .load-shape .result) (c .before .before .before .load-shape .ensures) (c .before .before .fits2 .result) (c .before .before .fits2 .ensures) (c .before .if2 .left) (c .word-count .result) (c .word-count .ensures))
+mul-result c = omega (arith, few-words _ _ (c .before .before .fits2 .ensures) (c .before .if2 .left) _ (c .word-count .ensures))
 
 returns-3 : tie.Need-returns-3
 returns-3 c = search length-decides

@@ -39,7 +39,10 @@ loop-less : tie.Need-loop-less Inv-loop μ-loop
 loop-less c = omega arith
 
 loop-again : tie.Need-loop-again Inv-loop μ-loop
-loop-again c = two-passed (c .before .before .before .before .before .loop .inv) (c .before .before .before .before .loop-test .taken) (c .before .before .before .node-readable .result) (c .before .before .before .node-readable .ensures) (c .before .before .if1 .left) (c .before .node-readable2 .result) (c .before .node-readable2 .ensures) (c .if2 .left)
+loop-again c =
+    two-passed (c .before .before .before .before .before .loop .inv) (c .before .before .before .before .loop-test .taken) _
+    (c .before .before .before .node-readable .ensures)
+    (c .before .before .if1 .left) _ (c .before .node-readable2 .ensures) (c .if2 .left)
 
 returns-3 : tie.Need-returns-3 Inv-loop μ-loop
 returns-3 c = search none-left

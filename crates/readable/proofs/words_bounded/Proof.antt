@@ -28,7 +28,9 @@ load-word-requires : tie.Need-load-word-requires Inv-loop μ-loop
 load-word-requires c κs = omega arith
 
 returns : tie.Need-returns Inv-loop μ-loop
-returns c = pass-bad (c .before .before .before .before .loop .inv) (c .before .load-word .result) (c .before .before .before .loop-test .taken) (c .before .load-word .ensures) (c .if1 .taken)
+returns c =
+    let l = c .before .before .before in
+    pass-bad (l .before .loop .inv) _ (l .loop-test .taken) (c .before .load-word .ensures) (c .if1 .taken)
 
 add-i : tie.Need-add-i Inv-loop μ-loop
 add-i c = omega arith
@@ -37,7 +39,9 @@ loop-less : tie.Need-loop-less Inv-loop μ-loop
 loop-less c = omega arith
 
 loop-again : tie.Need-loop-again Inv-loop μ-loop
-loop-again c = pass-more (c .before .before .before .before .loop .inv) (c .before .load-word .result) (c .before .before .before .loop-test .taken) (c .before .load-word .ensures) (c .if1 .left)
+loop-again c =
+    let l = c .before .before .before in
+    pass-more (l .before .loop .inv) _ (l .loop-test .taken) (c .before .load-word .ensures) (c .if1 .left)
 
 returns-2 : tie.Need-returns-2 Inv-loop μ-loop
 returns-2 c = search pass-end

@@ -6,7 +6,8 @@ use Prim.Native.Nat.{_-_}
 use Rattle.run.proofs.Turns.{Serving, serve-start, serve-asks, serve-more, serve-stop, serve-end}
 
 abbrev Inv-loop : tie.InvT-loop
-Inv-loop f b₀ schedule limit answers₀ count turns₀ accesses₀ b answers turns accesses = Serving f limit count schedule b₀ answers₀ b answers turns accesses
+Inv-loop f b₀ schedule limit answers₀ count turns₀ accesses₀ b answers turns accesses =
+    Serving f limit count schedule b₀ answers₀ b answers turns accesses
 
 abbrev μ-loop : tie.MeasureT-loop
 μ-loop f b₀ schedule limit answers₀ count turns₀ accesses₀ b answers turns accesses = count - turns

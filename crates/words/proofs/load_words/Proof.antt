@@ -3,7 +3,7 @@ use native.Mathlib.Omega.{arith}
 use Rattle.words.proofs.load_words.Statement.{statement}
 use Rattle.words.proofs.load_words.Tie as tie
 use Prim.Native.Nat.{_-_}
-use lib.ListN.{length, length-set}
+use lib.ListN.{length}
 use Rattle.words.proofs.Loops.{Loaded, load-start, load-more, load-end}
 
 abbrev Inv-loop : tie.InvT-loop

@@ -1,4 +1,5 @@
--- `region::thread::load_thread_at` meets its contract: the words of the first run, by their places, and the copies behind it. Assumes nothing.
+-- `region::thread::load_thread_at` meets its contract: the words of the first run, by their places, and the copies behind it.
+-- Assumes nothing.
 use borrow.Author.Needs.{needs}
 use Rattle.region.proofs.thread.load_thread_at.Statement.{statement}
 use Rattle.region.proofs.thread.load_thread_at.Tie as tie
@@ -77,7 +78,10 @@ load-copy-at-requires-3 : tie.Need-load-copy-at-requires-3
 load-copy-at-requires-3 c κs = search needs
 
 returns : tie.Need-returns
-returns c = let l = c .before .before .before .before .before in thread-loaded (l .before .before .before .args .b .now) (l .load-words .last .1 .1 .0) (l .before .before .before .args .at) (c .before .before .before .place-of .result) (c .before .before .load-copy-at .result) (c .before .load-copy-at2 .result) (c .load-copy-at3 .result) (l .load-words .ensures) (c .before .before .before .place-of .ensures) (c .before .before .load-copy-at .ensures) (c .before .load-copy-at2 .ensures) (c .load-copy-at3 .ensures)
+returns c =
+    let l = c .before .before .before .before .before in
+    thread-loaded _ _ _ _ _ _ _ (l .load-words .ensures) (c .before .before .before .place-of .ensures)
+    (c .before .before .load-copy-at .ensures) (c .before .load-copy-at2 .ensures) (c .load-copy-at3 .ensures)
 
 pub load-thread-at-spec : {M : Type 1} → statement M
 load-thread-at-spec =

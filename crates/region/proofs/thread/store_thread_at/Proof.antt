@@ -38,7 +38,14 @@ same-length : tie.Need-same-length
 same-length c = search needs
 
 returns : tie.Need-returns
-returns c = let a = c .before .before .before .before .before .before .before .before .before .before .before .before .before .before .before .before .before .before .before .before .before .args in thread-stored (a .b .now) (c .before .before .before .before .before .before .before .before .before .before .before .before .before .before .store-words .last .0) (c .before .before .before .before .before .before .before .before .before .before .store-copy-at .last .0) (c .before .before .before .before .before .before .store-copy-at2 .last .0) (c .before .before .store-copy-at3 .last .0) (a .at) (a .t) (c .before .before .before .before .before .before .before .before .before .before .before .before .before .before .before .before .before .before .number .result) (c .before .before .before .before .before .before .before .before .before .before .before .before .before .before .before .before .before .waiting .result) (c .before .before .before .before .before .before .before .before .before .before .before .before .before .before .before .before .before .before .number .ensures) (c .before .before .before .before .before .before .before .before .before .before .before .before .before .before .before .before .before .waiting .ensures) (c .before .before .before .before .before .before .before .before .before .before .before .before .before .before .store-words .ensures) (c .before .before .before .before .before .before .before .before .before .before .store-copy-at .ensures) (c .before .before .before .before .before .before .store-copy-at2 .ensures) (c .before .before .store-copy-at3 .ensures)
+returns c =
+    let third = c .before .before in
+    let second = third .before .before .before .before in
+    let first = second .before .before .before .before in
+    let words = first .before .before .before .before in
+    let waits = words .before .before .before in
+    thread-stored _ _ _ _ _ _ _ _ _ (waits .before .number .ensures) (waits .waiting .ensures) (words .store-words .ensures)
+    (first .store-copy-at .ensures) (second .store-copy-at2 .ensures) (third .store-copy-at3 .ensures)
 
 pub store-thread-at-spec : {M : Type 1} → statement M
 store-thread-at-spec =

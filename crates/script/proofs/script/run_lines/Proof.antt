@@ -33,7 +33,8 @@ same-length : tie.Need-same-length Inv-loop μ-loop
 same-length c = c .before .before .before .before .before .before .before .before .loop .inv .same-region
 
 same-length-2 : tie.Need-same-length-2 Inv-loop μ-loop
-same-length-2 c = c .before .before .write-line .kept .0 ∙ c .before .before .before .before .before .before .before .before .loop .inv .same
+same-length-2 c =
+    c .before .before .write-line .kept .0 ∙ c .before .before .before .before .before .before .before .before .loop .inv .same
 
 returns : tie.Need-returns Inv-loop μ-loop
 returns c = search run-unreadable

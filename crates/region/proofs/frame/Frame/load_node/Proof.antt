@@ -23,7 +23,10 @@ empty-requires-2 c κs = search needs
 
 returns-2 : tie.Need-returns-2
 unfolding nodeIn
-returns-2 c = let h : nodeCount (c .before .before .before .before .before .before .args .self .shape) < c .before .before .before .before .before .before .args .n = omega arith in search load-past
+returns-2 c =
+    let a = c .before .before .before .before .before .before .args in
+    let h : nodeCount (a .self .shape) < a .n = omega arith in
+    search load-past
 
 sub-load-node-at : tie.Need-sub-load-node-at
 sub-load-node-at c = search needs
@@ -39,7 +42,10 @@ load-node-at-requires c κs = search needs
 
 returns-3 : tie.Need-returns-3
 unfolding nodeIn
-returns-3 c = let h : c .before .before .before .before .before .before .before .args .n ≤ nodeCount (c .before .before .before .before .before .before .before .args .self .shape) = omega arith in search load-there
+returns-3 c =
+    let a = c .before .before .before .before .before .before .before .args in
+    let h : a .n ≤ nodeCount (a .self .shape) = omega arith in
+    search load-there
 
 pub load-node-spec : {M : Type 1} → statement M
 load-node-spec =

@@ -28,13 +28,24 @@ sub-load-thread-at : tie.Need-sub-load-thread-at
 sub-load-thread-at c = search needs
 
 mul-load-thread-at : tie.Need-mul-load-thread-at
-mul-load-thread-at c = omega (arith, entry-end (threadsOf (c .before .before .before .before .before .before .args .self)) (c .before .before .before .before .before .before .args .t) (c .before .before .before .before .if1 .left) (c .before .if2 .left), c .before .before .before .before .before .before .pre)
+mul-load-thread-at c =
+    let o = c .before .before .before .before .before .before in
+    let e = entry-end (threadsOf (o .args .self)) (o .args .t) (c .before .before .before .before .if1 .left) (c .before .if2 .left) in
+    omega (arith, e, o .pre)
 
 add-load-thread-at : tie.Need-add-load-thread-at
-add-load-thread-at c = omega (arith, entry-end (threadsOf (c .before .before .before .before .before .before .before .args .self)) (c .before .before .before .before .before .before .before .args .t) (c .before .before .before .before .before .if1 .left) (c .before .before .if2 .left), c .before .before .before .before .before .before .before .pre)
+add-load-thread-at c =
+    let o = c .before .before .before .before .before .before .before in
+    let e = entry-end (threadsOf (o .args .self)) (o .args .t) (c .before .before .before .before .before .if1 .left)
+    (c .before .before .if2 .left) in
+    omega (arith, e, o .pre)
 
 load-thread-at-requires : tie.Need-load-thread-at-requires
-load-thread-at-requires c κs = omega (arith, entry-end (threadsOf (c .before .before .before .before .before .before .before .args .self)) (c .before .before .before .before .before .before .before .args .t) (c .before .before .before .before .before .if1 .left) (c .before .before .if2 .left), c .before .before .before .before .before .before .before .pre)
+load-thread-at-requires c κs =
+    let o = c .before .before .before .before .before .before .before in
+    let e = entry-end (threadsOf (o .args .self)) (o .args .t) (c .before .before .before .before .before .if1 .left)
+    (c .before .before .if2 .left) in
+    omega (arith, e, o .pre)
 
 returns-3 : tie.Need-returns-3
 unfolding threadIn

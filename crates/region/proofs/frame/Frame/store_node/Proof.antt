@@ -17,7 +17,10 @@ node-count-requires c κs = search needs
 
 returns-2 : tie.Need-returns-2
 unfolding setNodeIn
-returns-2 c = let h : nodeCount (c .before .before .before .before .before .args .self .shape) < c .before .before .before .before .before .args .n = omega arith in search store-past
+returns-2 c =
+    let a = c .before .before .before .before .before .args in
+    let h : nodeCount (a .self .shape) < a .n = omega arith in
+    search store-past
 
 sub-store-node-at : tie.Need-sub-store-node-at
 sub-store-node-at c = search needs
@@ -36,7 +39,10 @@ same-length c = search needs
 
 returns-3 : tie.Need-returns-3
 unfolding setNodeIn
-returns-3 c = let h : c .before .before .before .before .before .before .before .before .before .before .args .n ≤ nodeCount (c .before .before .before .before .before .before .before .before .before .before .args .self .shape) = omega arith in search store-there
+returns-3 c =
+    let a = c .before .before .before .before .before .before .before .before .before .before .args in
+    let h : a .n ≤ nodeCount (a .self .shape) = omega arith in
+    search store-there
 
 pub store-node-spec : {M : Type 1} → statement M
 store-node-spec =

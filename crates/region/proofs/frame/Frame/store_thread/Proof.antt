@@ -22,13 +22,25 @@ sub-store-thread-at : tie.Need-sub-store-thread-at
 sub-store-thread-at c = search needs
 
 mul-store-thread-at : tie.Need-mul-store-thread-at
-mul-store-thread-at c = omega (arith, entry-end (threadsOf (c .before .before .before .before .before .before .before .args .self)) (c .before .before .before .before .before .before .before .args .t) (c .before .before .before .before .before .if1 .left) (c .before .before .if2 .left), c .before .before .before .before .before .before .before .pre)
+mul-store-thread-at c =
+    let o = c .before .before .before .before .before .before .before in
+    let e = entry-end (threadsOf (o .args .self)) (o .args .t) (c .before .before .before .before .before .if1 .left)
+    (c .before .before .if2 .left) in
+    omega (arith, e, o .pre)
 
 add-store-thread-at : tie.Need-add-store-thread-at
-add-store-thread-at c = omega (arith, entry-end (threadsOf (c .before .before .before .before .before .before .before .before .args .self)) (c .before .before .before .before .before .before .before .before .args .t) (c .before .before .before .before .before .before .if1 .left) (c .before .before .before .if2 .left), c .before .before .before .before .before .before .before .before .pre)
+add-store-thread-at c =
+    let o = c .before .before .before .before .before .before .before .before in
+    let e = entry-end (threadsOf (o .args .self)) (o .args .t) (c .before .before .before .before .before .before .if1 .left)
+    (c .before .before .before .if2 .left) in
+    omega (arith, e, o .pre)
 
 store-thread-at-requires : tie.Need-store-thread-at-requires
-store-thread-at-requires c κs = omega (arith, entry-end (threadsOf (c .before .before .before .before .before .before .before .before .args .self)) (c .before .before .before .before .before .before .before .before .args .t) (c .before .before .before .before .before .before .if1 .left) (c .before .before .before .if2 .left), c .before .before .before .before .before .before .before .before .pre)
+store-thread-at-requires c κs =
+    let o = c .before .before .before .before .before .before .before .before in
+    let e = entry-end (threadsOf (o .args .self)) (o .args .t) (c .before .before .before .before .before .before .if1 .left)
+    (c .before .before .before .if2 .left) in
+    omega (arith, e, o .pre)
 
 same-length : tie.Need-same-length
 same-length c = search needs
