@@ -43,7 +43,7 @@ use Rattle.readable.specs.Readable.{readable, shapeIn}
 use Rattle.readable.proofs.Laws.{Good, good}
 use Rattle.readable.proofs.Stores.{good-shared, good-thread, good-within, thread-fit}
 use Rattle.extract.specs.Extract.{rootRead, readRoot, headRemoved, removeHead}
-use Rattle.moundify.specs.Moundify.{returnAnswer, returning, mendReadNode, depthRead, mendReadDepth, mendReadLeft, childLess, childrenRead, mendReadRight, exchangeAt, bothSame, exchangeWith, mendSwap, cleanAt, mendClean}
+use Rattle.moundify.specs.Moundify.{returnAnswer, returning, mendReadNode, depthRead, mendReadDepth, mendReadLeft, childLess, childrenRead, mendReadRight, exchangeAt, nodeAndChildSame, exchangeWith, mendSwap, cleanAt, mendClean}
 use Rattle.machine.specs.Begin.{frameIn, takeBytes, takeRefusal}
 use Rattle.machine.specs.Turn.{decide, decideAt, staysPut, turnAnswer, turnBytes, turnPlan}
 use Rattle.preserved.proofs.Proved.{begun-take-good, take-good, take-thread, turn-good}
@@ -260,7 +260,7 @@ module _ (s : Shape) (t : ℕ) where
           (higher : l < d) where
         exchange-rests : (c : ℕ) (q : NodeCopy) → 2 * u .node ≤ c → c ≤ 2 * u .node + 1 → c ≤ nodeCount s → q .node ≡ m .node c
             → ((x : ℕ) → decide s m u x ≡ exchangeWith s m u 0 c q) → RestsFrom (5 * l + 4) m u
-        unfolding exchangeWith exchangeAt bothSame isNode effectShared plan pick mending atPlace withNode updated
+        unfolding exchangeWith exchangeAt nodeAndChildSame isNode effectShared plan pick mending atPlace withNode updated
         exchange-rests c q lo hi there second decides =
             let n = u .copies .first .node in
             let v = updated n (q .node .first) 0 in

@@ -36,10 +36,10 @@ use Rattle.access.specs.declared.effect.Effect.the-variants.{Nothing, Grow, Pus
 use Rattle.access.specs.declared.plan.Plan.{Plan}
 use Rattle.access.proofs.OrderLaws.{item-not-less, item-refl, item-total, item-trans}
 use Rattle.access.proofs.ReadLaws.{is-clean, is-dirty, same-node}
-use Rattle.insert.specs.Insert.{searching, readDepth, searchOn, leafOf, nextTries, failedPlace, leafFailed, leafRead, readLeaf, ancestorRead, middleLevel, readAncestor, growDepth, targetPlace, readTarget, insertAt, insertAtRoot, readParent, bothSame as nodeAndParent, insertBelow}
+use Rattle.insert.specs.Insert.{searching, readDepth, searchOn, leafOf, nextTries, failedPlace, leafFailed, leafRead, readLeaf, ancestorRead, middleLevel, readAncestor, growDepth, targetPlace, readTarget, insertAt, insertAtRoot, readParent, nodeAndParentSame, insertBelow}
 use Rattle.insert.proofs.Laws.{node-same, parent-same}
 use Rattle.extract.specs.Extract.{rootRead, readRoot, headRemoved, removeHead}
-use Rattle.moundify.specs.Moundify.{returnAnswer, returning, mendReadNode, depthRead, mendReadDepth, mendReadLeft, marked, childLess, childrenRead, mendReadRight, exchangeAt, bothSame, exchangeWith, mendSwap, cleanAt, mendClean}
+use Rattle.moundify.specs.Moundify.{returnAnswer, returning, mendReadNode, depthRead, mendReadDepth, mendReadLeft, marked, childLess, childrenRead, mendReadRight, exchangeAt, nodeAndChildSame, exchangeWith, mendSwap, cleanAt, mendClean}
 use Rattle.machine.specs.Turn.{decide, decideAt}
 use Rattle.readable.proofs.Stores.{PlaceGood, ThreadGood, WaitsAbove}
 use Rattle.preserved.proofs.TreeLevels.{fits, level-unique, twice}
@@ -349,7 +349,7 @@ module _ (s : Shape) (r : InRange s) (m : Shared) (own : ℕ → ℕ) (g : Mound
       pick-good Fits (ltb (th .node) 2 || eqb (th .own) 0)
       (λ e. absurd (true≢false (sym e
       ∙ neither (ltb (th .node) 2) (eqb (th .own) 0) (le-ltb (th .node) 2 l) (ne-eqb (th .own) 0 (λ z. omega (arith, z, h .some))))))
-      (λ e. insert-planned h (th .node) k a (nodeAndParent m th) (node-same m th)
+      (λ e. insert-planned h (th .node) k a (nodeAndParentSame m th) (node-same m th)
       (λ z w. subst (λ i. AtMost i (th .item))
       (sym (ap valueOf (found (th .node / 2) (th .copies .second) (b .sound) (parent-same m th z)))) (b .most)))
     where
@@ -587,7 +587,7 @@ module _ (s : Shape) (r : InRange s) (m : Shared) (own : ℕ → ℕ) (g : Mound
         (clean : q .node .dirty ≡ 0) (clean-other : k .node .dirty ≡ 0) (lesser : AtMost (valueOf q) (valueOf (th .copies .first)))
         (least : AtMost (valueOf q) (valueOf k)) where
       exchange-planned : Fits (exchangeWith s m th w c q)
-      unfolding exchangeWith exchangeAt bothSame plan mending atPlace withNode
+      unfolding exchangeWith exchangeAt nodeAndChildSame plan mending atPlace withNode
       exchange-planned =
           let n = th .node in
           let p = th .copies .first in

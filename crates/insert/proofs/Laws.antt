@@ -6,13 +6,13 @@ use Rattle.region.specs.Shared.{Shared}
 use Rattle.region.specs.declared.thread.Thread.{Thread}
 use Rattle.region.proofs.Shapes.{and-left, and-right}
 use Rattle.access.specs.Read.{sameNode}
-use Rattle.insert.specs.Insert.{bothSame}
+use Rattle.insert.specs.Insert.{nodeAndParentSame}
 
-module _ (m : Shared) (t : Thread) (e : bothSame m t ≡ true) where
+module _ (m : Shared) (t : Thread) (e : nodeAndParentSame m t ≡ true) where
   pub node-same : sameNode (m .node (t .node)) (t .copies .first .node) ≡ true
-  unfolding bothSame
+  unfolding nodeAndParentSame
   node-same = and-left (sameNode (m .node (t .node)) (t .copies .first .node)) _ e
 
   pub parent-same : sameNode (m .node (t .node / 2)) (t .copies .second .node) ≡ true
-  unfolding bothSame
+  unfolding nodeAndParentSame
   parent-same = and-right (sameNode (m .node (t .node)) (t .copies .first .node)) _ e

@@ -31,7 +31,7 @@ use Rattle.access.specs.Plan.{plan, onTo, refused}
 use Rattle.access.specs.Read.{isLevel, isSpent, readNode, sameNode, updated}
 use Rattle.access.specs.declared.effect.Effect.the-variants.{Grow, Push}
 use Rattle.access.specs.declared.plan.Plan.{Plan}
-use Rattle.insert.specs.Insert.{searching, ancestorRead, bothSame, failedPlace, growDepth, insertAt, insertAtRoot, insertBelow, leafFailed, leafOf, leafRead, middleLevel, nextTries, readAncestor, readDepth, readLeaf, readParent, readTarget, searchOn, targetPlace}
+use Rattle.insert.specs.Insert.{searching, ancestorRead, nodeAndParentSame, failedPlace, growDepth, insertAt, insertAtRoot, insertBelow, leafFailed, leafOf, leafRead, middleLevel, nextTries, readAncestor, readDepth, readLeaf, readParent, readTarget, searchOn, targetPlace}
 
 -- I1, and the search.
 pub depth-read : (f : Frame) (b : List ℕ) (t t₁ t₂ : Thread) (d : ℕ) (r : Plan) → d ≡ word b (f .depth) → t₁ ≡ withDepth t d
@@ -323,13 +323,13 @@ module _ (f : Frame) (b : List ℕ) (t : Thread) (x : Node) (ex : x ≡ nodeIn f
   node-test : p ≡ sameNode (nodeIn f b (t .node)) (t .copies .first .node)
   node-test = ep ∙ ap (λ y. sameNode y (t .copies .first .node)) ex
 
-  pub node-other : not p ≡ true → false ≡ bothSame (sharedIn f b) t
-  unfolding bothSame sharedIn
+  pub node-other : not p ≡ true → false ≡ nodeAndParentSame (sharedIn f b) t
+  unfolding nodeAndParentSame sharedIn
   node-other n = rw (← node-test, not-true p n) refl
 
   pub parent-compared : not p ≡ false → (y : Node) (q : Bool) → y ≡ nodeIn f b (t .node / 2)
-      → q ≡ sameNode y (t .copies .second .node) → q ≡ bothSame (sharedIn f b) t
-  unfolding bothSame sharedIn
+      → q ≡ sameNode y (t .copies .second .node) → q ≡ nodeAndParentSame (sharedIn f b) t
+  unfolding nodeAndParentSame sharedIn
   parent-compared n y q ey eq =
       rw (← node-test, not-false p n) (eq ∙ ap (λ z. sameNode z (t .copies .second .node)) ey)
 
@@ -342,7 +342,7 @@ module _ (m : Shared) (t : Thread) (r : Plan) where
   unfolding insertBelow pick
   below-no-cell h z e = rw (le-ltb (t .node) 2 h, eq-eqb (t .own) 0 z) e
 
-  pub below-compared : 2 ≤ t .node → (t .own ≡ 0 → ⊥) → (h : Bool) → h ≡ bothSame m t → r ≡ insertAt t (t .node) h → r ≡ insertBelow m t
+  pub below-compared : 2 ≤ t .node → (t .own ≡ 0 → ⊥) → (h : Bool) → h ≡ nodeAndParentSame m t → r ≡ insertAt t (t .node) h → r ≡ insertBelow m t
   unfolding insertBelow pick
   below-compared g n h eh e =
       rw (le-ltb (t .node) 2 g, ne-eqb (t .own) 0 n) (e ∙ ap (insertAt t (t .node)) eh)

@@ -168,12 +168,12 @@ readParent m t =
     (pick (itemLt (t .item) (valueOf (readNode m (t .node / 2)))) ReadDepth InsertBelow))
 
 -- "if parent also equals its copy"
-unfoldable pub bothSame : Shared → Thread → Bool
-bothSame m t =
+unfoldable pub nodeAndParentSame : Shared → Thread → Bool
+nodeAndParentSame m t =
     sameNode (m .node (t .node)) (t .copies .first .node) && sameNode (m .node (t .node / 2)) (t .copies .second .node)
 
 -- I8 "DCSS: node as I6, if parent also equals its copy. Failure: I1." (line 12); node 0 or 1 or own cell 0 is refused 7
 unfoldable pub insertBelow : Shared → Thread → Plan
-unfolding insertAt bothSame
+unfolding insertAt nodeAndParentSame
 insertBelow m t =
-    pick (ltb (t .node) 2 || eqb (t .own) 0) (refused t unreadable) (insertAt t (t .node) (bothSame m t))
+    pick (ltb (t .node) 2 || eqb (t .own) 0) (refused t unreadable) (insertAt t (t .node) (nodeAndParentSame m t))

@@ -4,7 +4,7 @@ ghost use Prim.Native.Nat.{_≤_};
 ghost use lib.ListN.{length};
 ghost use Rattle.region.specs.Frame.{Within};
 ghost use Rattle.region.specs.Shared.{sharedIn};
-ghost use Rattle.insert.specs.Insert.{ancestorRead, bothSame, failedPlace, growDepth, insertAt, insertAtRoot, insertBelow, leafFailed, leafOf, leafRead, middleLevel, nextTries, readAncestor, readDepth, readLeaf, readParent, readTarget, searchOn, targetPlace};
+ghost use Rattle.insert.specs.Insert.{ancestorRead, nodeAndParentSame, failedPlace, growDepth, insertAt, insertAtRoot, insertBelow, leafFailed, leafOf, leafRead, middleLevel, nextTries, readAncestor, readDepth, readLeaf, readParent, readTarget, searchOn, targetPlace};
 use access::Effect;
 use access::Plan;
 use region::Answer;
@@ -267,9 +267,9 @@ pub fn read_parent(f: Frame, b: &[u8], t: Thread) -> Plan
 }
 
 // Whether the node and its parent are as they were copied.
-fn both_same(f: Frame, b: &[u8], t: Thread) -> bool
+fn node_and_parent_same(f: Frame, b: &[u8], t: Thread) -> bool
     requires { ⌜ Within f (length (now b)) ⌝ }
-    ensures { λ r. ⌜ r ≡ bothSame (sharedIn f (now (b .entry))) t ⌝ }
+    ensures { λ r. ⌜ r ≡ nodeAndParentSame (sharedIn f (now (b .entry))) t ⌝ }
 {
     if !access::same_node(f.load_node(b, t.node), t.copies.first.node) {
         return false;
@@ -288,5 +288,5 @@ pub fn insert_below(f: Frame, b: &[u8], t: Thread) -> Plan
     if t.own == 0 {
         return access::refused(t, UNREADABLE);
     }
-    insert_at(t, t.node, both_same(f, b, t))
+    insert_at(t, t.node, node_and_parent_same(f, b, t))
 }

@@ -31,7 +31,7 @@ use Rattle.access.specs.Read.{isDirty, isNode, isSpent, readNode, sameNode, upd
 use Rattle.access.specs.declared.effect.Effect.{Effect}
 use Rattle.access.specs.declared.effect.Effect.the-variants.{Nothing, Exchange, Clean}
 use Rattle.access.specs.declared.plan.Plan.{Plan}
-use Rattle.moundify.specs.Moundify.{ChildrenAsked, bothSame, childLess, childrenRead, cleanAt, depthRead, exchangeAt, exchangeWith, marked, mendClean, mendReadDepth, mendReadLeft, mendReadNode, mendReadRight, mendSwap, returnAnswer, returning}
+use Rattle.moundify.specs.Moundify.{ChildrenAsked, nodeAndChildSame, childLess, childrenRead, cleanAt, depthRead, exchangeAt, exchangeWith, marked, mendClean, mendReadDepth, mendReadLeft, mendReadNode, mendReadRight, mendSwap, returnAnswer, returning}
 
 -- The return.
 module _ (t : Thread) (w : ℕ) where
@@ -235,13 +235,13 @@ node-test f b n x y p ex ep = ep ∙ ap (λ z. sameNode z y) ex
 
 module _ (f : Frame) (b : List ℕ) (t : Thread) (c : ℕ) (q : NodeCopy) (x : Node) (ex : x ≡ nodeIn f b (t .node)) (p : Bool)
     (ep : p ≡ sameNode x (t .copies .first .node)) where
-  pub node-changed : not p ≡ true → false ≡ bothSame (sharedIn f b) t c q
-  unfolding bothSame
+  pub node-changed : not p ≡ true → false ≡ nodeAndChildSame (sharedIn f b) t c q
+  unfolding nodeAndChildSame
   node-changed h = rw (← node-test f b (t .node) x (t .copies .first .node) p ex ep, not-true p h) refl
 
   pub child-decides : not p ≡ false → (y : Node) (r : Bool) → y ≡ nodeIn f b c → r ≡ sameNode y (q .node)
-      → r ≡ bothSame (sharedIn f b) t c q
-  unfolding bothSame
+      → r ≡ nodeAndChildSame (sharedIn f b) t c q
+  unfolding nodeAndChildSame
   child-decides h y r ey er =
       rw
       (← node-test f b (t .node) x (t .copies .first .node) p ex ep, not-false p h)
@@ -257,7 +257,7 @@ module _ (s : Shape) (m : Shared) (t : Thread) (w c : ℕ) (q : NodeCopy) (r : P
     unfolding exchangeWith pick
     no-child h er = rw (ne-eqb (t .node) 0 n, ← ep, not-true p h) er
 
-    pub exchange-tried : not p ≡ false → (k : Bool) → k ≡ bothSame m t c q → r ≡ exchangeAt t w c q k → r ≡ exchangeWith s m t w c q
+    pub exchange-tried : not p ≡ false → (k : Bool) → k ≡ nodeAndChildSame m t c q → r ≡ exchangeAt t w c q k → r ≡ exchangeWith s m t w c q
     unfolding exchangeWith pick
     exchange-tried h k ek er =
         rw (ne-eqb (t .node) 0 n, ← ep, not-false p h) (er ∙ ap (exchangeAt t w c q) ek)

@@ -105,16 +105,16 @@ exchangeAt t w c q holds =
     (onTo t (MendReadNode w))
 
 -- both nodes of the DCAS equal their copies
-unfoldable pub bothSame : Shared → Thread → ℕ → NodeCopy → Bool
-bothSame m t c q = sameNode (m .node (t .node)) (t .copies .first .node) && sameNode (m .node c) (q .node)
+unfoldable pub nodeAndChildSame : Shared → Thread → ℕ → NodeCopy → Bool
+nodeAndChildSame m t c q = sameNode (m .node (t .node)) (t .copies .first .node) && sameNode (m .node c) (q .node)
 
 -- DCAS of n and its child c
 unfoldable pub exchangeWith : Shape → Shared → Thread → ℕ → ℕ → NodeCopy → Plan
-unfolding exchangeAt bothSame
+unfolding exchangeAt nodeAndChildSame
 exchangeWith s m t w c q =
     pick
     (not (eqb (t .node) 0) && isNode s c)
-    (exchangeAt t w c q (bothSame m t c q))
+    (exchangeAt t w c q (nodeAndChildSame m t c q))
     (refused t unreadable)
 
 -- M5 "DCAS (left child if left val ≤ right val, else right)"

@@ -5,7 +5,7 @@ ghost use lib.ListN.{length};
 ghost use Rattle.region.specs.Frame.{Within};
 ghost use Rattle.region.specs.Pick.{pick};
 ghost use Rattle.region.specs.Shared.{sharedIn};
-ghost use Rattle.moundify.specs.Moundify.{ChildrenAsked, bothSame, childLess, childrenRead, cleanAt, depthRead, exchangeAt, exchangeWith, marked, mendClean, mendReadDepth, mendReadLeft, mendReadNode, mendReadRight, mendSwap, returnAnswer, returning};
+ghost use Rattle.moundify.specs.Moundify.{ChildrenAsked, nodeAndChildSame, childLess, childrenRead, cleanAt, depthRead, exchangeAt, exchangeWith, marked, mendClean, mendReadDepth, mendReadLeft, mendReadNode, mendReadRight, mendSwap, returnAnswer, returning};
 use access::Effect;
 use access::Plan;
 use region::Answer;
@@ -172,9 +172,9 @@ fn exchange_at(t: Thread, w: u32, c: u32, q: NodeCopy, holds: bool) -> Plan
 }
 
 // Whether the node and the child are as they were copied.
-fn both_same(f: Frame, b: &[u8], t: Thread, c: u32, q: NodeCopy) -> bool
+fn node_and_child_same(f: Frame, b: &[u8], t: Thread, c: u32, q: NodeCopy) -> bool
     requires { ⌜ Within f (length (now b)) ⌝ }
-    ensures { λ r. ⌜ r ≡ bothSame (sharedIn f (now (b .entry))) t c q ⌝ }
+    ensures { λ r. ⌜ r ≡ nodeAndChildSame (sharedIn f (now (b .entry))) t c q ⌝ }
 {
     if !access::same_node(f.load_node(b, t.node), t.copies.first.node) {
         return false;
@@ -194,7 +194,7 @@ fn exchange_with(f: Frame, b: &[u8], t: Thread, w: u32, child: usize, q: NodeCop
         return access::refused(t, UNREADABLE);
     }
     let c = child as u32;
-    exchange_at(t, w, c, q, both_same(f, b, t, c, q))
+    exchange_at(t, w, c, q, node_and_child_same(f, b, t, c, q))
 }
 
 // The number of the left or the right child.

@@ -33,7 +33,7 @@ use Rattle.access.specs.declared.effect.Effect.the-variants.{Nothing, Grow, Pus
 use Rattle.access.specs.declared.plan.Plan.{Plan}
 use Rattle.insert.specs.Insert.{searching, readDepth, searchOn, leafOf, nextTries, failedPlace, leafFailed, leafRead, readLeaf, ancestorRead, middleLevel, readAncestor, growDepth, targetPlace, readTarget, insertAt, insertAtRoot, readParent, insertBelow}
 use Rattle.extract.specs.Extract.{rootRead, readRoot, headRemoved, removeHead}
-use Rattle.moundify.specs.Moundify.{returnAnswer, returning, mendReadNode, depthRead, mendReadDepth, mendReadLeft, marked, childLess, childrenRead, mendReadRight, exchangeAt, bothSame, exchangeWith, mendSwap, cleanAt, mendClean}
+use Rattle.moundify.specs.Moundify.{returnAnswer, returning, mendReadNode, depthRead, mendReadDepth, mendReadLeft, marked, childLess, childrenRead, mendReadRight, exchangeAt, nodeAndChildSame, exchangeWith, mendSwap, cleanAt, mendClean}
 use Rattle.readable.proofs.Stores.{NodeGood, CopyGood, FieldsGood, WaitsAbove, PlaceGood, ThreadGood, SharedGood, idle-good}
 use Rattle.preserved.proofs.TreeLevels.{twice, waits-at-child, waits-marked, waits-returned}
 
@@ -443,7 +443,7 @@ module _ (s : Shape) (r : InRange s) (m : Shared) (sm : SharedGood s m) where
           (λ h. let ne = eqb-false (t .node) 0 (not-true (eqb (t .node) 0) (and-left (not (eqb (t .node) 0)) (isNode s c) h)) in
           let cl = between-least 1 c (nodeCount s) (and-right (not (eqb (t .node) 0)) (isNode s c) h) in
           let cu = between-most 1 c (nodeCount s) (and-right (not (eqb (t .node) 0)) (isNode s c) h) in
-          pick-good (PlanGood s) (bothSame m t c q)
+          pick-good (PlanGood s) (nodeAndChildSame m t c q)
           (λ k. pick-good (PlanGood s) (isSpent n || isSpent (q .node)) (λ e. refused-good s t gt counterSpent)
           (λ e. plan-good s (Exchange (t .node) (updated n (q .node .first) 0) c (updated (q .node) (n .first) 1)) (mending t c w) Moved (
             (omega arith, g .node),

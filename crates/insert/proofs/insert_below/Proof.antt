@@ -16,8 +16,8 @@ refused-requires-2 c κs = search needs
 returns-2 : tie.Need-returns-2
 returns-2 c = search below-no-cell
 
-both-same-requires : tie.Need-both-same-requires
-both-same-requires c κs = search needs
+node-and-parent-same-requires : tie.Need-node-and-parent-same-requires
+node-and-parent-same-requires c κs = search needs
 
 insert-at-requires : tie.Need-insert-at-requires
 insert-at-requires c κs = search needs
@@ -33,6 +33,6 @@ insert-below-spec =
     returns
     refused-requires-2
     returns-2
-    both-same-requires
+    node-and-parent-same-requires
     insert-at-requires
     returns-3)

@@ -22,8 +22,8 @@ returns-2 c = search no-child
 cast-c : tie.Need-cast-c
 cast-c c = record { fits = search node-fits }
 
-both-same-requires : tie.Need-both-same-requires
-both-same-requires c κs = search needs
+node-and-child-same-requires : tie.Need-node-and-child-same-requires
+node-and-child-same-requires c κs = search needs
 
 exchange-at-requires : tie.Need-exchange-at-requires
 exchange-at-requires c κs = search needs
@@ -41,6 +41,6 @@ exchange-with-spec =
     refused-requires-2
     returns-2
     cast-c
-    both-same-requires
+    node-and-child-same-requires
     exchange-at-requires
     returns-3)
