@@ -1,21 +1,20 @@
 -- An effect on the bytes is the effect on shared memory read from them; the threads' records, the length and every word outside the
 -- parts that it stores to are left alone. Assumes nothing.
-use Prim.Native.Nat.{ℕ, _+_, _-_, _*_, _^_, _≤_, _<_}
+use Prim.Native.Nat.{ℕ, _^_, _≤_, _<_}
 use native.Mathlib.Omega.{arith}
 use mathlib.Core.Path.{_≡_, refl, sym, ap, subst, _∙_}
-use mathlib.Core.Logic.{_⊎_, inl, inr, ⊎-elim}
 use mathlib.Core.List.{List}
 use lib.ListN.{length}
-use Rattle.words.specs.Word.{word, setWord, Bytes, Fit}
+use Rattle.words.specs.Word.{word, Fit}
 use Rattle.words.proofs.Laws.{word-other, length-setWord}
-use Rattle.region.specs.Frame.{Part, Parted, Within, partSize, depthOf, freeOf, nodesOf, cellsOf, threadsOf}
+use Rattle.region.specs.Frame.{Parted, Within, partSize, nodesOf, cellsOf}
 use Rattle.region.specs.Record.{nodeWords, cellWords, zeroItem}
 use Rattle.region.specs.Shape.{nodeCount}
-use Rattle.region.specs.Shared.{Shared, putNode, putCell, putDepth, putFree, nodeIn, cellIn, threadIn, sharedIn, setNodeIn, setCellIn}
+use Rattle.region.specs.Shared.{putNode, putCell, putFree, cellIn, sharedIn, setNodeIn, setCellIn}
 use Rattle.region.specs.declared.frame.Frame.{Frame}
 use Rattle.region.specs.declared.record.Cell.{Cell}
 use Rattle.region.specs.declared.record.Node.{Node}
-use Rattle.region.proofs.Views.{Outside, length-setNodeIn, length-setCellIn, word-setNodeIn, word-setCellIn, shared-setNode, shared-setCell, shared-setDepth, shared-setFree, threads-setCell, threads-setFree}
+use Rattle.region.proofs.Views.{Outside, length-setNodeIn, length-setCellIn, word-setNodeIn, word-setCellIn, shared-setNode, shared-setCell, shared-setDepth, shared-setFree}
 use Rattle.access.specs.Effect.{effectShared, effectBytes, freedBytes, pushBytes, freed}
 use Rattle.access.specs.declared.effect.Effect.{Effect}
 use Rattle.access.specs.declared.effect.Effect.the-variants.{Nothing, Grow, Push, Pop, Exchange, Clean}

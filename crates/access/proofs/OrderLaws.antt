@@ -1,11 +1,10 @@
 -- The laws of the order of items: a total preorder that goes with the keys, with the value of an empty node above every item. All that is
 -- proved of comparisons goes by these. Assumes nothing.
-use Prim.Native.Nat.{ℕ, _≤_}
+use Prim.Native.Nat.{_≤_}
 use native.Mathlib.Omega.{arith}
 use mathlib.Core.Path.{_≡_}
 use mathlib.Core.Bool.{true, false}
 use borrow.Author.Tests.{leb-true, leb-false, le-leb, lt-leb, not-false}
-use lib.Dec.{leb}
 use Rattle.region.specs.declared.record.Item.{Item}
 use Rattle.access.specs.Order.{itemLe, itemLt, topItem}
 

@@ -1,6 +1,5 @@
 -- The order of values. Every comparison of values goes through `itemLe`; the theory uses only its laws (proofs/OrderLaws.antt): it is a
 -- total preorder, and the value of an empty node is above every item.
-use Prim.Native.Nat.{ℕ}
 use mathlib.Core.Bool.{Bool, not}
 use lib.Dec.{leb, eqb}
 use Rattle.region.specs.Pick.{pick}

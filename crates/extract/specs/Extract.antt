@@ -1,5 +1,4 @@
 -- The places of a take, E1 and E2 (document 01, The sixteen places; Listing 1, extractMin, lines 21 to 31).
-use Prim.Native.Nat.{ℕ}
 use lib.Dec.{eqb}
 use Rattle.region.specs.Answer.{unreadable, counterSpent}
 use Rattle.region.specs.Pick.{pick}

@@ -1,4 +1,5 @@
--- `moundify::exchange_with` meets its contract: node 0 and a child not in the tree are refused, any other fits a word and is exchanged. Assumes nothing.
+-- `moundify::exchange_with` meets its contract: node 0 and a child not in the tree are refused, else the exchange is tried. Assumes
+-- nothing.
 use borrow.Author.Needs.{needs}
 use Rattle.moundify.proofs.exchange_with.Statement.{statement}
 use Rattle.moundify.proofs.exchange_with.Tie as tie

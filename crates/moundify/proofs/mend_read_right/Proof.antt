@@ -1,4 +1,4 @@
--- `moundify::mend_read_right` meets its contract: node 0 and a child not in the tree are refused, any other fits a word and is read. Assumes nothing.
+-- `moundify::mend_read_right` meets its contract: node 0 and a child not in the tree are refused, any other is read. Assumes nothing.
 use borrow.Author.Needs.{needs}
 use Rattle.moundify.proofs.mend_read_right.Statement.{statement}
 use Rattle.moundify.proofs.mend_read_right.Tie as tie

@@ -28,7 +28,8 @@ read-depth-requires : tie.Need-read-depth-requires
 read-depth-requires c κs = search needs
 
 keep-requires : tie.Need-keep-requires
-keep-requires c κs = search (keeps-read-depth, c .before .before .before .before .before .before .before .before .before .before .before .before .pre)
+keep-requires c κs =
+    search (keeps-read-depth, c .before .before .before .before .before .before .before .before .before .before .before .before .pre)
 
 enum-told-3 : tie.Need-enum-told-3
 enum-told-3 c = search needs
@@ -40,7 +41,8 @@ read-leaf-requires : tie.Need-read-leaf-requires
 read-leaf-requires c κs = search needs
 
 keep-requires-2 : tie.Need-keep-requires-2
-keep-requires-2 c κs = search (keeps-read-leaf, c .before .before .before .before .before .before .before .before .before .before .before .before .pre)
+keep-requires-2 c κs =
+    search (keeps-read-leaf, c .before .before .before .before .before .before .before .before .before .before .before .before .pre)
 
 enum-told-4 : tie.Need-enum-told-4
 enum-told-4 c = search needs
@@ -52,7 +54,8 @@ read-ancestor-requires : tie.Need-read-ancestor-requires
 read-ancestor-requires c κs = search needs
 
 keep-requires-3 : tie.Need-keep-requires-3
-keep-requires-3 c κs = search (keeps-read-ancestor, c .before .before .before .before .before .before .before .before .before .before .before .before .pre)
+keep-requires-3 c κs =
+    search (keeps-read-ancestor, c .before .before .before .before .before .before .before .before .before .before .before .before .pre)
 
 enum-told-5 : tie.Need-enum-told-5
 enum-told-5 c = search needs
@@ -64,7 +67,8 @@ grow-depth-requires : tie.Need-grow-depth-requires
 grow-depth-requires c κs = search needs
 
 end-growth-requires : tie.Need-end-growth-requires
-end-growth-requires c κs = search (grows, c .before .before .before .before .before .before .before .before .before .before .before .before .pre)
+end-growth-requires c κs =
+    search (grows, c .before .before .before .before .before .before .before .before .before .before .before .before .pre)
 
 enum-told-6 : tie.Need-enum-told-6
 enum-told-6 c = search needs
@@ -76,7 +80,8 @@ read-target-requires : tie.Need-read-target-requires
 read-target-requires c κs = search needs
 
 keep-requires-4 : tie.Need-keep-requires-4
-keep-requires-4 c κs = search (keeps-read-target, c .before .before .before .before .before .before .before .before .before .before .before .before .pre)
+keep-requires-4 c κs =
+    search (keeps-read-target, c .before .before .before .before .before .before .before .before .before .before .before .before .pre)
 
 enum-told-7 : tie.Need-enum-told-7
 enum-told-7 c = search needs
@@ -88,7 +93,8 @@ insert-at-root-requires : tie.Need-insert-at-root-requires
 insert-at-root-requires c κs = search needs
 
 end-at-root-requires : tie.Need-end-at-root-requires
-end-at-root-requires c κs = search (pushes-at-root, c .before .before .before .before .before .before .before .before .before .before .before .before .pre)
+end-at-root-requires c κs =
+    search (pushes-at-root, c .before .before .before .before .before .before .before .before .before .before .before .before .pre)
 
 enum-told-8 : tie.Need-enum-told-8
 enum-told-8 c = search needs
@@ -100,7 +106,8 @@ read-parent-requires : tie.Need-read-parent-requires
 read-parent-requires c κs = search needs
 
 keep-requires-5 : tie.Need-keep-requires-5
-keep-requires-5 c κs = search (keeps-read-parent, c .before .before .before .before .before .before .before .before .before .before .before .before .pre)
+keep-requires-5 c κs =
+    search (keeps-read-parent, c .before .before .before .before .before .before .before .before .before .before .before .before .pre)
 
 enum-told-9 : tie.Need-enum-told-9
 enum-told-9 c = search needs
@@ -112,7 +119,8 @@ insert-below-requires : tie.Need-insert-below-requires
 insert-below-requires c κs = search needs
 
 end-below-requires : tie.Need-end-below-requires
-end-below-requires c κs = search (pushes-below, c .before .before .before .before .before .before .before .before .before .before .before .before .pre)
+end-below-requires c κs =
+    search (pushes-below, c .before .before .before .before .before .before .before .before .before .before .before .before .pre)
 
 enum-told-10 : tie.Need-enum-told-10
 enum-told-10 c = search needs
@@ -124,7 +132,8 @@ read-root-requires : tie.Need-read-root-requires
 read-root-requires c κs = search needs
 
 keep-requires-6 : tie.Need-keep-requires-6
-keep-requires-6 c κs = search (keeps-read-root, c .before .before .before .before .before .before .before .before .before .before .before .before .pre)
+keep-requires-6 c κs =
+    search (keeps-read-root, c .before .before .before .before .before .before .before .before .before .before .before .before .pre)
 
 enum-told-11 : tie.Need-enum-told-11
 enum-told-11 c = search needs
@@ -136,7 +145,8 @@ remove-head-requires : tie.Need-remove-head-requires
 remove-head-requires c κs = search needs
 
 end-pop-requires : tie.Need-end-pop-requires
-end-pop-requires c κs = search (pops, c .before .before .before .before .before .before .before .before .before .before .before .before .pre)
+end-pop-requires c κs =
+    search (pops, c .before .before .before .before .before .before .before .before .before .before .before .before .pre)
 
 enum-known-place : tie.Need-enum-known-place
 enum-known-place c = search needs
@@ -148,7 +158,8 @@ mend-read-node-requires : tie.Need-mend-read-node-requires
 mend-read-node-requires c κs = search needs
 
 keep-requires-7 : tie.Need-keep-requires-7
-keep-requires-7 c κs = search (keeps-mend-read-node, c .before .before .before .before .before .before .before .before .before .before .before .before .before .pre)
+keep-requires-7 c κs =
+    search (keeps-mend-read-node, c .before .before .before .before .before .before .before .before .before .before .before .before .before .pre)
 
 enum-known-place-2 : tie.Need-enum-known-place-2
 enum-known-place-2 c = search needs
@@ -160,7 +171,8 @@ mend-read-depth-requires : tie.Need-mend-read-depth-requires
 mend-read-depth-requires c κs = search needs
 
 keep-requires-8 : tie.Need-keep-requires-8
-keep-requires-8 c κs = search (keeps-mend-read-depth, c .before .before .before .before .before .before .before .before .before .before .before .before .before .pre)
+keep-requires-8 c κs =
+    search (keeps-mend-read-depth, c .before .before .before .before .before .before .before .before .before .before .before .before .before .pre)
 
 enum-known-place-3 : tie.Need-enum-known-place-3
 enum-known-place-3 c = search needs
@@ -172,7 +184,8 @@ mend-read-left-requires : tie.Need-mend-read-left-requires
 mend-read-left-requires c κs = search needs
 
 keep-requires-9 : tie.Need-keep-requires-9
-keep-requires-9 c κs = search (keeps-mend-read-left, c .before .before .before .before .before .before .before .before .before .before .before .before .before .pre)
+keep-requires-9 c κs =
+    search (keeps-mend-read-left, c .before .before .before .before .before .before .before .before .before .before .before .before .before .pre)
 
 enum-known-place-4 : tie.Need-enum-known-place-4
 enum-known-place-4 c = search needs
@@ -184,7 +197,8 @@ mend-read-right-requires : tie.Need-mend-read-right-requires
 mend-read-right-requires c κs = search needs
 
 keep-requires-10 : tie.Need-keep-requires-10
-keep-requires-10 c κs = search (keeps-mend-read-right, c .before .before .before .before .before .before .before .before .before .before .before .before .before .pre)
+keep-requires-10 c κs =
+    search (keeps-mend-read-right, c .before .before .before .before .before .before .before .before .before .before .before .before .before .pre)
 
 enum-known-place-5 : tie.Need-enum-known-place-5
 enum-known-place-5 c = search needs
@@ -196,7 +210,8 @@ mend-swap-requires : tie.Need-mend-swap-requires
 mend-swap-requires c κs = search needs
 
 end-exchange-requires : tie.Need-end-exchange-requires
-end-exchange-requires c κs = search (exchanges, c .before .before .before .before .before .before .before .before .before .before .before .before .before .pre)
+end-exchange-requires c κs =
+    search (exchanges, c .before .before .before .before .before .before .before .before .before .before .before .before .before .pre)
 
 enum-known-place-6 : tie.Need-enum-known-place-6
 enum-known-place-6 c = search needs
@@ -208,7 +223,8 @@ mend-clean-requires : tie.Need-mend-clean-requires
 mend-clean-requires c κs = search needs
 
 end-cleaning-requires : tie.Need-end-cleaning-requires
-end-cleaning-requires c κs = search (cleans, c .before .before .before .before .before .before .before .before .before .before .before .before .before .pre)
+end-cleaning-requires c κs =
+    search (cleans, c .before .before .before .before .before .before .before .before .before .before .before .before .before .pre)
 
 same-length : tie.Need-same-length
 same-length c = search needs
