@@ -12,7 +12,7 @@ use Rattle.region.specs.declared.answer.Answer.the-variants.{Moved, Refused}
 use Rattle.region.specs.declared.frame.Frame.{Frame}
 use Rattle.region.specs.declared.place.Place.{Place}
 use Rattle.region.specs.declared.place.Place.the-variants.{Idle, ReadDepth, ReadLeaf, ReadAncestor, GrowDepth, ReadTarget, InsertAtRoot, ReadParent, InsertBelow, ReadRoot, RemoveHead, MendReadNode, MendReadDepth, MendReadLeft, MendReadRight, MendSwap, MendClean}
-use Rattle.region.specs.declared.record.NodeCopy.{NodeCopy}
+use Rattle.region.specs.declared.record.Node.{Node}
 use Rattle.region.specs.declared.shape.Shape.{Shape}
 use Rattle.region.specs.declared.thread.Thread.{Thread}
 use Rattle.region.proofs.Picks.{pick-good}
@@ -86,9 +86,9 @@ module _ (f : Frame) (b : List ℕ) (u : ℕ) where
     at-place-says (MendReadRight w) =
         either _ (either _ (moved-says _) (either _ (moved-says _) (either _ (onTo-says _ _) (onTo-says _ _)))) (refused-says _ _)
     at-place-says (MendSwap w) =
-        either _ (exchanged (2 * t .node) (t .copies .second)) (exchanged (2 * t .node + 1) (t .copies .third))
+        either _ (exchanged (2 * t .node) (t .copies .second .node)) (exchanged (2 * t .node + 1) (t .copies .third .node))
       where
-        exchanged : (k : ℕ) (q : NodeCopy) → Spoken (exchangeWith s m t w k q)
+        exchanged : (k : ℕ) (q : Node) → Spoken (exchangeWith s m t w k q)
         exchanged k q = either _ (either _ (either _ (refused-says _ _) (plan-says _ _ _ says-moved)) (onTo-says _ _)) (refused-says _ _)
     at-place-says (MendClean w) =
         either _ (refused-says _ _)

@@ -25,7 +25,6 @@ use Rattle.region.specs.declared.place.Place.{Place}
 use Rattle.region.specs.declared.place.Place.the-variants.{ReadRoot, RemoveHead, MendReadNode, MendReadDepth, MendReadLeft, MendReadRight, MendSwap, MendClean}
 use Rattle.region.specs.declared.record.Item.{Item}
 use Rattle.region.specs.declared.record.Node.{Node}
-use Rattle.region.specs.declared.record.NodeCopy.{NodeCopy}
 use Rattle.region.specs.declared.shape.Shape.{Shape}
 use Rattle.region.specs.declared.thread.Thread.{Thread}
 use Rattle.region.proofs.Frames.{frame-parted}
@@ -253,20 +252,20 @@ module _ (s : Shape) (t : ℕ) where
         })
         least (h .above) exact
 
-    -- M5: the list goes down to child c, whose copy is q.
+    -- M5: the list goes down to child c, whose copied node is k.
     module _ (r : InRange s) (deep : d ≤ s .depth) (l : ℕ) (least : 1 ≤ l)
         (child : (m : Shared) (u : Thread) → Mending (l + 1) m u (MendReadNode 0) → RestsFrom (5 * (l + 1)) m u) where
       module _ (m : Shared) (u : Thread) (h : Mending l m u (MendSwap 0)) (first : u .copies .first .node ≡ m .node (u .node))
           (higher : l < d) where
-        exchange-rests : (c : ℕ) (q : NodeCopy) → 2 * u .node ≤ c → c ≤ 2 * u .node + 1 → c ≤ nodeCount s → q .node ≡ m .node c
-            → ((x : ℕ) → decide s m u x ≡ exchangeWith s m u 0 c q) → RestsFrom (5 * l + 4) m u
+        exchange-rests : (c : ℕ) (k : Node) → 2 * u .node ≤ c → c ≤ 2 * u .node + 1 → c ≤ nodeCount s → k ≡ m .node c
+            → ((x : ℕ) → decide s m u x ≡ exchangeWith s m u 0 c k) → RestsFrom (5 * l + 4) m u
         unfolding exchangeWith exchangeAt nodeAndChildSame isNode effectShared plan pick mending atPlace withNode updated
-        exchange-rests c q lo hi there second decides =
+        exchange-rests c k lo hi there second decides =
             let n = u .copies .first .node in
-            let v = updated n (q .node .first) 0 in
-            let w = updated (q .node) (n .first) 1 in
+            let v = updated n (k .first) 0 in
+            let w = updated k (n .first) 1 in
             let z = h .some in
-            moves (5 * l + 4) m u (omega arith) (isSpent n || isSpent (q .node)) (plan (Exchange (u .node) v c w) (mending u c 0) Moved)
+            moves (5 * l + 4) m u (omega arith) (isSpent n || isSpent k) (plan (Exchange (u .node) v c w) (mending u c 0) Moved)
             (λ x. decides x
             ∙ rw (ne-eqb (u .node) 0 (λ e. omega arith), is-between 1 c (nodeCount s) (omega arith) there, same-copy first, same-copy second) refl)
             refl
@@ -277,7 +276,7 @@ module _ (s : Shape) (t : ℕ) where
               after = h .after;
               some = omega arith;
               few = there;
-              at-level = level-child (u .node) c z lo hi (omega (arith, sizes s (r .depth-most))) ∙ ap (λ k. k + 1) (h .at-level);
+              at-level = level-child (u .node) c z lo hi (omega (arith, sizes s (r .depth-most))) ∙ ap (λ y. y + 1) (h .at-level);
               above = omega arith;
               depth = h .depth;
               dirty = ap (λ y. y .dirty) (upd-same (upd (m .node) (u .node) v) c w);
@@ -292,11 +291,11 @@ module _ (s : Shape) (t : ℕ) where
           where
             go : (q : Bool)
                 → ((c : ℕ) → decide s m u c
-                ≡ pick q (exchangeWith s m u 0 (2 * u .node) (u .copies .second))
-                (exchangeWith s m u 0 (2 * u .node + 1) (u .copies .third)))
+                ≡ pick q (exchangeWith s m u 0 (2 * u .node) (u .copies .second .node))
+                (exchangeWith s m u 0 (2 * u .node + 1) (u .copies .third .node)))
                 → RestsFrom (5 * l + 4) m u
-            go true e = exchange-rests (2 * u .node) (u .copies .second) (omega arith) (omega arith) (omega arith) second e
-            go false e = exchange-rests (2 * u .node + 1) (u .copies .third) (omega arith) (omega arith) there third e
+            go true e = exchange-rests (2 * u .node) (u .copies .second .node) (omega arith) (omega arith) (omega arith) second e
+            go false e = exchange-rests (2 * u .node + 1) (u .copies .third .node) (omega arith) (omega arith) there third e
 
       -- below a level above d there are children
       children-there : (m : Shared) (u : Thread) (p : Place) → Mending l m u p → l < d → 2 * u .node + 1 ≤ nodeCount s

@@ -586,7 +586,7 @@ module _ (s : Shape) (r : InRange s) (m : Shared) (own : ℕ → ℕ) (g : Mound
         (here : ChildRead m (th .node) (th .copies .first) c q) (there : ChildRead m (th .node) (th .copies .first) j k)
         (clean : q .node .dirty ≡ 0) (clean-other : k .node .dirty ≡ 0) (lesser : AtMost (valueOf q) (valueOf (th .copies .first)))
         (least : AtMost (valueOf q) (valueOf k)) where
-      exchange-planned : Fits (exchangeWith s m th w c q)
+      exchange-planned : Fits (exchangeWith s m th w c (q .node))
       unfolding exchangeWith exchangeAt nodeAndChildSame plan mending atPlace withNode
       exchange-planned =
           let n = th .node in

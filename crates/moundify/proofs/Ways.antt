@@ -204,24 +204,24 @@ module _ (s : Shape) (m : Shared) (t : Thread) (w : ℕ) (r : Plan) where
         (er ∙ ap (λ y. childrenRead y w) (eu ∙ ap (withThird t) ek))
 
 -- M5.
-module _ (t : Thread) (w c : ℕ) (q : NodeCopy) (holds : Bool) (r : Plan) where
-  pub one-changed : not holds ≡ true → r ≡ onTo t (MendReadNode w) → r ≡ exchangeAt t w c q holds
+module _ (t : Thread) (w c : ℕ) (below : Node) (holds : Bool) (r : Plan) where
+  pub one-changed : not holds ≡ true → r ≡ onTo t (MendReadNode w) → r ≡ exchangeAt t w c below holds
   unfolding exchangeAt pick
   one-changed h er = rw (not-true holds h) er
 
   module _ (h : not holds ≡ false) (p : Bool) (ep : p ≡ isSpent (t .copies .first .node)) where
-    pub node-spent : p ≡ true → r ≡ refused t counterSpent → r ≡ exchangeAt t w c q holds
+    pub node-spent : p ≡ true → r ≡ refused t counterSpent → r ≡ exchangeAt t w c below holds
     unfolding exchangeAt pick
     node-spent g er = rw (not-false holds h, ← ep, g) er
 
-    module _ (g : p ≡ false) (k : Bool) (ek : k ≡ isSpent (q .node)) where
-      pub child-spent : k ≡ true → r ≡ refused t counterSpent → r ≡ exchangeAt t w c q holds
+    module _ (g : p ≡ false) (k : Bool) (ek : k ≡ isSpent below) where
+      pub child-spent : k ≡ true → r ≡ refused t counterSpent → r ≡ exchangeAt t w c below holds
       unfolding exchangeAt pick
       child-spent j er = rw (not-false holds h, ← ep, g, ← ek, j) er
 
-      pub lists-exchange : k ≡ false → (x y : Node) (u : Thread) → x ≡ updated (t .copies .first .node) (q .node .first) 0
-          → y ≡ updated (q .node) (t .copies .first .node .first) 1 → u ≡ mending t c w
-          → r ≡ plan (Exchange (t .node) x c y) u Moved → r ≡ exchangeAt t w c q holds
+      pub lists-exchange : k ≡ false → (x y : Node) (u : Thread) → x ≡ updated (t .copies .first .node) (below .first) 0
+          → y ≡ updated below (t .copies .first .node .first) 1 → u ≡ mending t c w
+          → r ≡ plan (Exchange (t .node) x c y) u Moved → r ≡ exchangeAt t w c below holds
       unfolding exchangeAt pick
       lists-exchange j x y u ex ey eu er =
           rw
@@ -233,34 +233,34 @@ node-test : (f : Frame) (b : List ℕ) (n : ℕ) (x y : Node) (p : Bool) → x �
 unfolding sharedIn
 node-test f b n x y p ex ep = ep ∙ ap (λ z. sameNode z y) ex
 
-module _ (f : Frame) (b : List ℕ) (t : Thread) (c : ℕ) (q : NodeCopy) (x : Node) (ex : x ≡ nodeIn f b (t .node)) (p : Bool)
+module _ (f : Frame) (b : List ℕ) (t : Thread) (c : ℕ) (below : Node) (x : Node) (ex : x ≡ nodeIn f b (t .node)) (p : Bool)
     (ep : p ≡ sameNode x (t .copies .first .node)) where
-  pub node-changed : not p ≡ true → false ≡ nodeAndChildSame (sharedIn f b) t c q
+  pub node-changed : not p ≡ true → false ≡ nodeAndChildSame (sharedIn f b) t c below
   unfolding nodeAndChildSame
   node-changed h = rw (← node-test f b (t .node) x (t .copies .first .node) p ex ep, not-true p h) refl
 
-  pub child-decides : not p ≡ false → (y : Node) (r : Bool) → y ≡ nodeIn f b c → r ≡ sameNode y (q .node)
-      → r ≡ nodeAndChildSame (sharedIn f b) t c q
+  pub child-decides : not p ≡ false → (y : Node) (r : Bool) → y ≡ nodeIn f b c → r ≡ sameNode y below
+      → r ≡ nodeAndChildSame (sharedIn f b) t c below
   unfolding nodeAndChildSame
   child-decides h y r ey er =
       rw
       (← node-test f b (t .node) x (t .copies .first .node) p ex ep, not-false p h)
-      (node-test f b c y (q .node) r ey er)
+      (node-test f b c y below r ey er)
 
-module _ (s : Shape) (m : Shared) (t : Thread) (w c : ℕ) (q : NodeCopy) (r : Plan) where
-  pub exchange-without-node : t .node ≡ 0 → r ≡ refused t unreadable → r ≡ exchangeWith s m t w c q
+module _ (s : Shape) (m : Shared) (t : Thread) (w c : ℕ) (below : Node) (r : Plan) where
+  pub exchange-without-node : t .node ≡ 0 → r ≡ refused t unreadable → r ≡ exchangeWith s m t w c below
   unfolding exchangeWith pick
   exchange-without-node z er = rw (eq-eqb (t .node) 0 z) er
 
   module _ (n : t .node ≡ 0 → ⊥) (p : Bool) (ep : p ≡ isNode s c) where
-    pub no-child : not p ≡ true → r ≡ refused t unreadable → r ≡ exchangeWith s m t w c q
+    pub no-child : not p ≡ true → r ≡ refused t unreadable → r ≡ exchangeWith s m t w c below
     unfolding exchangeWith pick
     no-child h er = rw (ne-eqb (t .node) 0 n, ← ep, not-true p h) er
 
-    pub exchange-tried : not p ≡ false → (k : Bool) → k ≡ nodeAndChildSame m t c q → r ≡ exchangeAt t w c q k → r ≡ exchangeWith s m t w c q
+    pub exchange-tried : not p ≡ false → (k : Bool) → k ≡ nodeAndChildSame m t c below → r ≡ exchangeAt t w c below k → r ≡ exchangeWith s m t w c below
     unfolding exchangeWith pick
     exchange-tried h k ek er =
-        rw (ne-eqb (t .node) 0 n, ← ep, not-false p h) (er ∙ ap (exchangeAt t w c q) ek)
+        rw (ne-eqb (t .node) 0 n, ← ep, not-false p h) (er ∙ ap (exchangeAt t w c below) ek)
 
 pick-both : {A B C : Type 0} (f : A → B → C) (q : Bool) (a b : A) (x y : B)
     → f (pick q a b) (pick q x y) ≡ pick q (f a x) (f b y)
@@ -280,14 +280,15 @@ module _ {A : Type 0} (left : Bool) (x y r : A) where
 
 pub child-swaps : (s : Shape) (m : Shared) (t : Thread) (w : ℕ) (l k : Item) → l ≡ valueOf (t .copies .second)
     → k ≡ valueOf (t .copies .third) → (q : Bool) → q ≡ itemLe l k → (c : ℕ) → c ≡ pick q (2 * t .node) (2 * t .node + 1)
-    → (x : NodeCopy) → x ≡ pick q (t .copies .second) (t .copies .third) → (r : Plan) → r ≡ exchangeWith s m t w c x
+    → (x : Node) → x ≡ pick q (t .copies .second .node) (t .copies .third .node) → (r : Plan) → r ≡ exchangeWith s m t w c x
     → r ≡ mendSwap s m t w
 unfolding mendSwap
 child-swaps s m t w l k el ek q eq c ec x ex r er =
     er
     ∙ (λ i. exchangeWith s m t w (ec i) (ex i))
-    ∙ pick-both (exchangeWith s m t w) q (2 * t .node) (2 * t .node + 1) (t .copies .second) (t .copies .third)
-    ∙ ap (λ p. pick p (exchangeWith s m t w (2 * t .node) (t .copies .second)) (exchangeWith s m t w (2 * t .node + 1) (t .copies .third)))
+    ∙ pick-both (exchangeWith s m t w) q (2 * t .node) (2 * t .node + 1) (t .copies .second .node) (t .copies .third .node)
+    ∙ ap (λ p. pick p (exchangeWith s m t w (2 * t .node) (t .copies .second .node))
+    (exchangeWith s m t w (2 * t .node + 1) (t .copies .third .node)))
     (eq ∙ (λ i. itemLe (el i) (ek i)))
 
 -- M6.

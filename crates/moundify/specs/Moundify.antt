@@ -11,7 +11,7 @@ use Rattle.region.specs.Thread.{mending, returned, withDepth, withFirst, withSe
 use Rattle.region.specs.declared.answer.Answer.{Answer}
 use Rattle.region.specs.declared.answer.Answer.the-variants.{Moved, Took}
 use Rattle.region.specs.declared.place.Place.the-variants.{MendReadNode, MendReadDepth, MendReadLeft, MendReadRight, MendSwap, MendClean}
-use Rattle.region.specs.declared.record.NodeCopy.{NodeCopy}
+use Rattle.region.specs.declared.record.Node.{Node}
 use Rattle.region.specs.declared.shape.Shape.{Shape}
 use Rattle.region.specs.declared.thread.Thread.{Thread}
 use Rattle.access.specs.Order.{itemLe, itemLt, valueOf}
@@ -89,32 +89,32 @@ mendReadRight s m t w =
     (childrenRead (withThird t (readNode m (2 * t .node + 1))) w)
     (refused t unreadable)
 
--- "n gets the child's list, clean; the child gets n's list, dirty. Success: mend the child. Failure: M1." q is the child's copy, c its
--- number; where its comparison came out so (lines 46 to 54)
-unfoldable pub exchangeAt : Thread → ℕ → ℕ → NodeCopy → Bool → Plan
-exchangeAt t w c q holds =
+-- "n gets the child's list, clean; the child gets n's list, dirty. Success: mend the child. Failure: M1." c is the child, k its copied
+-- node; where its comparison came out so (lines 46 to 54)
+unfoldable pub exchangeAt : Thread → ℕ → ℕ → Node → Bool → Plan
+exchangeAt t w c k holds =
     pick
     holds
     (pick
-    (isSpent (t .copies .first .node) || isSpent (q .node))
+    (isSpent (t .copies .first .node) || isSpent k)
     (refused t counterSpent)
     (plan
-    (Exchange (t .node) (updated (t .copies .first .node) (q .node .first) 0) c (updated (q .node) (t .copies .first .node .first) 1))
+    (Exchange (t .node) (updated (t .copies .first .node) (k .first) 0) c (updated k (t .copies .first .node .first) 1))
     (mending t c w)
     Moved))
     (onTo t (MendReadNode w))
 
 -- both nodes of the DCAS equal their copies
-unfoldable pub nodeAndChildSame : Shared → Thread → ℕ → NodeCopy → Bool
-nodeAndChildSame m t c q = sameNode (m .node (t .node)) (t .copies .first .node) && sameNode (m .node c) (q .node)
+unfoldable pub nodeAndChildSame : Shared → Thread → ℕ → Node → Bool
+nodeAndChildSame m t c k = sameNode (m .node (t .node)) (t .copies .first .node) && sameNode (m .node c) k
 
 -- DCAS of n and its child c
-unfoldable pub exchangeWith : Shape → Shared → Thread → ℕ → ℕ → NodeCopy → Plan
+unfoldable pub exchangeWith : Shape → Shared → Thread → ℕ → ℕ → Node → Plan
 unfolding exchangeAt nodeAndChildSame
-exchangeWith s m t w c q =
+exchangeWith s m t w c k =
     pick
     (not (eqb (t .node) 0) && isNode s c)
-    (exchangeAt t w c q (nodeAndChildSame m t c q))
+    (exchangeAt t w c k (nodeAndChildSame m t c k))
     (refused t unreadable)
 
 -- M5 "DCAS (left child if left val ≤ right val, else right)"
@@ -123,8 +123,8 @@ unfolding exchangeWith
 mendSwap s m t w =
     pick
     (itemLe (valueOf (t .copies .second)) (valueOf (t .copies .third)))
-    (exchangeWith s m t w (2 * t .node) (t .copies .second))
-    (exchangeWith s m t w (2 * t .node + 1) (t .copies .third))
+    (exchangeWith s m t w (2 * t .node) (t .copies .second .node))
+    (exchangeWith s m t w (2 * t .node + 1) (t .copies .third .node))
 
 -- n becomes clean, and the mending returns
 unfoldable pub cleanAt : Thread → ℕ → Plan

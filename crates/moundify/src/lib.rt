@@ -11,7 +11,7 @@ use access::Plan;
 use region::Answer;
 use region::COUNTER_SPENT;
 use region::Frame;
-use region::NodeCopy;
+use region::Node;
 use region::Place;
 use region::Thread;
 use region::UNREADABLE;
@@ -148,14 +148,13 @@ pub fn mend_read_right(f: Frame, b: &[u8], t: Thread, w: u32) -> Plan
 }
 
 // The exchange of the node's list and its child's, where the comparison came out so.
-fn exchange_at(t: Thread, w: u32, c: u32, q: NodeCopy, holds: bool) -> Plan
-    ensures { λ r. ⌜ r ≡ exchangeAt t w c q holds ⌝ }
+fn exchange_at(t: Thread, w: u32, c: u32, k: Node, holds: bool) -> Plan
+    ensures { λ r. ⌜ r ≡ exchangeAt t w c k holds ⌝ }
 {
     if !holds {
         return access::on_to(t, Place::MendReadNode(w));
     }
     let n = t.copies.first.node;
-    let k = q.node;
     if access::is_spent(n) {
         return access::refused(t, COUNTER_SPENT);
     }
@@ -172,20 +171,20 @@ fn exchange_at(t: Thread, w: u32, c: u32, q: NodeCopy, holds: bool) -> Plan
 }
 
 // Whether the node and the child are as they were copied.
-fn node_and_child_same(f: Frame, b: &[u8], t: Thread, c: u32, q: NodeCopy) -> bool
+fn node_and_child_same(f: Frame, b: &[u8], t: Thread, c: u32, k: Node) -> bool
     requires { ⌜ Within f (length (now b)) ⌝ }
-    ensures { λ r. ⌜ r ≡ nodeAndChildSame (sharedIn f (now (b .entry))) t c q ⌝ }
+    ensures { λ r. ⌜ r ≡ nodeAndChildSame (sharedIn f (now (b .entry))) t c k ⌝ }
 {
     if !access::same_node(f.load_node(b, t.node), t.copies.first.node) {
         return false;
     }
-    access::same_node(f.load_node(b, c), q.node)
+    access::same_node(f.load_node(b, c), k)
 }
 
 // DCAS of the node and its child.
-fn exchange_with(f: Frame, b: &[u8], t: Thread, w: u32, child: usize, q: NodeCopy) -> Plan
+fn exchange_with(f: Frame, b: &[u8], t: Thread, w: u32, child: usize, k: Node) -> Plan
     requires { ⌜ Within f (length (now b)) ⌝ }
-    ensures { λ r. ⌜ r ≡ exchangeWith (f .shape) (sharedIn f (now (b .entry))) t w child q ⌝ }
+    ensures { λ r. ⌜ r ≡ exchangeWith (f .shape) (sharedIn f (now (b .entry))) t w child k ⌝ }
 {
     if t.node == 0 {
         return access::refused(t, UNREADABLE);
@@ -194,7 +193,7 @@ fn exchange_with(f: Frame, b: &[u8], t: Thread, w: u32, child: usize, q: NodeCop
         return access::refused(t, UNREADABLE);
     }
     let c = child as u32;
-    exchange_at(t, w, c, q, node_and_child_same(f, b, t, c, q))
+    exchange_at(t, w, c, k, node_and_child_same(f, b, t, c, k))
 }
 
 // The number of the left or the right child.
@@ -209,13 +208,13 @@ fn child_of(node: u32, left: bool) -> usize
 }
 
 // The left or the right child as it was copied.
-fn child_copy(t: Thread, left: bool) -> NodeCopy
-    ensures { λ r. ⌜ r ≡ pick left (t .copies .second) (t .copies .third) ⌝ }
+fn copied_child(t: Thread, left: bool) -> Node
+    ensures { λ r. ⌜ r ≡ pick left (t .copies .second .node) (t .copies .third .node) ⌝ }
 {
     if left {
-        return t.copies.second;
+        return t.copies.second.node;
     }
-    t.copies.third
+    t.copies.third.node
 }
 
 // M5. The child is chosen first, so that the exchange stands here once and is compiled into its place.
@@ -227,7 +226,7 @@ pub fn mend_swap(f: Frame, b: &[u8], t: Thread, w: u32) -> Plan
         access::value_of(t.copies.second),
         access::value_of(t.copies.third),
     );
-    exchange_with(f, b, t, w, child_of(t.node, left), child_copy(t, left))
+    exchange_with(f, b, t, w, child_of(t.node, left), copied_child(t, left))
 }
 
 // The node becomes clean, where it is as it was copied.

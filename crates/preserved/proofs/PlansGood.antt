@@ -434,35 +434,35 @@ module _ (s : Shape) (r : InRange s) (m : Shared) (sm : SharedGood s m) where
           (λ h. refused-good s t gt unreadable)
 
       -- M5
-      pub exchangeWith-good : (c : ℕ) (q : NodeCopy) → 2 * t .node ≤ c → c ≤ 2 * t .node + 1 → CopyGood (s .cells) q
-          → PlanGood s (exchangeWith s m t w c q)
+      pub exchangeWith-good : (c : ℕ) (k : Node) → 2 * t .node ≤ c → c ≤ 2 * t .node + 1 → NodeGood (s .cells) k
+          → PlanGood s (exchangeWith s m t w c k)
       unfolding exchangeWith exchangeAt isNode
-      exchangeWith-good c q lo hi hq =
+      exchangeWith-good c k lo hi hk =
           let n = t .copies .first .node in
           pick-good (PlanGood s) (not (eqb (t .node) 0) && isNode s c)
           (λ h. let ne = eqb-false (t .node) 0 (not-true (eqb (t .node) 0) (and-left (not (eqb (t .node) 0)) (isNode s c) h)) in
           let cl = between-least 1 c (nodeCount s) (and-right (not (eqb (t .node) 0)) (isNode s c) h) in
           let cu = between-most 1 c (nodeCount s) (and-right (not (eqb (t .node) 0)) (isNode s c) h) in
-          pick-good (PlanGood s) (nodeAndChildSame m t c q)
-          (λ k. pick-good (PlanGood s) (isSpent n || isSpent (q .node)) (λ e. refused-good s t gt counterSpent)
-          (λ e. plan-good s (Exchange (t .node) (updated n (q .node .first) 0) c (updated (q .node) (n .first) 1)) (mending t c w) Moved (
+          pick-good (PlanGood s) (nodeAndChildSame m t c k)
+          (λ y. pick-good (PlanGood s) (isSpent n || isSpent k) (λ e. refused-good s t gt counterSpent)
+          (λ e. plan-good s (Exchange (t .node) (updated n (k .first) 0) c (updated k (n .first) 1)) (mending t c w) Moved (
             (omega arith, g .node),
             (cl, cu),
-            updated-good n (q .node .first) 0 (g .first .node) (or-left (isSpent n) (isSpent (q .node)) e) (hq .node .first)
+            updated-good n (k .first) 0 (g .first .node) (or-left (isSpent n) (isSpent k) e) (hk .first)
                 (omega arith),
-            updated-good (q .node) (n .first) 1 (hq .node) (or-right (isSpent n) (isSpent (q .node)) e) (g .first .node .first)
+            updated-good k (n .first) 1 hk (or-right (isSpent n) (isSpent k) e) (g .first .node .first)
                 (omega arith),
           )
           (mending-good s t g c w cu (waits-at-child (t .node) c w (omega arith) lo hi (omega (arith, cu, few-nodes)) hw))))
-          (λ k. onTo-good s t g (MendReadNode w) hw))
+          (λ y. onTo-good s t g (MendReadNode w) hw))
           (λ h. refused-good s t gt unreadable)
 
       pub mendSwap-good : PlanGood s (mendSwap s m t w)
       unfolding mendSwap
       mendSwap-good =
           pick-good (PlanGood s) (itemLe (valueOf (t .copies .second)) (valueOf (t .copies .third)))
-          (λ h. exchangeWith-good (2 * t .node) (t .copies .second) (omega arith) (omega arith) (g .second))
-          (λ h. exchangeWith-good (2 * t .node + 1) (t .copies .third) (omega arith) (omega arith) (g .third))
+          (λ h. exchangeWith-good (2 * t .node) (t .copies .second .node) (omega arith) (omega arith) (g .second .node))
+          (λ h. exchangeWith-good (2 * t .node + 1) (t .copies .third .node) (omega arith) (omega arith) (g .third .node))
 
       -- M6
       pub mendClean-good : PlanGood s (mendClean m t w)

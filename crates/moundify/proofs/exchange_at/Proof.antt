@@ -42,7 +42,7 @@ plan-of-requires : tie.Need-plan-of-requires
 plan-of-requires c κs = search needs
 
 returns-4 : tie.Need-returns-4
-returns-4 c = search (lists-exchange, c .before .before .before .before .before .before .before .before .before .before .if1 .left)
+returns-4 c = search (lists-exchange, c .before .before .before .before .before .before .before .before .before .if1 .left)
 
 pub exchange-at-spec : {M : Type 1} → statement M
 exchange-at-spec =

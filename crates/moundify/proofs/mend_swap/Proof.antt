@@ -16,8 +16,8 @@ item-le-requires c κs = search needs
 child-of-requires : tie.Need-child-of-requires
 child-of-requires c κs = search needs
 
-child-copy-requires : tie.Need-child-copy-requires
-child-copy-requires c κs = search needs
+copied-child-requires : tie.Need-copied-child-requires
+copied-child-requires c κs = search needs
 
 exchange-with-requires : tie.Need-exchange-with-requires
 exchange-with-requires c κs = search needs
@@ -33,6 +33,6 @@ mend-swap-spec =
     value-of-requires-2
     item-le-requires
     child-of-requires
-    child-copy-requires
+    copied-child-requires
     exchange-with-requires
     returns)
