@@ -5,14 +5,13 @@ use native.Mathlib.Numerals.{add-one}
 use native.Mathlib.Omega.{arith}
 use mathlib.Core.Path.{_≡_, refl, sym, ap, subst, subst₂, _∙_}
 use mathlib.Core.Bool.{Bool, true, false, not, _&&_, and-true}
-use mathlib.Core.List.{List}
+use mathlib.Core.List.{List, [], _∷_}
 use borrow.Author.Tests.{lt-leb, le-leb, eq-eqb, ne-eqb, eqb-true, not-true, not-false}
 use lib.Dec.{leb, eqb}
 use lib.ListN.{length, getD, drop, drop-of-length-le}
 use lib.Pow.{pow-pos}
 use lib.Seq.{drop-cons}
-use Rattle.words.specs.Word.{word, Bytes}
-use Rattle.words.proofs.Laws.{word-fits}
+use Rattle.words.specs.Word.{word}
 use Rattle.region.specs.Frame.{Within, frameOf}
 use Rattle.region.specs.Level.{level}
 use Rattle.region.specs.Pick.{pick}
@@ -23,33 +22,24 @@ use Rattle.region.specs.declared.shape.Shape.{Shape}
 use Rattle.region.proofs.Frames.{frame-within}
 use Rattle.region.proofs.Levels.{level-most}
 use Rattle.region.proofs.Shapes.{and-left, and-right, in-range, shifted}
-use Rattle.readable.specs.Readable.{FieldsAsked, ThreadAsked, ThreadsAsked, anyWord, nodeMaxima, cellMaxima, threadMaxima, triesMost, waitingMost, bounded, threadReadable, allRecords, treeReadable, fieldsReadable, shapeIn, isWhole, readable, checkAnswer}
+use Rattle.readable.specs.Readable.{FieldsAsked, ThreadAsked, ThreadsAsked, nodeMaxima, cellMaxima, threadMaxima, triesMost, waitingMost, bounded, threadReadable, allRecords, treeReadable, fieldsReadable, shapeIn, isWhole, readable, checkAnswer}
 
-free : (b : List ℕ) (k : ℕ) → Bytes b → leb (word b k) anyWord ≡ true
-free b k h = le-leb (word b k) anyWord (omega (arith, word-fits b k h))
-
--- A node and a cell.
-module _ (b : List ℕ) (at cells : ℕ) where
-  pub node-bad : (w : ℕ) → w ≡ word b at → cells < w → false ≡ bounded b at (nodeMaxima cells)
+-- A record of three words.
+module _ (b : List ℕ) (at x y z : ℕ) (u : ℕ) (eu : u ≡ word b at) where
+  pub first-word-bad : x < u → false ≡ bounded b at (x ∷ y ∷ z ∷ [])
   unfolding bounded
-  node-bad w e h = rw (← e, lt-leb w cells h) refl
+  first-word-bad h = rw (← eu, lt-leb u x h) refl
 
-  pub node-rest : (w d : ℕ) → w ≡ word b at → w ≤ cells → d ≡ word b (at + 1) → Bytes b
-      → leb d 1 ≡ bounded b at (nodeMaxima cells)
-  unfolding bounded
-  node-rest w d e h ed y =
-      rw (← e, le-leb w cells h, free b (suc (suc at)) y, and-true, ← add-one at, ← ed) refl
+  module _ (l : u ≤ x) (v : ℕ) (ev : v ≡ word b (at + 1)) where
+    pub second-word-bad : y < v → false ≡ bounded b at (x ∷ y ∷ z ∷ [])
+    unfolding bounded
+    second-word-bad h = rw (← eu, le-leb u x l, ← add-one at, ← ev, lt-leb v y h) refl
 
-  pub cell-bad : (w : ℕ) → w ≡ word b (at + 1) → 65535 < w → Bytes b → false ≡ bounded b at (cellMaxima cells)
-  unfolding bounded
-  cell-bad w e h y = rw (free b at y, ← add-one at, ← e, lt-leb w 65535 h) refl
-
-  pub cell-rest : (w n : ℕ) → w ≡ word b (at + 1) → w ≤ 65535 → n ≡ word b (at + 2) → Bytes b
-      → leb n cells ≡ bounded b at (cellMaxima cells)
-  unfolding bounded
-  cell-rest w n e h en y =
-      let two : suc (suc at) ≡ at + 2 = omega arith in
-      rw (free b at y, two, ← add-one at, ← e, le-leb w 65535 h, ← en, and-true) refl
+    pub third-word-decides : v ≤ y → (w : ℕ) → w ≡ word b (at + 2) → leb w z ≡ bounded b at (x ∷ y ∷ z ∷ [])
+    unfolding bounded
+    third-word-decides h w ew =
+        let two : suc (suc at) ≡ at + 2 = omega arith in
+        rw (← eu, le-leb u x l, two, ← add-one at, ← ev, le-leb v y h, ← ew, and-true) refl
 
 -- A run of words: those not yet looked at decide.
 pub record Passed (b : List ℕ) (at : ℕ) (ms : List ℕ) (i : ℕ) : Type 0 where

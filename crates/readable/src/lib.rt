@@ -3,35 +3,57 @@ ghost use mathlib.Core.Path.{_≡_};
 ghost use Prim.Native.Nat.{_+_, _*_, _≤_};
 ghost use lib.ListN.{length};
 ghost use mathlib.Core.Bool.{true};
+ghost use mathlib.Core.List.{[], _∷_};
 ghost use Rattle.region.specs.Frame.{Within, frameOf};
 ghost use Rattle.region.specs.Shape.{InRange};
-ghost use Rattle.readable.specs.Readable.{FieldsAsked, ThreadAsked, ThreadsAsked, bounded, nodeMaxima, cellMaxima, threadMaxima, triesMost, waitingMost, threadReadable, allRecords, treeReadable, shapeIn, fieldsReadable, isWhole, readable, checkAnswer};
+ghost use Rattle.readable.specs.Readable.{FieldsAsked, ThreadAsked, ThreadsAsked, bounded, threadMaxima, triesMost, waitingMost, threadReadable, allRecords, treeReadable, shapeIn, fieldsReadable, isWhole, readable, checkAnswer};
 use region::DONE;
 use region::Frame;
 use region::Shape;
 use region::UNREADABLE;
 use words::load_word;
 
-// The node at word `at`: its first cell and its dirty mark; the counter is free.
-fn node_readable(b: &[u8], at: usize, cells: u32) -> bool
+// "Counters and keys are free."
+const ANY_WORD: u32 = 4294967295;
+
+// "Tags are 0 to 65,535."
+const GREATEST_TAG: u32 = 65535;
+
+// The three words from word `at` on, each at most its maximum.
+fn record_bounded(b: &[u8], at: usize, x: u32, y: u32, z: u32) -> bool
     requires { ⌜ 4 * (at + 3) ≤ length (now b) ⌝ }
-    ensures { λ r. ⌜ r ≡ bounded (now (b .entry)) at (nodeMaxima cells) ⌝ }
+    ensures { λ r. ⌜ r ≡ bounded (now (b .entry)) at (x ∷ y ∷ z ∷ []) ⌝ }
 {
-    if cells < load_word(b, at) {
+    if x < load_word(b, at) {
         return false;
     }
-    load_word(b, at + 1) <= 1
+    if y < load_word(b, at + 1) {
+        return false;
+    }
+    load_word(b, at + 2) <= z
 }
 
-// The cell at word `at`: its tag and its next cell; the key is free.
-fn cell_readable(b: &[u8], at: usize, cells: u32) -> bool
-    requires { ⌜ 4 * (at + 3) ≤ length (now b) ⌝ }
-    ensures { λ r. ⌜ r ≡ bounded (now (b .entry)) at (cellMaxima cells) ⌝ }
+// Records of three words, each at most its maximum; two in a turn, which halves the turns.
+fn records_bounded(b: &[u8], at: usize, count: usize, x: u32, y: u32, z: u32) -> bool
+    requires { ⌜ 4 * (at + 3 * count) ≤ length (now b) ⌝ }
+    ensures { λ r. ⌜ r ≡ allRecords (λ l k. bounded l k (x ∷ y ∷ z ∷ [])) 3 (now (b .entry)) at count ⌝ }
 {
-    if 65535 < load_word(b, at + 1) {
-        return false;
+    let mut k = at;
+    let mut left = count;
+    while 1 < left {
+        if !record_bounded(b, k, x, y, z) {
+            return false;
+        }
+        if !record_bounded(b, k + 3, x, y, z) {
+            return false;
+        }
+        k += 6;
+        left -= 2;
     }
-    load_word(b, at + 2) <= cells
+    if left == 0 {
+        return true;
+    }
+    record_bounded(b, k, x, y, z)
 }
 
 // The words from word `at` on, each at most its maximum.
@@ -47,52 +69,6 @@ fn words_bounded(b: &[u8], at: usize, maxima: &[u32]) -> bool
         i += 1;
     }
     true
-}
-
-// The nodes, two in a turn, which halves the turns.
-fn nodes_readable(b: &[u8], at: usize, count: usize, cells: u32) -> bool
-    requires { ⌜ 4 * (at + 3 * count) ≤ length (now b) ⌝ }
-    ensures { λ r. ⌜ r ≡ allRecords (λ l k. bounded l k (nodeMaxima cells)) 3 (now (b .entry)) at count ⌝ }
-{
-    let mut k = at;
-    let mut left = count;
-    while 1 < left {
-        if !node_readable(b, k, cells) {
-            return false;
-        }
-        if !node_readable(b, k + 3, cells) {
-            return false;
-        }
-        k += 6;
-        left -= 2;
-    }
-    if left == 0 {
-        return true;
-    }
-    node_readable(b, k, cells)
-}
-
-// The cells, likewise.
-fn cells_readable(b: &[u8], at: usize, count: usize, cells: u32) -> bool
-    requires { ⌜ 4 * (at + 3 * count) ≤ length (now b) ⌝ }
-    ensures { λ r. ⌜ r ≡ allRecords (λ l k. bounded l k (cellMaxima cells)) 3 (now (b .entry)) at count ⌝ }
-{
-    let mut k = at;
-    let mut left = count;
-    while 1 < left {
-        if !cell_readable(b, k, cells) {
-            return false;
-        }
-        if !cell_readable(b, k + 3, cells) {
-            return false;
-        }
-        k += 6;
-        left -= 2;
-    }
-    if left == 0 {
-        return true;
-    }
-    cell_readable(b, k, cells)
 }
 
 // The most tries at this place.
@@ -158,15 +134,14 @@ fn thread_maxima(shape: Shape) -> [u32; 33]
     requires { ⌜ InRange shape ⌝ }
     ensures { λ r. ⌜ r ≡ threadMaxima shape ⌝ }
 {
-    let any = 4294967295;
     let nodes = shape.node_count() as u32;
     let c = shape.cells;
     let d = shape.depth;
     [
         3,
         16,
-        any,
-        65535,
+        ANY_WORD,
+        GREATEST_TAG,
         c,
         d,
         nodes,
@@ -174,27 +149,27 @@ fn thread_maxima(shape: Shape) -> [u32; 33]
         d,
         d,
         nodes,
-        any,
+        ANY_WORD,
         1,
-        any,
-        65535,
+        ANY_WORD,
+        GREATEST_TAG,
         c,
         1,
-        any,
-        any,
-        65535,
-        c,
-        c,
-        1,
-        any,
-        any,
-        65535,
+        ANY_WORD,
+        ANY_WORD,
+        GREATEST_TAG,
         c,
         c,
         1,
-        any,
-        any,
-        65535,
+        ANY_WORD,
+        ANY_WORD,
+        GREATEST_TAG,
+        c,
+        c,
+        1,
+        ANY_WORD,
+        ANY_WORD,
+        GREATEST_TAG,
         c,
     ]
 }
@@ -211,10 +186,18 @@ fn tree_readable(b: &[u8], frame: Frame) -> bool
     if shape.cells < frame.load_free(b) {
         return false;
     }
-    if !nodes_readable(b, frame.nodes, shape.node_count(), shape.cells) {
+    let cells = shape.cells;
+    if !records_bounded(b, frame.nodes, shape.node_count(), cells, 1, ANY_WORD) {
         return false;
     }
-    cells_readable(b, frame.cells, shape.cells as usize, shape.cells)
+    records_bounded(
+        b,
+        frame.cells,
+        cells as usize,
+        ANY_WORD,
+        GREATEST_TAG,
+        cells,
+    )
 }
 
 // Every field behind the shape.

@@ -22,17 +22,17 @@ returns-2 c = search free-bad
 node-count-requires : tie.Need-node-count-requires
 node-count-requires c κs = search needs
 
-nodes-readable-requires : tie.Need-nodes-readable-requires
-nodes-readable-requires c κs = search needs
+records-bounded-requires : tie.Need-records-bounded-requires
+records-bounded-requires c κs = search needs
 
 returns-3 : tie.Need-returns-3
 returns-3 c = search nodes-bad
 
-cast-cells-readable : tie.Need-cast-cells-readable
-cast-cells-readable c = search needs
+cast-records-bounded : tie.Need-cast-records-bounded
+cast-records-bounded c = search needs
 
-cells-readable-requires : tie.Need-cells-readable-requires
-cells-readable-requires c κs = search needs
+records-bounded-requires-2 : tie.Need-records-bounded-requires-2
+records-bounded-requires-2 c κs = search needs
 
 returns-4 : tie.Need-returns-4
 returns-4 c = search tree-rest
@@ -47,8 +47,8 @@ tree-readable-spec =
     load-free-requires
     returns-2
     node-count-requires
-    nodes-readable-requires
+    records-bounded-requires
     returns-3
-    cast-cells-readable
-    cells-readable-requires
+    cast-records-bounded
+    records-bounded-requires-2
     returns-4)
