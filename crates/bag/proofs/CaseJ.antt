@@ -8,7 +8,7 @@ use lib.ListN.{length, replicate}
 use Rattle.region.specs.declared.record.Item.{Item}
 use Rattle.layout.specs.Layout.{layoutBytes}
 use Rattle.cases.specs.Cases.{schedule}
-use Rattle.cases.specs.Computes.{computes}
+use Rattle.computes.specs.Computes.{computes}
 use Rattle.bag.specs.Calls.{Call, put, take, run, after}
 use Rattle.bag.specs.History.{Told, Moment, nothing, begunPut, begunTake, decidedPut, decidedTake, decidedEmpty, tookItem, turnTells, turnMoments, callMoments, history}
 

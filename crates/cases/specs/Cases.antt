@@ -12,7 +12,7 @@ use Rattle.region.specs.declared.shape.Shape.{Shape}
 use Rattle.layout.specs.Layout.{layoutRefusal, layoutBytes}
 use Rattle.machine.specs.Begin.{putBytes, putRefusal, takeBytes, takeRefusal}
 use Rattle.machine.specs.Run.{runResult}
-use Rattle.cases.specs.Computes.{computes}
+use Rattle.computes.specs.Computes.{computes}
 
 -- what is called on a laid-out region: a put of a key by a thread, a take, a run of these threads' turns
 pub data Does : Type 0 where

@@ -1,3 +1,2 @@
 -- Document 01's starred cases as theorems, computed from the definitions.
 pub mod Cases
-pub mod Computes

@@ -1,0 +1,2 @@
+-- The definitions of the machine, named together for theorems that compute.
+pub mod Computes
