@@ -2,7 +2,7 @@
 use Prim.Native.Nat.{ℕ, _+_, _≤_, _<_, _^_}
 use native.Mathlib.Omega.{arith}
 use mathlib.Core.Path.{_≡_, refl, sym, ap, subst, _∙_}
-use mathlib.Core.Bool.{false}
+use mathlib.Core.Bool.{false, true≢false}
 use mathlib.Core.List.{List}
 use borrow.Author.Tests.{eq-eqb, ne-eqb, eqb-false}
 use lib.Dec.{leb, eqb}
@@ -61,6 +61,9 @@ module _ (s : Shape) (n : ℕ) where
   unfolding isNode
   some-node h k e = ap (leb n) e ∙ from-least 1 n (nodeCount s) h
 
+another-kind : (k j : ℕ) → k ≡ j → eqb k j ≡ false → ⊥
+another-kind k j e n = true≢false (sym (eq-eqb k j e) ∙ n)
+
 module _ (f : Frame) (b : List ℕ) where
   pub node-read : (n : ℕ) (x : Node) (c : Cell) → x ≡ nodeIn f b n → c ≡ cellIn f b (x .first)
       → _≡_ {A = NodeCopy} (record { node = x; head = c }) (readNode (sharedIn f b) n)
@@ -107,17 +110,17 @@ module _ (f : Frame) (b : List ℕ) where
 
     -- an effect of another kind does not come
     module _ (l k : ℕ) (h : OnlyAsked f l k e) where
-      pub no-growth : (d : ℕ) → e ≡ Grow d → (k ≡ 1 → ⊥) → b ≡ effectBytes f b e
-      no-growth d p n = absurd (n (subst (Only k) p (h .only)))
+      pub no-growth : (d : ℕ) → e ≡ Grow d → eqb k 1 ≡ false → b ≡ effectBytes f b e
+      no-growth d p n = absurd (another-kind k 1 (subst (Only k) p (h .only)) n)
 
-      pub no-push : (n : ℕ) (v : Node) (c x : ℕ) → e ≡ Push n v c x → (k ≡ 2 → ⊥) → b ≡ effectBytes f b e
-      no-push n v c x p z = absurd (z (subst (Only k) p (h .only)))
+      pub no-push : (n : ℕ) (v : Node) (c x : ℕ) → e ≡ Push n v c x → eqb k 2 ≡ false → b ≡ effectBytes f b e
+      no-push n v c x p z = absurd (another-kind k 2 (subst (Only k) p (h .only)) z)
 
-      pub no-pop : (v : Node) (c : ℕ) → e ≡ Pop v c → (k ≡ 3 → ⊥) → b ≡ effectBytes f b e
-      no-pop v c p z = absurd (z (subst (Only k) p (h .only)))
+      pub no-pop : (v : Node) (c : ℕ) → e ≡ Pop v c → eqb k 3 ≡ false → b ≡ effectBytes f b e
+      no-pop v c p z = absurd (another-kind k 3 (subst (Only k) p (h .only)) z)
 
-      pub no-exchange : (n : ℕ) (v : Node) (c : ℕ) (w : Node) → e ≡ Exchange n v c w → (k ≡ 4 → ⊥) → b ≡ effectBytes f b e
-      no-exchange n v c w p z = absurd (z (subst (Only k) p (h .only)))
+      pub no-exchange : (n : ℕ) (v : Node) (c : ℕ) (w : Node) → e ≡ Exchange n v c w → eqb k 4 ≡ false → b ≡ effectBytes f b e
+      no-exchange n v c w p z = absurd (another-kind k 4 (subst (Only k) p (h .only)) z)
 
-      pub no-cleaning : (n : ℕ) (v : Node) → e ≡ Clean n v → (k ≡ 5 → ⊥) → b ≡ effectBytes f b e
-      no-cleaning n v p z = absurd (z (subst (Only k) p (h .only)))
+      pub no-cleaning : (n : ℕ) (v : Node) → e ≡ Clean n v → eqb k 5 ≡ false → b ≡ effectBytes f b e
+      no-cleaning n v p z = absurd (another-kind k 5 (subst (Only k) p (h .only)) z)

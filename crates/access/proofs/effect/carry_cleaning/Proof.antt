@@ -1,23 +1,8 @@
 -- `access::effect::carry_cleaning` meets its contract: nothing, or a cleaning. Assumes nothing.
-use Prim.Native.Nat.{ℕ}
-use native.Mathlib.Omega.{arith}
-use mathlib.Core.Path.{_≡_}
 use borrow.Author.Needs.{needs}
 use Rattle.access.proofs.effect.carry_cleaning.Statement.{statement}
 use Rattle.access.proofs.effect.carry_cleaning.Tie as tie
 use Rattle.access.proofs.Ways.{nothing-done, cleaned, no-growth, no-push, no-pop, no-exchange}
-
-not-1 : _≡_ {A = ℕ} 5 1 → ⊥
-not-1 z = omega arith
-
-not-2 : _≡_ {A = ℕ} 5 2 → ⊥
-not-2 z = omega arith
-
-not-3 : _≡_ {A = ℕ} 5 3 → ⊥
-not-3 z = omega arith
-
-not-4 : _≡_ {A = ℕ} 5 4 → ⊥
-not-4 z = omega arith
 
 enum-told : tie.Need-enum-told
 enum-told c = search needs
@@ -44,16 +29,16 @@ returns : tie.Need-returns
 returns c = search nothing-done
 
 returns-2 : tie.Need-returns-2
-returns-2 c = search (no-growth, not-1)
+returns-2 c = search no-growth
 
 returns-3 : tie.Need-returns-3
-returns-3 c = search (no-push, not-2)
+returns-3 c = search no-push
 
 returns-4 : tie.Need-returns-4
-returns-4 c = search (no-pop, not-3)
+returns-4 c = search no-pop
 
 returns-5 : tie.Need-returns-5
-returns-5 c = search (no-exchange, not-4)
+returns-5 c = search no-exchange
 
 same-length : tie.Need-same-length
 same-length c = search needs

@@ -1,23 +1,8 @@
 -- `access::effect::carry_exchange` meets its contract: nothing, or an exchange. Assumes nothing.
-use Prim.Native.Nat.{ℕ}
-use native.Mathlib.Omega.{arith}
-use mathlib.Core.Path.{_≡_}
 use borrow.Author.Needs.{needs}
 use Rattle.access.proofs.effect.carry_exchange.Statement.{statement}
 use Rattle.access.proofs.effect.carry_exchange.Tie as tie
 use Rattle.access.proofs.Ways.{nothing-done, exchanged, no-growth, no-push, no-pop, no-cleaning}
-
-not-1 : _≡_ {A = ℕ} 4 1 → ⊥
-not-1 z = omega arith
-
-not-2 : _≡_ {A = ℕ} 4 2 → ⊥
-not-2 z = omega arith
-
-not-3 : _≡_ {A = ℕ} 4 3 → ⊥
-not-3 z = omega arith
-
-not-5 : _≡_ {A = ℕ} 4 5 → ⊥
-not-5 z = omega arith
 
 enum-told : tie.Need-enum-told
 enum-told c = search needs
@@ -47,13 +32,13 @@ returns : tie.Need-returns
 returns c = search nothing-done
 
 returns-2 : tie.Need-returns-2
-returns-2 c = search (no-growth, not-1)
+returns-2 c = search no-growth
 
 returns-3 : tie.Need-returns-3
-returns-3 c = search (no-push, not-2)
+returns-3 c = search no-push
 
 returns-4 : tie.Need-returns-4
-returns-4 c = search (no-pop, not-3)
+returns-4 c = search no-pop
 
 same-length : tie.Need-same-length
 same-length c = search needs
@@ -62,7 +47,7 @@ returns-5 : tie.Need-returns-5
 returns-5 c = search exchanged
 
 returns-6 : tie.Need-returns-6
-returns-6 c = search (no-cleaning, not-5)
+returns-6 c = search no-cleaning
 
 pub carry-exchange-spec : {M : Type 1} → statement M
 carry-exchange-spec =

@@ -1,23 +1,8 @@
 -- `access::effect::carry_growth` meets its contract: nothing, or growth. Assumes nothing.
-use Prim.Native.Nat.{ℕ}
-use native.Mathlib.Omega.{arith}
-use mathlib.Core.Path.{_≡_}
 use borrow.Author.Needs.{needs}
 use Rattle.access.proofs.effect.carry_growth.Statement.{statement}
 use Rattle.access.proofs.effect.carry_growth.Tie as tie
 use Rattle.access.proofs.Ways.{nothing-done, grown, no-push, no-pop, no-exchange, no-cleaning}
-
-not-2 : _≡_ {A = ℕ} 1 2 → ⊥
-not-2 z = omega arith
-
-not-3 : _≡_ {A = ℕ} 1 3 → ⊥
-not-3 z = omega arith
-
-not-4 : _≡_ {A = ℕ} 1 4 → ⊥
-not-4 z = omega arith
-
-not-5 : _≡_ {A = ℕ} 1 5 → ⊥
-not-5 z = omega arith
 
 enum-told : tie.Need-enum-told
 enum-told c = search needs
@@ -50,16 +35,16 @@ returns-2 : tie.Need-returns-2
 returns-2 c = search grown
 
 returns-3 : tie.Need-returns-3
-returns-3 c = search (no-push, not-2)
+returns-3 c = search no-push
 
 returns-4 : tie.Need-returns-4
-returns-4 c = search (no-pop, not-3)
+returns-4 c = search no-pop
 
 returns-5 : tie.Need-returns-5
-returns-5 c = search (no-exchange, not-4)
+returns-5 c = search no-exchange
 
 returns-6 : tie.Need-returns-6
-returns-6 c = search (no-cleaning, not-5)
+returns-6 c = search no-cleaning
 
 pub carry-growth-spec : {M : Type 1} → statement M
 carry-growth-spec =

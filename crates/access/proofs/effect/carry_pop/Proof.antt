@@ -1,23 +1,8 @@
 -- `access::effect::carry_pop` meets its contract: nothing, or a pop. Assumes nothing.
-use Prim.Native.Nat.{ℕ}
-use native.Mathlib.Omega.{arith}
-use mathlib.Core.Path.{_≡_}
 use borrow.Author.Needs.{needs}
 use Rattle.access.proofs.effect.carry_pop.Statement.{statement}
 use Rattle.access.proofs.effect.carry_pop.Tie as tie
 use Rattle.access.proofs.Ways.{nothing-done, popped, no-growth, no-push, no-exchange, no-cleaning}
-
-not-1 : _≡_ {A = ℕ} 3 1 → ⊥
-not-1 z = omega arith
-
-not-2 : _≡_ {A = ℕ} 3 2 → ⊥
-not-2 z = omega arith
-
-not-4 : _≡_ {A = ℕ} 3 4 → ⊥
-not-4 z = omega arith
-
-not-5 : _≡_ {A = ℕ} 3 5 → ⊥
-not-5 z = omega arith
 
 enum-told : tie.Need-enum-told
 enum-told c = search needs
@@ -47,10 +32,10 @@ returns : tie.Need-returns
 returns c = search nothing-done
 
 returns-2 : tie.Need-returns-2
-returns-2 c = search (no-growth, not-1)
+returns-2 c = search no-growth
 
 returns-3 : tie.Need-returns-3
-returns-3 c = search (no-push, not-2)
+returns-3 c = search no-push
 
 same-length : tie.Need-same-length
 same-length c = search needs
@@ -59,10 +44,10 @@ returns-4 : tie.Need-returns-4
 returns-4 c = search popped
 
 returns-5 : tie.Need-returns-5
-returns-5 c = search (no-exchange, not-4)
+returns-5 c = search no-exchange
 
 returns-6 : tie.Need-returns-6
-returns-6 c = search (no-cleaning, not-5)
+returns-6 c = search no-cleaning
 
 pub carry-pop-spec : {M : Type 1} → statement M
 carry-pop-spec =

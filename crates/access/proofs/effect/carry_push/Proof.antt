@@ -1,23 +1,8 @@
 -- `access::effect::carry_push` meets its contract: nothing, or a push. Assumes nothing.
-use Prim.Native.Nat.{ℕ}
-use native.Mathlib.Omega.{arith}
-use mathlib.Core.Path.{_≡_}
 use borrow.Author.Needs.{needs}
 use Rattle.access.proofs.effect.carry_push.Statement.{statement}
 use Rattle.access.proofs.effect.carry_push.Tie as tie
 use Rattle.access.proofs.Ways.{nothing-done, pushed, no-growth, no-pop, no-exchange, no-cleaning}
-
-not-1 : _≡_ {A = ℕ} 2 1 → ⊥
-not-1 z = omega arith
-
-not-3 : _≡_ {A = ℕ} 2 3 → ⊥
-not-3 z = omega arith
-
-not-4 : _≡_ {A = ℕ} 2 4 → ⊥
-not-4 z = omega arith
-
-not-5 : _≡_ {A = ℕ} 2 5 → ⊥
-not-5 z = omega arith
 
 enum-told : tie.Need-enum-told
 enum-told c = search needs
@@ -44,7 +29,7 @@ returns : tie.Need-returns
 returns c = search nothing-done
 
 returns-2 : tie.Need-returns-2
-returns-2 c = search (no-growth, not-1)
+returns-2 c = search no-growth
 
 same-length : tie.Need-same-length
 same-length c = search needs
@@ -53,13 +38,13 @@ returns-3 : tie.Need-returns-3
 returns-3 c = search pushed
 
 returns-4 : tie.Need-returns-4
-returns-4 c = search (no-pop, not-3)
+returns-4 c = search no-pop
 
 returns-5 : tie.Need-returns-5
-returns-5 c = search (no-exchange, not-4)
+returns-5 c = search no-exchange
 
 returns-6 : tie.Need-returns-6
-returns-6 c = search (no-cleaning, not-5)
+returns-6 c = search no-cleaning
 
 pub carry-push-spec : {M : Type 1} → statement M
 carry-push-spec =
