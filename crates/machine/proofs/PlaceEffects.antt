@@ -1,5 +1,5 @@
 -- How a place's plan can end, whichever way it goes: its effect is none where it only reads, else none or one of its kind, and its thread
--- rests where the operation ends. Assumes nothing.
+-- is idle where the operation ends. Assumes nothing.
 use Prim.Native.Nat.{ℕ}
 use mathlib.Core.Path.{_≡_, refl, sym, subst, _∙_}
 use mathlib.Core.Bool.{Bool, true, false, not, _&&_, true≢false}
@@ -21,15 +21,15 @@ use Rattle.access.specs.declared.plan.Plan.{Plan}
 use Rattle.insert.specs.Insert.{ancestorRead, growDepth, insertAt, insertAtRoot, insertBelow, leafFailed, leafRead, readAncestor, readDepth, readLeaf, readParent, readTarget, searchOn}
 use Rattle.extract.specs.Extract.{headRemoved, readRoot, removeHead, rootRead}
 use Rattle.moundify.specs.Moundify.{childrenRead, cleanAt, depthRead, exchangeAt, exchangeWith, mendClean, mendSwap, mendReadDepth, mendReadLeft, mendReadNode, mendReadRight, returnAnswer, returning}
-use Rattle.machine.specs.Turn.{EndAsked, Rests, ends}
+use Rattle.machine.specs.Turn.{EndAsked, IdleAtEnd, ends}
 
 record Ends (k : ℕ) (p : Plan) : Type 0 where
   only : Only k (p .effect)
-  rests : Rests (p .answer) (p .thread)
+  idle : IdleAtEnd (p .answer) (p .thread)
 
 on : {k : ℕ} {e : Effect} {t : Thread} {a : Answer} → Only k e → ends a ≡ false
     → Ends k (record { effect = e; thread = t; answer = a })
-on h n = record { only = h; rests = λ e. absurd (true≢false (sym e ∙ n)) }
+on h n = record { only = h; idle = λ e. absurd (true≢false (sym e ∙ n)) }
 
 -- on to another place, refused, or at rest
 goes : {k : ℕ} {t : Thread} → Ends k (record { effect = Nothing; thread = t; answer = Moved })
@@ -41,7 +41,7 @@ stops = on tt refl
 at-rest : {k : ℕ} {e : Effect} (t : Thread) {a : Answer} → Only k e
     → Ends k (record { effect = e; thread = goneIdle t; answer = a })
 unfolding goneIdle
-at-rest t h = record { only = h; rests = λ e. refl }
+at-rest t h = record { only = h; idle = λ e. refl }
 
 or : {k : ℕ} (q : Bool) {a b : Plan} → Ends k a → Ends k b → Ends k (pick q a b)
 unfolding pick
@@ -50,10 +50,10 @@ or false h g = g
 
 back : {k : ℕ} (e : Effect) (t : Thread) (w : ℕ) → Only k e → Ends k (returning e t w)
 unfolding returning returnAnswer returned plan pick goneIdle
-back e t w h = record { only = h; rests = go (eqb w 0) (eqb (t .after) 0) _ _ }
+back e t w h = record { only = h; idle = go (eqb w 0) (eqb (t .after) 0) _ _ }
   where
     go : (p q : Bool) (x y : Thread)
-        → Rests (pick (p && not q) (Took (t .result)) Moved) (pick p (pick q x (goneIdle t)) y)
+        → IdleAtEnd (pick (p && not q) (Took (t .result)) Moved) (pick p (pick q x (goneIdle t)) y)
     go true true x y e = absurd (true≢false (sym e))
     go true false x y e = refl
     go false q x y e = absurd (true≢false (sym e))
@@ -64,7 +64,7 @@ module _ (f : Frame) (l : ℕ) (within : Within f l) (m : Shared) (t : Thread) (
       record {
         within = within;
         only = subst (λ x. Only k (x .effect)) (sym e) (h .only);
-        rests = subst (λ x. Rests (x .answer) (x .thread)) (sym e) (h .rests);
+        idle = subst (λ x. IdleAtEnd (x .answer) (x .thread)) (sym e) (h .idle);
       }
 
   -- The places that only read.

@@ -48,7 +48,7 @@ no-effect f b (Clean n v) h = absurd (omega arith)
 -- Storing a record: an ended operation's is idle as it stands.
 pub put-idle : (f : Frame) (b b′ : List ℕ) (n l : ℕ) (t u : Thread) (a : Answer) → PutBackAsked f l t a → (q : Bool) → q ≡ ends a
     → q ≡ true → u ≡ goneIdle t → b′ ≡ setThreadIn f b n u → b′ ≡ setThreadIn f b n t
-put-idle f b b′ n l t u a h q eq g eu e = e ∙ ap (setThreadIn f b n) (eu ∙ sym (h .rests (sym eq ∙ g)))
+put-idle f b b′ n l t u a h q eq g eu e = e ∙ ap (setThreadIn f b n) (eu ∙ sym (h .idle (sym eq ∙ g)))
 
 -- Carrying a plan out: nothing, the record and the effect, or the record alone.
 module _ (f : Frame) (b : List ℕ) (t : ℕ) (p : Plan) (q : Bool) (eq : q ≡ staysPut (p .answer)) where

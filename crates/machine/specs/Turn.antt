@@ -90,19 +90,20 @@ ends Empty = true
 ends (Refused n) = false
 
 -- a thread whose operation ends is idle
-abbrev pub Rests : Answer → Thread → Type 0
-Rests a t = ends a ≡ true → t ≡ goneIdle t
+abbrev pub IdleAtEnd : Answer → Thread → Type 0
+IdleAtEnd a t = ends a ≡ true → t ≡ goneIdle t
 
 -- what storing a record after an answer asks, within l bytes
 pub record PutBackAsked (f : Frame) (l : ℕ) (t : Thread) (a : Answer) : Type 0 where
   pub within : Within f l
-  pub rests : Rests a t
+  pub idle : IdleAtEnd a t
 
--- what carrying a plan out asks, within l bytes: its effect is nothing or of kind k (no kind is 0), and its thread rests
+-- what carrying a plan out asks, within l bytes: its effect is nothing or of kind k (no kind is 0), and its thread is
+-- idle where its operation ends
 pub record EndAsked (f : Frame) (l k : ℕ) (p : Plan) : Type 0 where
   pub within : Within f l
   pub only : Only k (p .effect)
-  pub rests : Rests (p .answer) (p .thread)
+  pub idle : IdleAtEnd (p .answer) (p .thread)
 
 unfoldable pub turnBytes : Frame → List ℕ → ℕ → ℕ → List ℕ
 unfolding turnPlan carriedOut

@@ -56,8 +56,8 @@ fn ends(answer: Answer) -> bool
     }
 }
 
-// Stores a thread's record after a turn with this answer. The record of an ended operation is idle, which is said in its own
-// branch, so that the compiled code of the other holds back no field that the turn left alone.
+// Stores a thread's record after a turn with this answer. The record of an ended operation is idle, and has a branch of its own,
+// so that the compiled code of the other branch stores no field that the turn left alone.
 fn put_back(f: Frame, b: &mut [u8], n: u32, t: Thread, answer: Answer)
     requires { ⌜ PutBackAsked f (length (now b)) t answer ⌝ }
     ensures { λ r. ⌜ now (b .exit) ≡ setThreadIn f (now (b .entry)) n t ⌝ }
