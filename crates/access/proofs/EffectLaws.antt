@@ -5,9 +5,11 @@ use native.Mathlib.Omega.{arith}
 use mathlib.Core.Path.{_≡_, refl, sym, ap, subst, _∙_}
 use mathlib.Core.List.{List}
 use lib.ListN.{length}
-use Rattle.words.specs.Word.{word, Fit}
+use Rattle.words.specs.Word.{word}
+use Rattle.words.specs.Inner.{Fit}
 use Rattle.words.proofs.Laws.{word-other, length-setWord}
-use Rattle.region.specs.Frame.{Parted, Within, partSize, nodesOf, cellsOf}
+use Rattle.region.specs.Frame.{partSize, nodesOf, cellsOf}
+use Rattle.region.specs.Inner.{Parted, Within}
 use Rattle.region.specs.Record.{nodeWords, cellWords, zeroItem}
 use Rattle.region.specs.Shape.{nodeCount}
 use Rattle.region.specs.Shared.{putNode, putCell, putFree, cellIn, sharedIn, setNodeIn, setCellIn}

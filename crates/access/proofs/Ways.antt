@@ -17,7 +17,8 @@ use Rattle.region.specs.declared.record.Node.{Node}
 use Rattle.region.specs.declared.record.NodeCopy.{NodeCopy}
 use Rattle.region.specs.declared.shape.Shape.{Shape}
 use Rattle.region.proofs.Shapes.{below, from-least}
-use Rattle.access.specs.Effect.{Only, OnlyAsked, effectBytes, freedBytes, pushBytes}
+use Rattle.access.specs.Effect.{effectBytes, freedBytes, pushBytes}
+use Rattle.access.specs.Inner.{Only, OnlyAsked}
 use Rattle.access.specs.Order.{topItem, valueOf}
 use Rattle.access.specs.Read.{isNode, isSpent, readNode, sameNode}
 use Rattle.access.specs.declared.effect.Effect.{Effect}

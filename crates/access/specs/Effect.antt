@@ -1,9 +1,7 @@
 -- What a turn does to shared memory, said of shared memory as functions, for the theory, and of the bytes, for the code.
 use Prim.Native.Nat.{ℕ}
-use mathlib.Core.Path.{_≡_}
 use mathlib.Core.List.{List}
 use Rattle.words.specs.Word.{word, setWord}
-use Rattle.region.specs.Frame.{Within}
 use Rattle.region.specs.Record.{zeroItem}
 use Rattle.region.specs.Shared.{Shared, putNode, putCell, putDepth, putFree, cellIn, setNodeIn, setCellIn}
 use Rattle.region.specs.declared.frame.Frame.{Frame}
@@ -37,17 +35,3 @@ effectBytes f b (Push n v c x) = pushBytes f b n v c x
 effectBytes f b (Pop v c) = freedBytes f (setNodeIn f b 1 v) c
 effectBytes f b (Exchange n v k w) = setNodeIn f (setNodeIn f b n v) k w
 effectBytes f b (Clean n v) = setNodeIn f b n v
-
--- nothing, or an effect of kind k: growth 1, push 2, pop 3, exchange 4, cleaning 5
-abbrev pub Only : ℕ → Effect → Type 0
-Only k Nothing = Unit
-Only k (Grow d) = k ≡ 1
-Only k (Push n v c x) = k ≡ 2
-Only k (Pop v c) = k ≡ 3
-Only k (Exchange n v c w) = k ≡ 4
-Only k (Clean n v) = k ≡ 5
-
--- what carrying out one kind of effect asks, within l bytes
-pub record OnlyAsked (f : Frame) (l k : ℕ) (e : Effect) : Type 0 where
-  pub within : Within f l
-  pub only : Only k e

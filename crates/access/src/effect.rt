@@ -1,8 +1,9 @@
 // What a turn does to shared memory, as a value, and the functions that carry it out on the lent bytes.
 ghost use mathlib.Core.Path.{_≡_};
 ghost use lib.ListN.{length};
-ghost use Rattle.region.specs.Frame.{Within};
-ghost use Rattle.access.specs.Effect.{OnlyAsked, effectBytes, freedBytes, pushBytes};
+ghost use Rattle.region.specs.Inner.{Within};
+ghost use Rattle.access.specs.Effect.{effectBytes, freedBytes, pushBytes};
+ghost use Rattle.access.specs.Inner.{OnlyAsked};
 use region::Cell;
 use region::Frame;
 use region::Item;

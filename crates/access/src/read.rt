@@ -3,7 +3,7 @@ ghost use mathlib.Core.Path.{_≡_};
 ghost use mathlib.Core.Bool.{false};
 ghost use Prim.Native.Nat.{_≤_, _<_};
 ghost use lib.ListN.{length};
-ghost use Rattle.region.specs.Frame.{Within};
+ghost use Rattle.region.specs.Inner.{Within};
 ghost use Rattle.region.specs.Shared.{sharedIn};
 ghost use Rattle.access.specs.Read.{isDirty, isLevel, isNode, isSpent, readNode, sameNode, updated};
 use region::Frame;

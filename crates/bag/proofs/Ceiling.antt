@@ -17,7 +17,8 @@ use Rattle.region.specs.Frame.{frameOf}
 use Rattle.region.specs.Level.{digits, level}
 use Rattle.region.specs.Pick.{pick, upd}
 use Rattle.region.specs.Record.{emptyNode}
-use Rattle.region.specs.Shape.{InRange, between, nodeCount}
+use Rattle.region.specs.Shape.{between, nodeCount}
+use Rattle.region.specs.Inner.{InRange}
 use Rattle.region.specs.Shared.{Shared, loadEntry, nodeIn, setThreadIn, sharedIn, threadIn}
 use Rattle.region.specs.Thread.{atPlace, begunTake, goneIdle, mending, withAfter, withCopies, withDepth, withFirst, withNode, withResult, withSecond, withThird}
 use Rattle.region.specs.declared.answer.Answer.the-variants.{Moved, Took, Empty}

@@ -13,7 +13,8 @@ use lib.Pow.{pow-mono, pow-pos}
 use Rattle.region.specs.Answer.{counterSpent}
 use Rattle.region.specs.Level.{ancestor, level, mark}
 use Rattle.region.specs.Pick.{pick}
-use Rattle.region.specs.Shape.{InRange, between, nodeCount}
+use Rattle.region.specs.Shape.{between, nodeCount}
+use Rattle.region.specs.Inner.{InRange}
 use Rattle.region.specs.Shared.{Shared}
 use Rattle.region.specs.Thread.{goneIdle, mending, returned, atPlace, withDepth, withSearch, withNode, withAfter, withResult, withCopies, withFirst, withSecond, withThird}
 use Rattle.region.specs.declared.answer.Answer.{Answer}

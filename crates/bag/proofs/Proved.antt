@@ -17,7 +17,7 @@ use Rattle.layout.specs.Layout.{layoutBytes}
 use Rattle.layout.proofs.Laws.{laid-exact}
 use Rattle.readable.specs.Readable.{shapeIn}
 use Rattle.readable.proofs.Laws.{Good}
-use Rattle.machine.specs.Begin.{frameIn, putBegun, putBytes, putRefusal, takeBytes, takeRefusal}
+use Rattle.machine.specs.Begin.{frameIn, acceptedPut, putBytes, putRefusal, takeBytes, takeRefusal}
 use Rattle.machine.proofs.Laws.{is-idle, may-put, may-take}
 use Rattle.preserved.proofs.Proved.{put-free, put-good, put-least, put-most, put-permitted, put-tag, take-good, take-permitted, take-thread}
 use Rattle.bag.specs.Calls.{NoLayout}
@@ -42,8 +42,8 @@ module _ (b : List ℕ) (l : Ledger) (g : Region (shapeIn b) b l) where
   unfolding putBytes pick
   put-followed t i = go (eqb (putRefusal b t i) done) refl (put-good b (g .good) t i)
     where
-      go : (q : Bool) → eqb (putRefusal b t i) done ≡ q → Good s (pick q (putBegun (frameIn b) b t i) b)
-          → Follow s l (pick q (toldPut t i) nothing) (pick q (putBegun (frameIn b) b t i) b)
+      go : (q : Bool) → eqb (putRefusal b t i) done ≡ q → Good s (pick q (acceptedPut (frameIn b) b t i) b)
+          → Follow s l (pick q (toldPut t i) nothing) (pick q (acceptedPut (frameIn b) b t i) b)
       go true h good =
           let e = eqb-true (putRefusal b t i) done h in
           let x = threadIn (frameIn b) b t in

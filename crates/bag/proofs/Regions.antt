@@ -11,7 +11,8 @@ use lib.ListN.{length}
 use Rattle.words.specs.Word.{word, setWord}
 use Rattle.words.proofs.Laws.{length-setWord}
 use Rattle.region.specs.Answer.{done, badThread, counterSpent}
-use Rattle.region.specs.Frame.{Within, frameOf}
+use Rattle.region.specs.Frame.{frameOf}
+use Rattle.region.specs.Inner.{Within}
 use Rattle.region.specs.Pick.{pick, upd}
 use Rattle.region.specs.Shape.{between}
 use Rattle.region.specs.Shared.{Shared, putCell, putFree, cellIn, setCellIn, threadIn, setThreadIn, sharedIn}
@@ -36,7 +37,7 @@ use Rattle.access.proofs.OrderLaws.{item-below-top}
 use Rattle.readable.specs.Readable.{readable, shapeIn}
 use Rattle.readable.proofs.Laws.{Good}
 use Rattle.readable.proofs.Stores.{good-thread, good-within, thread-fit}
-use Rattle.machine.specs.Begin.{frameIn, isIdle, isItem, mayPut, mayTake, putBegun, putBusy, putRefusal, takeRefusal}
+use Rattle.machine.specs.Begin.{frameIn, isIdle, isItem, mayPut, mayTake, acceptedPut, putBusy, putRefusal, takeRefusal}
 use Rattle.machine.specs.Run.{Turn}
 use Rattle.machine.specs.Turn.{staysPut, turnBytes, turnPlan}
 use Rattle.preserved.proofs.EffectsGood.{cell-fit}
@@ -270,8 +271,8 @@ module _ (s : Shape) (b : List ℕ) (l : Ledger) (g : Region s b l) (t : ℕ) (l
     within-cell : Within (frameOf s) (length (setCellIn (frameOf s) (setWord b (frameOf s .free) next) c mine))
     within-cell = subst (Within (frameOf s)) (sym (length-setCellIn (frameOf s) (setWord b (frameOf s .free) next) c mine)) within-free
 
-    put-shared : sharedIn (frameOf s) (putBegun (frameOf s) b t i) ≡ begun
-    unfolding putBegun begun frameOf
+    put-shared : sharedIn (frameOf s) (acceptedPut (frameOf s) b t i) ≡ begun
+    unfolding acceptedPut begun frameOf
     put-shared =
         shared-setThread (frameOf s) (setCellIn (frameOf s) (setWord b (frameOf s .free) next) c mine) within-cell (frame-parted s) t _
         ∙ shared-setCell (frameOf s) (setWord b (frameOf s .free) next) within-free (frame-parted s) c mine (omega arith) few
@@ -279,8 +280,8 @@ module _ (s : Shape) (b : List ℕ) (l : Ledger) (g : Region s b l) (t : ℕ) (l
         ∙ ap (λ y. putCell y c mine)
         (shared-setFree (frameOf s) b (good-within s b (g .good)) (frame-parted s) next (omega (arith, next-few s b (g .good) c, fewer)))
 
-    put-threads : threadIn (frameOf s) (putBegun (frameOf s) b t i) ≡ upd (th s b l g) t putter
-    unfolding putBegun frameOf
+    put-threads : threadIn (frameOf s) (acceptedPut (frameOf s) b t i) ≡ upd (th s b l g) t putter
+    unfolding acceptedPut frameOf
     put-threads =
         threads-setThread (frameOf s) (setCellIn (frameOf s) (setWord b (frameOf s .free) next) c mine) within-cell
         (frame-parted s) t putter lt ut
@@ -331,7 +332,7 @@ module _ (s : Shape) (b : List ℕ) (l : Ledger) (g : Region s b l) (t : ℕ) (l
           proper = item-below-top i key;
         })
 
-    pub put-next : Good s (putBegun (frameOf s) b t i) → Follow s l (toldPut t i) (putBegun (frameOf s) b t i)
+    pub put-next : Good s (acceptedPut (frameOf s) b t i) → Follow s l (toldPut t i) (acceptedPut (frameOf s) b t i)
     put-next good =
         record {
           next = begins;

@@ -2,7 +2,7 @@
 ghost use mathlib.Core.Path.{_≡_};
 ghost use mathlib.Core.Bool.{false};
 ghost use lib.ListN.{length};
-ghost use Rattle.region.specs.Frame.{Within};
+ghost use Rattle.region.specs.Inner.{Within};
 ghost use Rattle.region.specs.Shared.{sharedIn};
 ghost use Rattle.access.specs.Read.{isSpent};
 ghost use Rattle.extract.specs.Extract.{headRemoved, readRoot, removeHead, rootRead};

@@ -8,16 +8,19 @@ use mathlib.Core.List.{List, [], _∷_}
 use borrow.Author.Tests.{eq-eqb, ne-eqb, ltb-true, leb-true}
 use lib.Dec.{leb, ltb, eqb}
 use lib.ListN.{length, getD}
-use Rattle.words.specs.Word.{word, setWords, Fit}
+use Rattle.words.specs.Word.{word, setWords}
+use Rattle.words.specs.Inner.{Fit}
 use Rattle.words.proofs.Laws.{word-stored, length-setWords}
 use Rattle.region.specs.Answer.{done}
 use Rattle.region.specs.Frame.{frameOf}
 use Rattle.region.specs.Pick.{pick}
-use Rattle.region.specs.Shape.{InRange, regionWords}
+use Rattle.region.specs.Shape.{regionWords}
+use Rattle.region.specs.Inner.{InRange}
 use Rattle.region.specs.declared.shape.Shape.{Shape}
 use Rattle.region.proofs.Picks.{pick-good}
 use Rattle.region.proofs.Shapes.{and-left, and-right, sizes}
-use Rattle.layout.specs.Layout.{Accepted, atMost, layoutRefusal, cellWord, threadWord, laidWord, laidWords, layoutBytes}
+use Rattle.layout.specs.Layout.{atMost, layoutRefusal, cellWord, threadWord, laidWord, laidWords, layoutBytes}
+use Rattle.layout.specs.Inner.{Accepted}
 use Rattle.layout.proofs.Turns.{accepted, permitted}
 
 at-most : (m : ℕ) (xs : List ℕ) (i : ℕ) → atMost m xs ≡ true → getD xs i 0 ≤ m

@@ -18,7 +18,8 @@ use Rattle.region.specs.Shape.{shapeFits, regionWords}
 use Rattle.region.specs.declared.frame.Frame.{Frame}
 use Rattle.region.specs.declared.shape.Shape.{Shape}
 use Rattle.region.proofs.Shapes.{in-range}
-use Rattle.layout.specs.Layout.{Accepted, LaidOut, Laying, atMost, permissionsFit, layoutRefusal, cellWord, threadWord, laidWord, laidWords, layoutBytes}
+use Rattle.layout.specs.Layout.{LaidOut, atMost, permissionsFit, layoutRefusal, cellWord, threadWord, laidWord, laidWords, layoutBytes}
+use Rattle.layout.specs.Inner.{Accepted, Laying}
 
 -- The permissions: those not yet looked at decide.
 pub record Looked (ps : List ℕ) (i : ℕ) : Type 0 where

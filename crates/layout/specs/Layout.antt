@@ -1,6 +1,6 @@
 -- Laying out a region (document 01, The region): "Layout sets depth 1, all nodes empty, clean, counter 0; cells chain 1, 2, .. C as free,
 -- keys and tags 0; thread words 0 but the permission."
-use Prim.Native.Nat.{ℕ, zero, suc, _+_, _-_, _*_, _/_, _%_, _<_}
+use Prim.Native.Nat.{ℕ, zero, suc, _+_, _-_, _*_, _/_, _%_}
 use mathlib.Core.Path.{_≡_}
 use mathlib.Core.Bool.{Bool, true, _&&_}
 use mathlib.Core.List.{List, [], _∷_}
@@ -10,7 +10,7 @@ use Rattle.words.specs.Word.{setWords}
 use Rattle.region.specs.Answer.{done, badShape, badLength}
 use Rattle.region.specs.Frame.{frameOf}
 use Rattle.region.specs.Pick.{pick}
-use Rattle.region.specs.Shape.{InRange, shapeFits, regionWords}
+use Rattle.region.specs.Shape.{shapeFits, regionWords}
 use Rattle.region.specs.Thread.{threadSize}
 use Rattle.region.specs.declared.shape.Shape.{Shape}
 
@@ -66,17 +66,3 @@ layoutBytes s ps b = pick (eqb (layoutRefusal s ps (length b)) done) (setWords b
 pub record LaidOut (s : Shape) (ps b b′ : List ℕ) (r : ℕ) : Type 0 where
   pub answer : r ≡ layoutRefusal s ps (length b)
   pub bytes : b′ ≡ layoutBytes s ps b
-
--- an accepted call: the shape is in range, each thread has a permission, and the slice has the exact length, l bytes
-pub record Accepted (s : Shape) (ps : List ℕ) (l : ℕ) : Type 0 where
-  pub shape : InRange s
-  pub permissions : length ps ≡ s .threads
-  pub exact : l ≡ 4 * regionWords s
-
--- word k of an accepted region, whose cells and threads start at words c and t
-pub record Laying (s : Shape) (ps : List ℕ) (k c t : ℕ) : Type 0 where
-  pub shape : InRange s
-  pub permissions : length ps ≡ s .threads
-  pub within : k < regionWords s
-  pub cells-at : c ≡ frameOf s .cells
-  pub threads-at : t ≡ frameOf s .threads

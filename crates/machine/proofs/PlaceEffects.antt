@@ -4,7 +4,7 @@ use Prim.Native.Nat.{ℕ}
 use mathlib.Core.Path.{_≡_, refl, sym, subst, _∙_}
 use mathlib.Core.Bool.{Bool, true, false, not, _&&_, true≢false}
 use lib.Dec.{eqb}
-use Rattle.region.specs.Frame.{Within}
+use Rattle.region.specs.Inner.{Within}
 use Rattle.region.specs.Pick.{pick}
 use Rattle.region.specs.Shared.{Shared}
 use Rattle.region.specs.Thread.{goneIdle, returned, withDepth}
@@ -13,7 +13,7 @@ use Rattle.region.specs.declared.answer.Answer.the-variants.{Moved, Took, Refus
 use Rattle.region.specs.declared.frame.Frame.{Frame}
 use Rattle.region.specs.declared.shape.Shape.{Shape}
 use Rattle.region.specs.declared.thread.Thread.{Thread}
-use Rattle.access.specs.Effect.{Only}
+use Rattle.access.specs.Inner.{Only}
 use Rattle.access.specs.Plan.{plan, moved, onTo, refused}
 use Rattle.access.specs.declared.effect.Effect.{Effect}
 use Rattle.access.specs.declared.effect.Effect.the-variants.{Nothing, Clean}
@@ -21,7 +21,8 @@ use Rattle.access.specs.declared.plan.Plan.{Plan}
 use Rattle.insert.specs.Insert.{ancestorRead, growDepth, insertAt, insertAtRoot, insertBelow, leafFailed, leafRead, readAncestor, readDepth, readLeaf, readParent, readTarget, searchOn}
 use Rattle.extract.specs.Extract.{headRemoved, readRoot, removeHead, rootRead}
 use Rattle.moundify.specs.Moundify.{childrenRead, cleanAt, depthRead, exchangeAt, exchangeWith, mendClean, mendSwap, mendReadDepth, mendReadLeft, mendReadNode, mendReadRight, returnAnswer, returning}
-use Rattle.machine.specs.Turn.{EndAsked, IdleAtEnd, ends}
+use Rattle.machine.specs.Turn.{ends}
+use Rattle.machine.specs.Inner.{EndAsked, IdleAtEnd}
 
 record Ends (k : ℕ) (p : Plan) : Type 0 where
   only : Only k (p .effect)

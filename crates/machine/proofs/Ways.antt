@@ -10,7 +10,8 @@ use lib.ListN.{length}
 use Rattle.words.specs.Word.{word, setWord}
 use Rattle.words.proofs.Laws.{length-setWord}
 use Rattle.region.specs.Answer.{done, badThread, badItem, unreadable, notPermitted, threadBusy, noFreeCell}
-use Rattle.region.specs.Frame.{Within, frameOf}
+use Rattle.region.specs.Frame.{frameOf}
+use Rattle.region.specs.Inner.{Within}
 use Rattle.region.specs.Pick.{pick}
 use Rattle.region.specs.Place.{placeNumber}
 use Rattle.region.specs.Shape.{between}
@@ -25,15 +26,17 @@ use Rattle.region.specs.declared.record.Cell.{Cell}
 use Rattle.region.specs.declared.record.Item.{Item}
 use Rattle.region.specs.declared.thread.Thread.{Thread}
 use Rattle.region.proofs.Views.{length-setCellIn}
-use Rattle.access.specs.Effect.{Only, effectBytes}
+use Rattle.access.specs.Effect.{effectBytes}
+use Rattle.access.specs.Inner.{Only}
 use Rattle.access.specs.Plan.{plan, refused}
 use Rattle.access.specs.declared.effect.Effect.{Effect}
 use Rattle.access.specs.declared.effect.Effect.the-variants.{Nothing, Grow, Push, Pop, Exchange, Clean}
 use Rattle.access.specs.declared.plan.Plan.{Plan}
 use Rattle.readable.specs.Readable.{readable, shapeIn}
 use Rattle.readable.proofs.Laws.{readable-within}
-use Rattle.machine.specs.Begin.{PutBegun, TakeBegun, frameIn, isIdle, isItem, mayPut, mayTake, putBegun, putBusy, putBytes, putRefusal, takeBytes, takeRefusal}
-use Rattle.machine.specs.Turn.{Carried, EndAsked, PutBackAsked, Turned, TurnedOn, carriedOut, decide, decideAt, ends, staysPut, turnAnswer, turnBytes, turnOnAnswer, turnOnBytes, turnPlan}
+use Rattle.machine.specs.Begin.{PutBegun, TakeBegun, frameIn, isIdle, isItem, mayPut, mayTake, acceptedPut, putBusy, putBytes, putRefusal, takeBytes, takeRefusal}
+use Rattle.machine.specs.Turn.{Turned, TurnedOn, carriedOut, decide, decideAt, ends, staysPut, turnAnswer, turnBytes, turnOnAnswer, turnOnBytes, turnPlan}
+use Rattle.machine.specs.Inner.{Carried, EndAsked, PutBackAsked}
 
 -- no kind of effect is 0
 no-effect : (f : Frame) (b : List ℕ) (e : Effect) → Only 0 e → effectBytes f b e ≡ b
@@ -230,8 +233,8 @@ module _ (b : List ℕ) (t : ℕ) (q : Bool) (eq : q ≡ readable b) where
 pub put-stored : (f : Frame) (b b₁ b₂ b₃ : List ℕ) (t own : ℕ) (i : Item) (h : Cell) (x y : Thread) → own ≡ word b (f .free)
     → h ≡ cellIn f b own → x ≡ threadIn f b t → b₁ ≡ setWord b (f .free) (h .next)
     → b₂ ≡ setCellIn f b₁ own (record { item = i; next = 0 }) → y ≡ begunPut x i own → b₃ ≡ setThreadIn f b₂ t y
-    → b₃ ≡ putBegun f b t i
-unfolding putBegun
+    → b₃ ≡ acceptedPut f b t i
+unfolding acceptedPut
 put-stored f b b₁ b₂ b₃ t own i h x y eo eh ex e₁ e₂ ey e₃ =
     let k : h ≡ cellIn f b (word b (f .free)) = eh ∙ ap (cellIn f b) eo in
     let k₁ : b₁ ≡ setWord b (f .free) (cellIn f b (word b (f .free)) .next) = e₁ ∙ ap (λ z. setWord b (f .free) (z .next)) k in
@@ -267,10 +270,10 @@ module _ (b : List ℕ) (t : ℕ) (i : Item) (r : ℕ) (e : r ≡ putRefusal b t
       pub put-within : Within f (length b)
       put-within = subst (λ g. Within g (length b)) (sym ef) (readable-within b put-readable)
 
-      pub put-begins : (b′ : List ℕ) → b′ ≡ putBegun f b t i → PutBegun b b′ t i r
+      pub put-begins : (b′ : List ℕ) → b′ ≡ acceptedPut f b t i → PutBegun b b′ t i r
       unfolding putBytes pick
       put-begins b′ eb =
-          record { answer = e; bytes = rw (← e, eq-eqb r done d) (eb ∙ ap (λ g. putBegun g b t i) ef) }
+          record { answer = e; bytes = rw (← e, eq-eqb r done d) (eb ∙ ap (λ g. acceptedPut g b t i) ef) }
 
 module _ (b : List ℕ) (t r : ℕ) (e : r ≡ takeRefusal b t) where
   pub take-refused : (r ≡ done → ⊥) → TakeBegun b b t r

@@ -55,8 +55,8 @@ putRefusal b t i =
     unreadable
 
 -- "Own cell is the first free one; key and tag are written in it, next 0": it leaves the chain
-unfoldable pub putBegun : Frame → List ℕ → ℕ → Item → List ℕ
-putBegun f b t i =
+unfoldable pub acceptedPut : Frame → List ℕ → ℕ → Item → List ℕ
+acceptedPut f b t i =
     setThreadIn f
     (setCellIn f
     (setWord b (f .free) (cellIn f b (word b (f .free)) .next))
@@ -66,8 +66,8 @@ putBegun f b t i =
     (begunPut (threadIn f b t) i (word b (f .free)))
 
 unfoldable pub putBytes : List ℕ → ℕ → Item → List ℕ
-unfolding putBegun
-putBytes b t i = pick (eqb (putRefusal b t i) done) (putBegun (frameIn b) b t i) b
+unfolding acceptedPut
+putBytes b t i = pick (eqb (putRefusal b t i) done) (acceptedPut (frameIn b) b t i) b
 
 -- "Take 7, 3, 8, 9."
 unfoldable pub takeRefusal : List ℕ → ℕ → ℕ

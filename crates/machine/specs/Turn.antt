@@ -4,11 +4,11 @@ use mathlib.Core.Path.{_≡_}
 use mathlib.Core.Bool.{Bool, true, false}
 use mathlib.Core.List.{List}
 use Rattle.region.specs.Answer.{badThread, unreadable}
-use Rattle.region.specs.Frame.{Within, frameOf}
+use Rattle.region.specs.Frame.{frameOf}
 use Rattle.region.specs.Pick.{pick}
 use Rattle.region.specs.Shape.{between}
 use Rattle.region.specs.Shared.{Shared, sharedIn, threadIn, setThreadIn}
-use Rattle.region.specs.Thread.{idleThread, goneIdle}
+use Rattle.region.specs.Thread.{idleThread}
 use Rattle.region.specs.declared.answer.Answer.{Answer}
 use Rattle.region.specs.declared.answer.Answer.the-variants.{Moved, Idle, Inserted, Took, Empty, Refused}
 use Rattle.region.specs.declared.frame.Frame.{Frame}
@@ -16,7 +16,7 @@ use Rattle.region.specs.declared.place.Place.{Place}
 use Rattle.region.specs.declared.place.Place.the-variants.{Idle as AtRest, ReadDepth, ReadLeaf, ReadAncestor, GrowDepth, ReadTarget, InsertAtRoot, ReadParent, InsertBelow, ReadRoot, RemoveHead, MendReadNode, MendReadDepth, MendReadLeft, MendReadRight, MendSwap, MendClean}
 use Rattle.region.specs.declared.shape.Shape.{Shape}
 use Rattle.region.specs.declared.thread.Thread.{Thread}
-use Rattle.access.specs.Effect.{Only, effectBytes}
+use Rattle.access.specs.Effect.{effectBytes}
 use Rattle.access.specs.Plan.{plan, refused}
 use Rattle.access.specs.declared.effect.Effect.the-variants.{Nothing}
 use Rattle.access.specs.declared.plan.Plan.{Plan}
@@ -75,11 +75,6 @@ turnAnswer f b t c = turnPlan f b t c .answer
 unfoldable pub carriedOut : Frame → List ℕ → ℕ → Plan → List ℕ
 carriedOut f b t p = pick (staysPut (p .answer)) b (effectBytes f (setThreadIn f b t (p .thread)) (p .effect))
 
--- what carrying a plan out answers and leaves
-pub record Carried (f : Frame) (b b′ : List ℕ) (t : ℕ) (p : Plan) (r : Answer) : Type 0 where
-  pub answer : r ≡ p .answer
-  pub bytes : b′ ≡ carriedOut f b t p
-
 -- the answers with which an operation ends
 abbrev pub ends : Answer → Bool
 ends Moved = false
@@ -88,22 +83,6 @@ ends Inserted = true
 ends (Took i) = true
 ends Empty = true
 ends (Refused n) = false
-
--- a thread whose operation ends is idle
-abbrev pub IdleAtEnd : Answer → Thread → Type 0
-IdleAtEnd a t = ends a ≡ true → t ≡ goneIdle t
-
--- what storing a record after an answer asks, within l bytes
-pub record PutBackAsked (f : Frame) (l : ℕ) (t : Thread) (a : Answer) : Type 0 where
-  pub within : Within f l
-  pub idle : IdleAtEnd a t
-
--- what carrying a plan out asks, within l bytes: its effect is nothing or of kind k (no kind is 0), and its thread is
--- idle where its operation ends
-pub record EndAsked (f : Frame) (l k : ℕ) (p : Plan) : Type 0 where
-  pub within : Within f l
-  pub only : Only k (p .effect)
-  pub idle : IdleAtEnd (p .answer) (p .thread)
 
 unfoldable pub turnBytes : Frame → List ℕ → ℕ → ℕ → List ℕ
 unfolding turnPlan carriedOut

@@ -1,8 +1,8 @@
 // Beginning a put and a take: calls on a whole region, which refuse what they cannot begin and then change no byte.
 ghost use mathlib.Core.Path.{_≡_};
 ghost use lib.ListN.{length};
-ghost use Rattle.region.specs.Frame.{Within};
-ghost use Rattle.machine.specs.Begin.{PutBegun, TakeBegun, isIdle, isItem, mayPut, mayTake, putBegun, putBusy, putRefusal, takeRefusal};
+ghost use Rattle.region.specs.Inner.{Within};
+ghost use Rattle.machine.specs.Begin.{PutBegun, TakeBegun, isIdle, isItem, mayPut, mayTake, acceptedPut, putBusy, putRefusal, takeRefusal};
 use region::BAD_ITEM;
 use region::BAD_THREAD;
 use region::Cell;
@@ -80,9 +80,9 @@ fn put_refusal(b: &[u8], thread: u32, item: Item) -> u32
 }
 
 // Takes the first free cell from the chain and begins the put with it.
-fn put_begun(f: Frame, b: &mut [u8], thread: u32, item: Item)
+fn accept_put(f: Frame, b: &mut [u8], thread: u32, item: Item)
     requires { ⌜ Within f (length (now b)) ⌝ }
-    ensures { λ r. ⌜ now (b .exit) ≡ putBegun f (now (b .entry)) thread item ⌝ }
+    ensures { λ r. ⌜ now (b .exit) ≡ acceptedPut f (now (b .entry)) thread item ⌝ }
 {
     let own = f.load_free(b);
     let cell = f.load_cell(b, own);
@@ -99,7 +99,7 @@ pub fn begin_put(b: &mut [u8], thread: u32, item: Item) -> u32
     let refused = put_refusal(b, thread, item);
     if refused == DONE {
         let f = readable::frame_of(b);
-        put_begun(f, b, thread, item);
+        accept_put(f, b, thread, item);
     }
     refused
 }

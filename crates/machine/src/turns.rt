@@ -1,9 +1,10 @@
 // One turn: the thread's place decides a plan, and the plan is carried out.
 ghost use mathlib.Core.Path.{_≡_};
 ghost use lib.ListN.{length};
-ghost use Rattle.region.specs.Frame.{Within};
+ghost use Rattle.region.specs.Inner.{Within};
 ghost use Rattle.region.specs.Shared.{setThreadIn};
-ghost use Rattle.machine.specs.Turn.{Carried, EndAsked, PutBackAsked, Turned, TurnedOn, ends, staysPut};
+ghost use Rattle.machine.specs.Turn.{Turned, TurnedOn, ends, staysPut};
+ghost use Rattle.machine.specs.Inner.{Carried, EndAsked, PutBackAsked};
 use access::Plan;
 use extract::read_root;
 use extract::remove_head;

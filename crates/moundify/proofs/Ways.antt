@@ -8,7 +8,7 @@ use borrow.Author.Tests.{lt-ltb, le-ltb, eq-eqb, ne-eqb, not-true, not-false}
 use lib.Pow.{pow-mono}
 use Rattle.words.specs.Word.{word}
 use Rattle.region.specs.Answer.{unreadable, counterSpent}
-use Rattle.region.specs.Frame.{Within}
+use Rattle.region.specs.Inner.{Within}
 use Rattle.region.specs.Level.{level, mark}
 use Rattle.region.specs.Pick.{pick}
 use Rattle.region.specs.Shape.{nodeCount}
@@ -31,7 +31,8 @@ use Rattle.access.specs.Read.{isDirty, isNode, isSpent, readNode, sameNode, upd
 use Rattle.access.specs.declared.effect.Effect.{Effect}
 use Rattle.access.specs.declared.effect.Effect.the-variants.{Nothing, Exchange, Clean}
 use Rattle.access.specs.declared.plan.Plan.{Plan}
-use Rattle.moundify.specs.Moundify.{ChildrenAsked, nodeAndChildSame, childLess, childrenRead, cleanAt, depthRead, exchangeAt, exchangeWith, marked, mendClean, mendReadDepth, mendReadLeft, mendReadNode, mendReadRight, mendSwap, returnAnswer, returning}
+use Rattle.moundify.specs.Moundify.{nodeAndChildSame, childLess, childrenRead, cleanAt, depthRead, exchangeAt, exchangeWith, marked, mendClean, mendReadDepth, mendReadLeft, mendReadNode, mendReadRight, mendSwap, returnAnswer, returning}
+use Rattle.moundify.specs.Inner.{ChildrenAsked}
 
 -- The return.
 module _ (t : Thread) (w : ℕ) where

@@ -1,2 +1,3 @@
 -- The six places of mending.
+pub mod Inner
 pub mod Moundify

@@ -1,6 +1,6 @@
 -- The places of mending n, M1 to M6 (document 01, The sixteen places; Listing 1, moundify, lines 32 to 56). n is the thread's node, w the
 -- waiting levels that its place carries.
-use Prim.Native.Nat.{ℕ, _+_, _*_, _^_, _≤_, _<_}
+use Prim.Native.Nat.{ℕ, _+_, _*_}
 use mathlib.Core.Bool.{Bool, not, _&&_, _||_}
 use lib.Dec.{ltb, eqb}
 use Rattle.region.specs.Answer.{unreadable, counterSpent}
@@ -143,8 +143,3 @@ mendClean m t w =
     (eqb (t .node) 0)
     (refused t unreadable)
     (pick (sameNode (m .node (t .node)) (t .copies .first .node)) (cleanAt t w) (onTo t (MendReadNode w)))
-
--- what M4's local work asks of its node: it exists, and its right child's number fits a word
-pub record ChildrenAsked (t : Thread) : Type 0 where
-  pub some : 1 ≤ t .node
-  pub few : 2 * t .node + 1 < 2 ^ 32

@@ -2,10 +2,11 @@
 ghost use mathlib.Core.Path.{_≡_};
 ghost use Prim.Native.Nat.{_+_, _*_, _≤_};
 ghost use lib.ListN.{length};
-ghost use Rattle.region.specs.Frame.{Within};
+ghost use Rattle.region.specs.Inner.{Within};
 ghost use Rattle.region.specs.Pick.{pick};
 ghost use Rattle.region.specs.Shared.{sharedIn};
-ghost use Rattle.moundify.specs.Moundify.{ChildrenAsked, nodeAndChildSame, childLess, childrenRead, cleanAt, depthRead, exchangeAt, exchangeWith, marked, mendClean, mendReadDepth, mendReadLeft, mendReadNode, mendReadRight, mendSwap, returnAnswer, returning};
+ghost use Rattle.moundify.specs.Moundify.{nodeAndChildSame, childLess, childrenRead, cleanAt, depthRead, exchangeAt, exchangeWith, marked, mendClean, mendReadDepth, mendReadLeft, mendReadNode, mendReadRight, mendSwap, returnAnswer, returning};
+ghost use Rattle.moundify.specs.Inner.{ChildrenAsked};
 use access::Effect;
 use access::Plan;
 use region::Answer;

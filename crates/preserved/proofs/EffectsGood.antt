@@ -4,11 +4,11 @@ use native.Mathlib.Omega.{arith}
 use mathlib.Core.Path.{sym, subst, _∙_}
 use mathlib.Core.Logic.{inl, inr}
 use mathlib.Core.List.{List}
-use Rattle.words.specs.Word.{Fit}
+use Rattle.words.specs.Inner.{Fit}
 use Rattle.region.specs.Frame.{frameOf}
 use Rattle.region.specs.Pick.{upd}
 use Rattle.region.specs.Record.{nodeWords, cellWords, zeroItem}
-use Rattle.region.specs.Shape.{InRange}
+use Rattle.region.specs.Inner.{InRange}
 use Rattle.region.specs.Shared.{Shared, cellIn, sharedIn}
 use Rattle.region.specs.declared.record.Cell.{Cell}
 use Rattle.region.specs.declared.record.Node.{Node}

@@ -13,9 +13,10 @@ use lib.ListN.{length}
 use Rattle.words.specs.Word.{word, setWord}
 use Rattle.words.proofs.Laws.{word-other, length-setWord}
 use Rattle.region.specs.Answer.{done, badThread, noFreeCell}
-use Rattle.region.specs.Frame.{Within, frameOf, nodesOf}
+use Rattle.region.specs.Frame.{frameOf, nodesOf}
+use Rattle.region.specs.Inner.{Within, InRange}
 use Rattle.region.specs.Pick.{pick}
-use Rattle.region.specs.Shape.{InRange, between}
+use Rattle.region.specs.Shape.{between}
 use Rattle.region.specs.Shared.{Shared, entry, cellIn, setCellIn, setNodeIn, threadIn, setThreadIn, sharedIn}
 use Rattle.region.specs.Thread.{begunPut, begunTake, idleThread}
 use Rattle.region.specs.declared.answer.Answer.the-variants.{Idle as AnswerIdle}
@@ -40,7 +41,7 @@ use Rattle.access.proofs.EffectLaws.{effect-word}
 use Rattle.readable.specs.Readable.{readable, shapeIn, threadReadable}
 use Rattle.readable.proofs.Laws.{Good, good, readable-good}
 use Rattle.readable.proofs.Stores.{CellGood, PlaceGood, ThreadGood, SharedGood, make-good, shape-kept, thread-reads, good-shared, good-thread, good-within, good-setThread, thread-fit}
-use Rattle.machine.specs.Begin.{frameIn, isIdle, isItem, mayPut, mayTake, putBegun, putBusy, putRefusal, putBytes, takeRefusal, takeBytes}
+use Rattle.machine.specs.Begin.{frameIn, isIdle, isItem, mayPut, mayTake, acceptedPut, putBusy, putRefusal, putBytes, takeRefusal, takeBytes}
 use Rattle.machine.specs.Turn.{carriedOut, decide, decideAt, staysPut, turnBytes, turnPlan}
 use Rattle.preserved.specs.Theorems.{Apart, OutsideEffect, TurnKeepsReadable, PutKeepsReadable, TakeKeepsReadable, TurnKeepsShape, PutKeepsShape, TakeKeepsShape, TurnLeavesOthers, PutLeavesOthers, TakeLeavesOthers, TurnLeavesWords}
 use Rattle.preserved.proofs.EffectsGood.{cell-fit, good-effect, put-cell, thread-elsewhere}
@@ -221,8 +222,8 @@ module _ (s : Shape) (b : List ℕ) where
       put-thread-good : (t : ℕ) → ThreadGood s (begunPut (threadIn (frameOf s) b t) i own)
       put-thread-good t = begun-put-good s _ (good-thread s b g t) i hk ht own (free-few s b g)
 
-      put-begun-good : (t : ℕ) → 1 ≤ t → t ≤ s .threads → Good s (putBegun (frameOf s) b t i)
-      unfolding putBegun
+      put-begun-good : (t : ℕ) → 1 ≤ t → t ≤ s .threads → Good s (acceptedPut (frameOf s) b t i)
+      unfolding acceptedPut
       put-begun-good t l u = good-setThread s ownStored stored-good t l u _ (put-thread-good t)
 
 none-free : (q : Bool) → q ≡ true → pick q noFreeCell done ≡ 0 → ⊥
@@ -338,7 +339,7 @@ take-leaves-others b e t u n =
     (λ h. refl)
 
 pub put-leaves-others : PutLeavesOthers
-unfolding putBytes putBegun
+unfolding putBytes acceptedPut
 put-leaves-others b e t i u n =
     let s = shapeIn b in
     let g = good b e in

@@ -12,7 +12,8 @@ use Rattle.words.specs.Word.{word}
 use Rattle.region.specs.Answer.{done}
 use Rattle.region.specs.Frame.{frameOf}
 use Rattle.region.specs.Pick.{pick}
-use Rattle.region.specs.Shape.{InRange, shapeFits, nodeCount, regionWords}
+use Rattle.region.specs.Shape.{shapeFits, nodeCount, regionWords}
+use Rattle.region.specs.Inner.{InRange}
 use Rattle.region.specs.declared.shape.Shape.{Shape}
 use Rattle.region.proofs.Shapes.{and-both, is-between, fits-in-range, sizes}
 use Rattle.layout.specs.Layout.{layoutRefusal, cellWord, threadWord, laidWord, layoutBytes}

@@ -5,10 +5,11 @@ use mathlib.Core.Path.{_≡_, ap, _∙_}
 use mathlib.Core.List.{List}
 use lib.ListN.{length}
 use Rattle.machine.specs.Run.{runRefusal, runResult}
-use Rattle.run.specs.Ran.{Ran}
+use Rattle.run.specs.Inner.{Ran}
 use Rattle.run.specs.declared.Outcome.{Outcome}
 use Rattle.run.proofs.Laws.{refusal-most, counts-most}
-use Rattle.queue.specs.Calls.{PackAsked, RunDone, packed, runAnswer}
+use Rattle.queue.specs.Calls.{RunDone, packed, runAnswer}
+use Rattle.queue.specs.Inner.{PackAsked}
 
 module _ (b s : List ℕ) (limit : ℕ) (a : List ℕ) where
   pub answer-fits : PackAsked (runRefusal b s (length a)) (runResult b s limit a .turns) (runResult b s limit a .accesses)

@@ -1,7 +1,8 @@
 -- The number that a run answers tells its refusal, turns and accesses, since each keeps to its own bits. Assumes nothing.
 use Prim.Native.Nat.{ℕ}
 use native.Mathlib.Omega.{arith}
-use Rattle.queue.specs.Calls.{PackAsked, packed, runAnswer}
+use Rattle.queue.specs.Calls.{packed, runAnswer}
+use Rattle.queue.specs.Inner.{PackAsked}
 use Rattle.queue.specs.Theorems.{RunAnswerTellsAll, Tells}
 use Rattle.queue.proofs.Packing.{answer-fits}
 

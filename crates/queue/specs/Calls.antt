@@ -1,5 +1,5 @@
 -- What the calls' numbers stand for, and what a run answers and leaves.
-use Prim.Native.Nat.{ℕ, _+_, _*_, _≤_}
+use Prim.Native.Nat.{ℕ, _+_, _*_}
 use mathlib.Core.Path.{_≡_}
 use mathlib.Core.List.{List}
 use lib.ListN.{length}
@@ -18,12 +18,6 @@ itemGiven k t = record { key = k; tag = t }
 -- a run's three numbers in one: bits 0 to 15 the refusal (0 none), 16 to 31 the turns served, 32 to 63 the accesses made
 abbrev pub packed : ℕ → ℕ → ℕ → ℕ
 packed refusal turns accesses = refusal + 65536 * turns + 4294967296 * accesses
-
--- each keeps to its own bits
-pub record PackAsked (refusal turns accesses : ℕ) : Type 0 where
-  pub known : refusal ≤ 7
-  pub few-turns : turns ≤ 4096
-  pub few-accesses : accesses ≤ turns
 
 -- "The result is the turns served .. and the accesses made"; of a refused run both are 0
 unfoldable pub runAnswer : List ℕ → List ℕ → ℕ → List ℕ → ℕ

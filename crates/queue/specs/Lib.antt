@@ -1,3 +1,4 @@
 -- The calls that the host makes.
 pub mod Calls
+pub mod Inner
 pub mod Theorems

@@ -5,7 +5,8 @@ ghost use mathlib.Core.Path.{_≡_};
 ghost use Rattle.layout.specs.Layout.{LaidOut};
 ghost use Rattle.readable.specs.Readable.{checkAnswer};
 ghost use Rattle.machine.specs.Begin.{PutBegun, TakeBegun};
-ghost use Rattle.queue.specs.Calls.{PackAsked, RunDone, itemGiven, packed, shapeGiven};
+ghost use Rattle.queue.specs.Calls.{RunDone, itemGiven, packed, shapeGiven};
+ghost use Rattle.queue.specs.Inner.{PackAsked};
 use region::Item;
 use region::Shape;
 

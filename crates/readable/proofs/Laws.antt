@@ -9,8 +9,9 @@ use borrow.Author.Tests.{leb-true, le-leb, eqb-true, eq-eqb}
 use lib.Dec.{leb, eqb}
 use lib.ListN.{length, getD}
 use Rattle.words.specs.Word.{word}
-use Rattle.region.specs.Frame.{Within, frameOf}
-use Rattle.region.specs.Shape.{InRange, between, shapeFits, nodeCount, regionWords}
+use Rattle.region.specs.Frame.{frameOf}
+use Rattle.region.specs.Inner.{Within, InRange}
+use Rattle.region.specs.Shape.{between, shapeFits, nodeCount, regionWords}
 use Rattle.region.specs.declared.shape.Shape.{Shape}
 use Rattle.region.proofs.Frames.{frame-within}
 use Rattle.region.proofs.Shapes.{and-left, and-right, and-both, between-least, between-most, in-range, fits-in-range, is-between}

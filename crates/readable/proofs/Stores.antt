@@ -11,13 +11,15 @@ use borrow.Author.Tests.{leb-true, le-leb}
 use lib.Dec.{leb}
 use lib.ListN.{length, getD}
 use lib.Pow.{pow-mono}
-use Rattle.words.specs.Word.{word, wordsAt, Fit}
-use Rattle.region.specs.Frame.{Part, Within, frameOf, nodesOf, cellsOf, threadsOf}
+use Rattle.words.specs.Word.{word, wordsAt}
+use Rattle.words.specs.Inner.{Fit}
+use Rattle.region.specs.Frame.{Part, frameOf, nodesOf, cellsOf, threadsOf}
+use Rattle.region.specs.Inner.{Within, InRange}
 use Rattle.region.specs.Level.{level}
 use Rattle.region.specs.Pick.{pick}
 use Rattle.region.specs.Place.{placeNumber, placeOf, waitingLevels}
 use Rattle.region.specs.Record.{nodeAt, emptyNode, cellAt, zeroCell, zeroCopy}
-use Rattle.region.specs.Shape.{InRange, between, nodeCount, regionWords}
+use Rattle.region.specs.Shape.{between, nodeCount, regionWords}
 use Rattle.region.specs.Shared.{Shared, entry, loadEntry, nodeIn, cellIn, threadIn, setThreadIn, sharedIn}
 use Rattle.region.specs.Thread.{threadSize, threadWords, idleThread, threadAt}
 use Rattle.region.specs.declared.place.Place.{Place}

@@ -12,7 +12,8 @@ use lib.ListN.{length, getD, drop, drop-of-length-le}
 use lib.Pow.{pow-pos}
 use lib.Seq.{drop-cons}
 use Rattle.words.specs.Word.{word}
-use Rattle.region.specs.Frame.{Within, frameOf}
+use Rattle.region.specs.Frame.{frameOf}
+use Rattle.region.specs.Inner.{Within}
 use Rattle.region.specs.Level.{level}
 use Rattle.region.specs.Pick.{pick}
 use Rattle.region.specs.Shape.{between, shapeFits, nodeCount, regionWords}
@@ -22,7 +23,8 @@ use Rattle.region.specs.declared.shape.Shape.{Shape}
 use Rattle.region.proofs.Frames.{frame-within}
 use Rattle.region.proofs.Levels.{level-most}
 use Rattle.region.proofs.Shapes.{and-left, and-right, in-range, shifted}
-use Rattle.readable.specs.Readable.{FieldsAsked, ThreadAsked, ThreadsAsked, nodeMaxima, cellMaxima, threadMaxima, triesMost, waitingMost, bounded, threadReadable, allRecords, treeReadable, fieldsReadable, shapeIn, isWhole, readable, checkAnswer}
+use Rattle.readable.specs.Readable.{nodeMaxima, cellMaxima, threadMaxima, triesMost, waitingMost, bounded, threadReadable, allRecords, treeReadable, fieldsReadable, shapeIn, isWhole, readable, checkAnswer}
+use Rattle.readable.specs.Inner.{FieldsAsked, ThreadAsked, ThreadsAsked}
 
 -- A record of three words.
 module _ (b : List ℕ) (at x y z : ℕ) (u : ℕ) (eu : u ≡ word b at) where

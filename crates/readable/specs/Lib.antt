@@ -1,2 +1,3 @@
 -- What a readable region is.
+pub mod Inner
 pub mod Readable

@@ -1,7 +1,6 @@
 -- Readability (document 01, The region): "A region is readable if its length is exactly that of its first words, those are in range,
 -- depth is 1..D, and every field is in range". Every rule is said of a word: it is at most its greatest value.
-use Prim.Native.Nat.{ℕ, zero, suc, _+_, _-_, _*_, _^_, _≤_}
-use mathlib.Core.Path.{_≡_}
+use Prim.Native.Nat.{ℕ, zero, suc, _+_, _-_, _*_, _^_}
 use mathlib.Core.Bool.{Bool, true, _&&_}
 use mathlib.Core.List.{List, [], _∷_, _++_}
 use lib.Dec.{leb, eqb}
@@ -12,7 +11,7 @@ use Rattle.region.specs.Frame.{frameOf}
 use Rattle.region.specs.Level.{level}
 use Rattle.region.specs.Pick.{pick}
 use Rattle.region.specs.Place.{placeNumber}
-use Rattle.region.specs.Shape.{InRange, between, shapeFits, nodeCount, regionWords}
+use Rattle.region.specs.Shape.{between, shapeFits, nodeCount, regionWords}
 use Rattle.region.specs.Thread.{threadSize}
 use Rattle.region.specs.declared.frame.Frame.{Frame}
 use Rattle.region.specs.declared.place.Place.the-variants.{ReadLeaf, MendReadNode}
@@ -116,19 +115,3 @@ readable b = isWhole b && fieldsReadable (shapeIn b) b
 unfoldable pub checkAnswer : List ℕ → ℕ
 unfolding readable
 checkAnswer b = pick (readable b) done unreadable
-
--- What the functions of the check ask: a record or all records of the threads within the bytes b, with the shape's maxima, and the
--- whole region of l bytes.
-pub record ThreadAsked (s : Shape) (b : List ℕ) (at : ℕ) (ms : List ℕ) : Type 0 where
-  pub shape : InRange s
-  pub within : 4 * (at + threadSize) ≤ length b
-  pub maxima : ms ≡ threadMaxima s
-
-pub record ThreadsAsked (s : Shape) (b : List ℕ) (at : ℕ) (ms : List ℕ) : Type 0 where
-  pub shape : InRange s
-  pub within : 4 * (at + threadSize * s .threads) ≤ length b
-  pub maxima : ms ≡ threadMaxima s
-
-pub record FieldsAsked (s : Shape) (l : ℕ) : Type 0 where
-  pub shape : InRange s
-  pub exact : l ≡ 4 * regionWords s

@@ -2,8 +2,9 @@
 use Prim.Native.Nat.{ℕ, _*_}
 use native.Mathlib.Omega.{arith}
 use mathlib.Core.Path.{_≡_}
-use Rattle.region.specs.Frame.{before, Parted, Within, frameOf}
-use Rattle.region.specs.Shape.{InRange, regionWords}
+use Rattle.region.specs.Frame.{before, frameOf}
+use Rattle.region.specs.Inner.{Parted, Within, InRange}
+use Rattle.region.specs.Shape.{regionWords}
 use Rattle.region.specs.declared.shape.Shape.{Shape}
 
 pub frame-within : (s : Shape) (l : ℕ) → InRange s → l ≡ 4 * regionWords s → Within (frameOf s) l

@@ -7,7 +7,8 @@ use mathlib.Core.Bool.{Bool, true, false, not, _&&_, true≢false}
 use borrow.Author.Tests.{leb-true, le-leb, lt-leb, not-true, not-false}
 use lib.Dec.{leb}
 use lib.Pow.{pow-mono, pow-pos, pow-lt}
-use Rattle.region.specs.Shape.{InRange, between, shapeFits, regionWords}
+use Rattle.region.specs.Shape.{between, shapeFits, regionWords}
+use Rattle.region.specs.Inner.{InRange}
 use Rattle.region.specs.declared.shape.Shape.{Shape}
 
 -- Tests joined by &&.

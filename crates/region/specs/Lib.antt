@@ -1,6 +1,7 @@
 -- The definitions of the crate `region`: records as runs of words, the frame, and shared memory read from bytes as functions.
 pub mod Answer
 pub mod Frame
+pub mod Inner
 pub mod Level
 pub mod Pick
 pub mod Place

@@ -1,5 +1,5 @@
 -- The shape of a region (document 01, The region) and the length that it asks for.
-use Prim.Native.Nat.{ℕ, _+_, _-_, _*_, _^_, _≤_}
+use Prim.Native.Nat.{ℕ, _+_, _-_, _*_, _^_}
 use mathlib.Core.Bool.{Bool, _&&_}
 use lib.Dec.{leb}
 use Rattle.region.specs.declared.shape.Shape.{Shape}
@@ -15,17 +15,6 @@ shapeFits s =
     && between 1 (s .cells) (2 ^ (s .depth - 1))
     && between 1 (s .threads) 64
     && between 1 (s .threshold) 16
-
--- the same as numbers, for what is computed from a shape
-pub record InRange (s : Shape) : Type 0 where
-  pub depth-least : 1 ≤ s .depth
-  pub depth-most : s .depth ≤ 12
-  pub cells-least : 1 ≤ s .cells
-  pub cells-most : s .cells ≤ 2 ^ (s .depth - 1)
-  pub threads-least : 1 ≤ s .threads
-  pub threads-most : s .threads ≤ 64
-  pub threshold-least : 1 ≤ s .threshold
-  pub threshold-most : s .threshold ≤ 16
 
 -- "2^D − 1 nodes"
 abbrev pub nodeCount : Shape → ℕ

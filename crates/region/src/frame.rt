@@ -3,8 +3,8 @@
 ghost use mathlib.Core.Path.{_≡_};
 ghost use lib.ListN.{length};
 ghost use Rattle.words.specs.Word.{word, setWord};
-ghost use Rattle.region.specs.Shape.{InRange};
-ghost use Rattle.region.specs.Frame.{Within, frameOf};
+ghost use Rattle.region.specs.Inner.{InRange, Within};
+ghost use Rattle.region.specs.Frame.{frameOf};
 ghost use Rattle.region.specs.Shared.{nodeIn, setNodeIn, cellIn, setCellIn, threadIn, setThreadIn};
 use crate::record::Cell;
 use crate::record::Node;

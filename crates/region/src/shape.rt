@@ -1,7 +1,8 @@
 // The shape of a region: what is in range, and the length that it asks for.
 ghost use mathlib.Core.Path.{_≡_};
 ghost use Prim.Native.Nat.{_≤_};
-ghost use Rattle.region.specs.Shape.{InRange, between, shapeFits, nodeCount, regionWords};
+ghost use Rattle.region.specs.Shape.{between, shapeFits, nodeCount, regionWords};
+ghost use Rattle.region.specs.Inner.{InRange};
 
 pub struct Shape {
     // D, the greatest depth

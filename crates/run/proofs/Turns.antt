@@ -11,7 +11,8 @@ use lib.Dec.{eqb}
 use lib.ListN.{length}
 use Rattle.words.specs.Word.{word, setWords}
 use Rattle.region.specs.Answer.{answerCode, answerKey, answerTag, answerWords, done, shortAnswers, badSchedule, unreadable}
-use Rattle.region.specs.Frame.{Within, frameOf}
+use Rattle.region.specs.Frame.{frameOf}
+use Rattle.region.specs.Inner.{Within}
 use Rattle.region.specs.Pick.{pick}
 use Rattle.region.specs.declared.answer.Answer.{Answer}
 use Rattle.region.specs.declared.frame.Frame.{Frame}
@@ -19,7 +20,7 @@ use Rattle.readable.specs.Readable.{readable, shapeIn}
 use Rattle.readable.proofs.Laws.{readable-within}
 use Rattle.machine.specs.Run.{accessesOf, runRefusal, runResult, serve, serveAll, soFar, turnAt, turnsFrom}
 use Rattle.machine.specs.Turn.{Turned, turnAnswer, turnBytes}
-use Rattle.run.specs.Ran.{Ran, RunAsked, TurnAsked}
+use Rattle.run.specs.Inner.{Ran, RunAsked, TurnAsked}
 use Rattle.run.specs.declared.Counts.{Counts}
 use Rattle.run.proofs.Laws.{one-access, passed}
 

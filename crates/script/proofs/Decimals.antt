@@ -13,7 +13,8 @@ use mir.Syntax.{w64}
 use mir.Val.{Fits}
 use Rattle.region.specs.Pick.{pick}
 use Rattle.region.proofs.Shapes.{below, between-least, between-most, from-least}
-use Rattle.script.specs.Text.{Wrote, decimal, digits, isDigit}
+use Rattle.script.specs.Text.{decimal, digits, isDigit}
+use Rattle.script.specs.Inner.{Wrote}
 use Rattle.script.specs.Reading.{digitsThen, numberThen}
 use Rattle.script.specs.Printing.{numberText}
 use Rattle.script.specs.declared.numbers.Number.{Number}

@@ -6,7 +6,7 @@ use mathlib.Core.List.{List}
 use lib.ListN.{length, length-append}
 use Rattle.region.specs.declared.answer.Answer.{Answer}
 use Rattle.region.specs.declared.answer.Answer.the-variants.{Moved, Idle, Inserted, Took, Empty, Refused}
-use Rattle.script.specs.Text.{Wrote}
+use Rattle.script.specs.Inner.{Wrote}
 use Rattle.script.specs.Printing.{answerWord, lineText, numberText, outcomeKey, outcomeTag, outcomeText, outcomeWord}
 use Rattle.script.specs.declared.printing.Outcome.{Outcome}
 use Rattle.script.specs.declared.printing.Outcome.the-variants.{Begun, Answered, Unreadable}

@@ -16,11 +16,10 @@ use Rattle.region.specs.declared.answer.Answer.the-variants.{Refused}
 use Rattle.region.specs.declared.record.Item.{Item}
 use Rattle.machine.specs.Begin.{PutBegun, TakeBegun}
 use Rattle.machine.specs.Turn.{TurnedOn}
-use Rattle.script.specs.Text.{Wrote}
+use Rattle.script.specs.Inner.{Wrote, CallMade, LinesRan}
 use Rattle.script.specs.Reading.{readLine}
 use Rattle.script.specs.Printing.{lineText}
 use Rattle.script.specs.Script.{Ran, after, begunOr, callBytes, callOutcome, linesFrom, nothingMore}
-use Rattle.script.specs.Promises.{CallMade, LinesRan}
 use Rattle.script.specs.declared.printing.Outcome.{Outcome}
 use Rattle.script.specs.declared.printing.Outcome.the-variants.{Begun, Answered, Unreadable}
 use Rattle.script.specs.declared.reading.What.{What}

@@ -13,15 +13,15 @@ use lib.Pow.{pow-mono}
 use lib.Seq.{drop-at, length-take-le, take-at}
 use Rattle.region.specs.Answer.{done, badShape}
 use Rattle.region.specs.Pick.{pick}
-use Rattle.region.specs.Shape.{InRange, regionWords, shapeFits}
+use Rattle.region.specs.Shape.{regionWords, shapeFits}
+use Rattle.region.specs.Inner.{InRange}
 use Rattle.region.proofs.Shapes.{and-both, and-left, and-not-left, and-not-right, shape-in-range}
 use Rattle.layout.specs.Layout.{LaidOut, atMost, layoutBytes, layoutRefusal, permissionsFit}
 use Rattle.layout.proofs.Laws.{laid-length as laid-exactly, laid-permissions, laid-shape}
 use Rattle.region.specs.declared.answer.Answer.the-variants.{Refused}
-use Rattle.script.specs.Text.{Wrote}
+use Rattle.script.specs.Inner.{Wrote, LinesRan, SetUp, SetupRan}
 use Rattle.script.specs.Printing.{lineText}
 use Rattle.script.specs.Script.{after, laidRegion, linesFrom, nothingMore, permissionsOf, regionLength, setupRefusal, setupThen}
-use Rattle.script.specs.Promises.{LinesRan, SetUp, SetupRan}
 use Rattle.script.specs.declared.printing.Outcome.the-variants.{Answered}
 use Rattle.script.specs.declared.reading.Setup.{Setup}
 use Rattle.script.proofs.Layouts.{laid-all}

@@ -11,7 +11,8 @@ use lib.Dec.{eqb}
 use lib.ListN.{length, getD, set, drop, length-append, length-drop, length-set, drop-of-length-le}
 use lib.Seq.{drop-cons, sets, length-sets}
 use Rattle.region.proofs.Shapes.{and-right}
-use Rattle.script.specs.Text.{Wrote, startsWith, textAt}
+use Rattle.script.specs.Text.{startsWith, textAt}
+use Rattle.script.specs.Inner.{Wrote}
 
 -- Comparing: what is left from here decides.
 pub record Compared (s : List ℕ) (at : ℕ) (t : List ℕ) (k i : ℕ) : Type 0 where

@@ -10,11 +10,12 @@ use lib.ListN.{length, drop}
 use lib.Seq.{sets-eq}
 use Rattle.region.specs.Pick.{pick}
 use Rattle.region.proofs.Shapes.{and-left}
-use Rattle.script.specs.Text.{Wrote, textAt}
+use Rattle.script.specs.Text.{textAt}
+use Rattle.script.specs.Inner.{Wrote, SetupRan}
 use Rattle.script.specs.Reading.{headedOpening, readOpening, shapeAt, shapeHeading}
 use Rattle.script.specs.Printing.{lineText}
 use Rattle.script.specs.Script.{Ran, after, openingThen, outputHeading, scriptRun, setupThen}
-use Rattle.script.specs.Promises.{ScriptRan, SetupRan}
+use Rattle.script.specs.Promises.{ScriptRan}
 use Rattle.script.specs.declared.printing.Outcome.the-variants.{Unreadable}
 use Rattle.script.specs.declared.reading.Opening.{Opening}
 use Rattle.script.specs.declared.reading.Opening.the-variants.{Read as OpeningRead, Unreadable as NotOpening}

@@ -1,7 +1,8 @@
 -- What a script prints, from its bytes.
-pub mod Text
-pub mod Reading
+pub mod Inner
 pub mod Printing
-pub mod Script
 pub mod Promises
+pub mod Reading
+pub mod Script
+pub mod Text
 pub mod Theorems

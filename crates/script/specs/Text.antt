@@ -1,13 +1,11 @@
 -- Text as bytes: quoted text, decimal numbers, text at a position, and what it is to write into a lent slice.
-use Prim.Native.Nat.{ℕ, zero, suc, _+_, _/_, _%_, _≤_}
+use Prim.Native.Nat.{ℕ, zero, suc, _+_, _/_, _%_}
 use Prim.Native.Char.{code}
 use Prim.Native.String.{String, [] as none, _∷_ as _then_}
-use mathlib.Core.Path.{_≡_}
 use mathlib.Core.Bool.{Bool, true, false, _&&_}
 use mathlib.Core.List.{List, [], _∷_, _++_}
 use lib.Dec.{ltb, eqb}
-use lib.ListN.{length, drop}
-use lib.Seq.{sets}
+use lib.ListN.{drop}
 use Rattle.region.specs.Pick.{pick}
 use Rattle.region.specs.Shape.{between}
 
@@ -47,9 +45,3 @@ digits (suc k) n = pick (ltb n 10) ((48 + n) ∷ []) (digits k (n / 10) ++ ((48 
 unfoldable pub decimal : ℕ → List ℕ
 unfolding digits
 decimal n = digits 10 n
-
--- the slice l′ is l with xs from position a on, and k is the position after xs
-pub record Wrote (l l′ : List ℕ) (a k : ℕ) (xs : List ℕ) : Type 0 where
-  pub next : k ≡ a + length xs
-  pub within : k ≤ length l
-  pub bytes : l′ ≡ sets l a xs

@@ -2,7 +2,8 @@
 ghost use mathlib.Core.Path.{_≡_};
 ghost use Prim.Native.Nat.{_+_, _≤_};
 ghost use lib.ListN.{length, drop};
-ghost use Rattle.script.specs.Text.{Wrote, decimal, isDigit};
+ghost use Rattle.script.specs.Text.{decimal, isDigit};
+ghost use Rattle.script.specs.Inner.{Wrote};
 ghost use Rattle.script.specs.Reading.{digitsThen, numberThen};
 ghost use Rattle.script.specs.Printing.{numberText};
 

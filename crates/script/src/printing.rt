@@ -2,7 +2,7 @@
 ghost use mathlib.Core.Path.{_≡_};
 ghost use Prim.Native.Nat.{_+_, _≤_};
 ghost use lib.ListN.{length};
-ghost use Rattle.script.specs.Text.{Wrote};
+ghost use Rattle.script.specs.Inner.{Wrote};
 ghost use Rattle.script.specs.Printing.{answerWord, lineText, outcomeKey, outcomeTag, outcomeText, outcomeWord};
 use crate::numbers::write_number;
 use crate::text::write_text;

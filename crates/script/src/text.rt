@@ -2,7 +2,8 @@
 ghost use mathlib.Core.Path.{_≡_};
 ghost use Prim.Native.Nat.{_+_, _≤_};
 ghost use lib.ListN.{length};
-ghost use Rattle.script.specs.Text.{Wrote, textAt};
+ghost use Rattle.script.specs.Text.{textAt};
+ghost use Rattle.script.specs.Inner.{Wrote};
 
 // Whether the text stands in s at a position.
 pub fn text_at(s: &[u8], at: usize, text: &[u8]) -> bool

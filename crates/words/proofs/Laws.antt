@@ -8,7 +8,8 @@ use mathlib.Core.Logic.{_≢_, _⊎_, inl, inr, ⊎-elim}
 use mathlib.Core.List.{List, [], _∷_}
 use lib.ListN.{length, getD, set, length-set}
 use lib.Seq.{getD-set-same, getD-set-other}
-use Rattle.words.specs.Word.{word, setWord, wordsAt, setWords, Bytes, Fit}
+use Rattle.words.specs.Word.{word, setWord, wordsAt, setWords}
+use Rattle.words.specs.Inner.{Bytes, Fit}
 
 -- Lengths stay.
 pub length-setWord : (b : List ℕ) (k v : ℕ) → length (setWord b k v) ≡ length b

@@ -1,6 +1,6 @@
 -- "Little-endian 32-bit words in one lent byte slice" (document 01, The region). Words count from 0; word k is bytes 4k to 4k + 3.
 -- Past the end a byte reads as 0 and a store does nothing.
-use Prim.Native.Nat.{ℕ, zero, suc, _+_, _*_, _/_, _%_, _^_, _<_}
+use Prim.Native.Nat.{ℕ, zero, suc, _+_, _*_, _/_, _%_}
 use mathlib.Core.List.{List, [], _∷_}
 use lib.ListN.{getD, set}
 
@@ -29,12 +29,3 @@ wordsAt b at (suc n) = word b at ∷ wordsAt b (suc at) n
 abbrev pub setWords : List ℕ → ℕ → List ℕ → List ℕ
 setWords b at [] = b
 setWords b at (v ∷ vs) = setWords (setWord b at v) (suc at) vs
-
--- every element is a byte
-abbrev pub Bytes : List ℕ → Type 0
-Bytes b = (i : ℕ) → getD b i 0 < 256
-
--- every element fits a word
-abbrev pub Fit : List ℕ → Type 0
-Fit [] = Unit
-Fit (v ∷ vs) = (v < 2 ^ 32) × Fit vs

@@ -1,8 +1,8 @@
 -- `extract::head_removed` meets its contract. Assumes nothing.
 use borrow.Author.Needs.{needs}
 use Rattle.extract.proofs.head_removed.Statement.{statement}
-use Rattle.extract.proofs.head_removed.Tie as tie
 use Rattle.extract.proofs.Ways.{head-leaves}
+use Rattle.extract.proofs.head_removed.Tie as tie
 
 updated-node-requires : tie.Need-updated-node-requires
 updated-node-requires c κs = search needs

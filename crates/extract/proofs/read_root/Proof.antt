@@ -1,8 +1,8 @@
 -- `extract::read_root` meets its contract. Assumes nothing.
 use borrow.Author.Needs.{needs}
 use Rattle.extract.proofs.read_root.Statement.{statement}
-use Rattle.extract.proofs.read_root.Tie as tie
 use Rattle.extract.proofs.Ways.{root-reads}
+use Rattle.extract.proofs.read_root.Tie as tie
 
 read-node-requires : tie.Need-read-node-requires
 read-node-requires c κs = search needs

@@ -1,9 +1,9 @@
 -- `extract::remove_head` meets its contract: the first test that fails decides. Assumes nothing.
 use borrow.Author.Needs.{needs}
 use Rattle.extract.proofs.remove_head.Statement.{statement}
-use Rattle.extract.proofs.remove_head.Tie as tie
 use Rattle.access.proofs.ReadLaws.{not-spent}
 use Rattle.extract.proofs.Ways.{no-head, root-changed, root-spent, head-removes}
+use Rattle.extract.proofs.remove_head.Tie as tie
 
 refused-requires : tie.Need-refused-requires
 refused-requires c κs = search needs

@@ -1,8 +1,8 @@
 -- `extract::root_read` meets its contract: the root is dirty, empty or has a head. Assumes nothing.
 use borrow.Author.Needs.{needs}
 use Rattle.extract.proofs.root_read.Statement.{statement}
-use Rattle.extract.proofs.root_read.Tie as tie
 use Rattle.extract.proofs.Ways.{root-dirty, root-empty, root-full}
+use Rattle.extract.proofs.root_read.Tie as tie
 
 is-dirty-requires : tie.Need-is-dirty-requires
 is-dirty-requires c κs = search needs

@@ -1,8 +1,8 @@
 -- `insert::ancestor_read` meets its contract: the value read decides which level moves. Assumes nothing.
 use borrow.Author.Needs.{needs}
 use Rattle.insert.proofs.ancestor_read.Statement.{statement}
-use Rattle.insert.proofs.ancestor_read.Tie as tie
 use Rattle.insert.proofs.Ways.{hi-moves, lo-moves}
+use Rattle.insert.proofs.ancestor_read.Tie as tie
 
 value-of-requires : tie.Need-value-of-requires
 value-of-requires c κs = search needs

@@ -1,8 +1,8 @@
 -- `insert::failed_place` meets its contract: the tries decide, then the depth. Assumes nothing.
 use borrow.Author.Needs.{needs}
 use Rattle.insert.proofs.failed_place.Statement.{statement}
-use Rattle.insert.proofs.failed_place.Tie as tie
 use Rattle.insert.proofs.Ways.{try-again, may-grow, full-depth}
+use Rattle.insert.proofs.failed_place.Tie as tie
 
 next-tries-requires : tie.Need-next-tries-requires
 next-tries-requires c κs = search needs

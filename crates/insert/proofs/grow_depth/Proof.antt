@@ -1,8 +1,8 @@
 -- `insert::grow_depth` meets its contract: both depths are levels, and then the comparison decides. Assumes nothing.
 use borrow.Author.Needs.{needs}
 use Rattle.insert.proofs.grow_depth.Statement.{statement}
-use Rattle.insert.proofs.grow_depth.Tie as tie
 use Rattle.insert.proofs.Ways.{level-next, depth-none, depth-most, depth-grows, depth-grown}
+use Rattle.insert.proofs.grow_depth.Tie as tie
 
 is-level-requires : tie.Need-is-level-requires
 is-level-requires c κs = search needs

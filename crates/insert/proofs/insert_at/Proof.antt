@@ -1,9 +1,9 @@
 -- `insert::insert_at` meets its contract: the comparison decides, then the counter. Assumes nothing.
 use borrow.Author.Needs.{needs}
 use Rattle.insert.proofs.insert_at.Statement.{statement}
-use Rattle.insert.proofs.insert_at.Tie as tie
 use Rattle.access.proofs.ReadLaws.{not-spent}
 use Rattle.insert.proofs.Ways.{compared-other, counter-spent, pushed}
+use Rattle.insert.proofs.insert_at.Tie as tie
 
 on-to-requires : tie.Need-on-to-requires
 on-to-requires c κs = search needs

@@ -1,8 +1,8 @@
 -- `insert::insert_at_root` meets its contract: there is an own cell, or the turn is refused. Assumes nothing.
 use borrow.Author.Needs.{needs}
 use Rattle.insert.proofs.insert_at_root.Statement.{statement}
-use Rattle.insert.proofs.insert_at_root.Tie as tie
 use Rattle.insert.proofs.Ways.{root-no-cell, root-compared}
+use Rattle.insert.proofs.insert_at_root.Tie as tie
 
 refused-requires : tie.Need-refused-requires
 refused-requires c κs = search needs

@@ -1,8 +1,8 @@
 -- `insert::insert_below` meets its contract: there are a parent and an own cell, or the turn is refused. Assumes nothing.
 use borrow.Author.Needs.{needs}
 use Rattle.insert.proofs.insert_below.Statement.{statement}
-use Rattle.insert.proofs.insert_below.Tie as tie
 use Rattle.insert.proofs.Ways.{below-no-parent, below-no-cell, below-compared}
+use Rattle.insert.proofs.insert_below.Tie as tie
 
 refused-requires : tie.Need-refused-requires
 refused-requires c κs = search needs

@@ -1,8 +1,8 @@
 -- `insert::leaf_failed` meets its contract. Assumes nothing.
 use borrow.Author.Needs.{needs}
 use Rattle.insert.proofs.leaf_failed.Statement.{statement}
-use Rattle.insert.proofs.leaf_failed.Tie as tie
 use Rattle.insert.proofs.Ways.{try-failed}
+use Rattle.insert.proofs.leaf_failed.Tie as tie
 
 next-tries-requires : tie.Need-next-tries-requires
 next-tries-requires c κs = search needs

@@ -1,8 +1,8 @@
 -- `insert::leaf_of` meets its contract: at depth 12 there are 2048 leaves. Assumes nothing.
 use borrow.Author.Needs.{needs}
 use Rattle.insert.proofs.leaf_of.Statement.{statement}
-use Rattle.insert.proofs.leaf_of.Tie as tie
 use Rattle.insert.proofs.Ways.{some-leaf, leaf-fits, leaf-named}
+use Rattle.insert.proofs.leaf_of.Tie as tie
 
 mark-of-requires : tie.Need-mark-of-requires
 mark-of-requires c κs = search needs

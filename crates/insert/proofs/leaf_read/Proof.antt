@@ -1,8 +1,8 @@
 -- `insert::leaf_read` meets its contract: the value read decides. Assumes nothing.
 use borrow.Author.Needs.{needs}
 use Rattle.insert.proofs.leaf_read.Statement.{statement}
-use Rattle.insert.proofs.leaf_read.Tie as tie
 use Rattle.insert.proofs.Ways.{leaf-below, search-begins}
+use Rattle.insert.proofs.leaf_read.Tie as tie
 
 value-of-requires : tie.Need-value-of-requires
 value-of-requires c κs = search needs

@@ -1,8 +1,8 @@
 -- `insert::middle_level` meets its contract. Assumes nothing.
 use borrow.Author.Needs.{needs}
 use Rattle.insert.proofs.middle_level.Statement.{statement}
-use Rattle.insert.proofs.middle_level.Tie as tie
 use Rattle.insert.proofs.Ways.{search-ended, leaf-above, middle-there}
+use Rattle.insert.proofs.middle_level.Tie as tie
 
 cast-lo : tie.Need-cast-lo
 cast-lo c = search needs

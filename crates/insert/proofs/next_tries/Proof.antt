@@ -1,8 +1,8 @@
 -- `insert::next_tries` meets its contract. Assumes nothing.
 use borrow.Author.Needs.{needs}
 use Rattle.insert.proofs.next_tries.Statement.{statement}
-use Rattle.insert.proofs.next_tries.Tie as tie
 use Rattle.insert.proofs.Ways.{tries-more, tries-full}
+use Rattle.insert.proofs.next_tries.Tie as tie
 
 add-result : tie.Need-add-result
 add-result c = search needs

@@ -1,8 +1,8 @@
 -- `insert::node_and_parent_same` meets its contract: the node decides, then its parent. Assumes nothing.
 use borrow.Author.Needs.{needs}
 use Rattle.insert.proofs.node_and_parent_same.Statement.{statement}
-use Rattle.insert.proofs.node_and_parent_same.Tie as tie
 use Rattle.insert.proofs.Ways.{node-other, parent-compared}
+use Rattle.insert.proofs.node_and_parent_same.Tie as tie
 
 load-node-requires : tie.Need-load-node-requires
 load-node-requires c κs = search needs

@@ -1,8 +1,8 @@
 -- `insert::read_ancestor` meets its contract: there is a middle level, or the turn is refused. Assumes nothing.
 use borrow.Author.Needs.{needs}
 use Rattle.insert.proofs.read_ancestor.Statement.{statement}
-use Rattle.insert.proofs.read_ancestor.Tie as tie
 use Rattle.insert.proofs.Ways.{no-middle, middle-most, middle-read}
+use Rattle.insert.proofs.read_ancestor.Tie as tie
 
 middle-level-requires : tie.Need-middle-level-requires
 middle-level-requires c κs = search needs

@@ -1,8 +1,8 @@
 -- `insert::read_depth` meets its contract. Assumes nothing.
 use borrow.Author.Needs.{needs}
 use Rattle.insert.proofs.read_depth.Statement.{statement}
-use Rattle.insert.proofs.read_depth.Tie as tie
 use Rattle.insert.proofs.Ways.{depth-read}
+use Rattle.insert.proofs.read_depth.Tie as tie
 
 load-depth-requires : tie.Need-load-depth-requires
 load-depth-requires c κs = search needs

@@ -1,8 +1,8 @@
 -- `insert::read_leaf` meets its contract: the depth is a level, or the turn is refused. Assumes nothing.
 use borrow.Author.Needs.{needs}
 use Rattle.insert.proofs.read_leaf.Statement.{statement}
-use Rattle.insert.proofs.read_leaf.Tie as tie
 use Rattle.insert.proofs.Ways.{level-some, level-few, no-leaves, leaf-reached}
+use Rattle.insert.proofs.read_leaf.Tie as tie
 
 is-level-requires : tie.Need-is-level-requires
 is-level-requires c κs = search needs

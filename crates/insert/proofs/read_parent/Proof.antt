@@ -1,8 +1,8 @@
 -- `insert::read_parent` meets its contract: there is a parent, or the turn is refused; then the value read decides. Assumes nothing.
 use borrow.Author.Needs.{needs}
 use Rattle.insert.proofs.read_parent.Statement.{statement}
-use Rattle.insert.proofs.read_parent.Tie as tie
 use Rattle.insert.proofs.Ways.{no-parent, parent-above, parent-below}
+use Rattle.insert.proofs.read_parent.Tie as tie
 
 refused-requires : tie.Need-refused-requires
 refused-requires c κs = search needs

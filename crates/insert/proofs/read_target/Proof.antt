@@ -1,8 +1,8 @@
 -- `insert::read_target` meets its contract: there is a node, or the turn is refused. Assumes nothing.
 use borrow.Author.Needs.{needs}
 use Rattle.insert.proofs.read_target.Statement.{statement}
-use Rattle.insert.proofs.read_target.Tie as tie
 use Rattle.insert.proofs.Ways.{no-target, target-read}
+use Rattle.insert.proofs.read_target.Tie as tie
 
 refused-requires : tie.Need-refused-requires
 refused-requires c κs = search needs

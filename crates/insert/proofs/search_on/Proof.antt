@@ -1,8 +1,8 @@
 -- `insert::search_on` meets its contract: the levels between which it looks decide, then the leaf's level. Assumes nothing.
 use borrow.Author.Needs.{needs}
 use Rattle.insert.proofs.search_on.Statement.{statement}
-use Rattle.insert.proofs.search_on.Tie as tie
 use Rattle.insert.proofs.Ways.{searches-on, no-level, point-found, some-level}
+use Rattle.insert.proofs.search_on.Tie as tie
 
 on-to-requires : tie.Need-on-to-requires
 on-to-requires c κs = search needs

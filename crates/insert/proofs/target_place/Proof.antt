@@ -1,8 +1,8 @@
 -- `insert::target_place` meets its contract: the value read decides, then the node. Assumes nothing.
 use borrow.Author.Needs.{needs}
 use Rattle.insert.proofs.target_place.Statement.{statement}
-use Rattle.insert.proofs.target_place.Tie as tie
 use Rattle.insert.proofs.Ways.{target-below, target-root, target-inner}
+use Rattle.insert.proofs.target_place.Tie as tie
 
 value-of-requires : tie.Need-value-of-requires
 value-of-requires c κs = search needs

@@ -1,10 +1,10 @@
 -- `layout::are_permissions` meets its contract: the loop keeps `Looked`. Assumes nothing.
 use native.Mathlib.Omega.{arith}
 use Rattle.layout.proofs.are_permissions.Statement.{statement}
-use Rattle.layout.proofs.are_permissions.Tie as tie
 use Prim.Native.Nat.{_-_}
 use lib.ListN.{length}
 use Rattle.layout.proofs.Turns.{Looked, look-start, look-more, look-bad, look-end}
+use Rattle.layout.proofs.are_permissions.Tie as tie
 
 abbrev Inv-loop : tie.InvT-loop
 Inv-loop permissions i₀ i = Looked permissions i

@@ -2,9 +2,9 @@
 use borrow.Author.Needs.{needs}
 use native.Mathlib.Omega.{arith}
 use Rattle.layout.proofs.fill.Statement.{statement}
-use Rattle.layout.proofs.fill.Tie as tie
 use Prim.Native.Nat.{_-_}
 use Rattle.layout.proofs.Turns.{Filled, fill-start, fill-asks, fill-more, fill-end}
+use Rattle.layout.proofs.fill.Tie as tie
 
 abbrev Inv-loop : tie.InvT-loop
 Inv-loop b₀ shape permissions cells-at threads-at n k₀ b k = Filled shape permissions cells-at threads-at n b₀ b k

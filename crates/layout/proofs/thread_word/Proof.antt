@@ -2,9 +2,9 @@
 use native.Mathlib.Omega.{arith}
 use borrow.Author.Needs.{needs}
 use Rattle.layout.proofs.thread_word.Statement.{statement}
-use Rattle.layout.proofs.thread_word.Tie as tie
 use Rattle.layout.proofs.Turns.{no-permission, permission}
 use Prim.Native.Nat.{_/_}
+use Rattle.layout.proofs.thread_word.Tie as tie
 
 returns : tie.Need-returns
 returns c = search no-permission

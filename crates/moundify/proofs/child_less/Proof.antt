@@ -1,8 +1,8 @@
 -- `moundify::child_less` meets its contract: the lesser child decides. Assumes nothing.
 use borrow.Author.Needs.{needs}
 use Rattle.moundify.proofs.child_less.Statement.{statement}
-use Rattle.moundify.proofs.child_less.Tie as tie
 use Rattle.moundify.proofs.Ways.{left-decides, right-decides}
+use Rattle.moundify.proofs.child_less.Tie as tie
 
 value-of-requires : tie.Need-value-of-requires
 value-of-requires c κs = search needs

@@ -1,8 +1,8 @@
 -- `moundify::child_of` meets its contract: the test decides. Assumes nothing.
 use borrow.Author.Needs.{needs}
 use Rattle.moundify.proofs.child_of.Statement.{statement}
-use Rattle.moundify.proofs.child_of.Tie as tie
 use Rattle.moundify.proofs.Ways.{on-the-left, on-the-right}
+use Rattle.moundify.proofs.child_of.Tie as tie
 
 mul-first : tie.Need-mul-first
 mul-first c = search needs

@@ -1,9 +1,9 @@
 -- `moundify::clean_at` meets its contract: the counter is spent, or the node becomes clean. Assumes nothing.
 use borrow.Author.Needs.{needs}
 use Rattle.moundify.proofs.clean_at.Statement.{statement}
-use Rattle.moundify.proofs.clean_at.Tie as tie
 use Rattle.access.proofs.ReadLaws.{not-spent}
 use Rattle.moundify.proofs.Ways.{clean-spent, cleans}
+use Rattle.moundify.proofs.clean_at.Tie as tie
 
 is-spent-requires : tie.Need-is-spent-requires
 is-spent-requires c κs = search needs

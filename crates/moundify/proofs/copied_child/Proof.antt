@@ -1,7 +1,7 @@
 -- `moundify::copied_child` meets its contract: the test decides. Assumes nothing.
 use Rattle.moundify.proofs.copied_child.Statement.{statement}
-use Rattle.moundify.proofs.copied_child.Tie as tie
 use Rattle.moundify.proofs.Ways.{on-the-left, on-the-right}
+use Rattle.moundify.proofs.copied_child.Tie as tie
 
 returns : tie.Need-returns
 returns c = search on-the-left

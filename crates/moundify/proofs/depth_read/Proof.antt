@@ -1,8 +1,8 @@
 -- `moundify::depth_read` meets its contract: clean, at the last level, or above it. Assumes nothing.
 use borrow.Author.Needs.{needs}
 use Rattle.moundify.proofs.depth_read.Statement.{statement}
-use Rattle.moundify.proofs.depth_read.Tie as tie
 use Rattle.moundify.proofs.Ways.{clean-already, at-last-level, above-last-level}
+use Rattle.moundify.proofs.depth_read.Tie as tie
 
 with-depth-requires : tie.Need-with-depth-requires
 with-depth-requires c κs = search needs

@@ -1,9 +1,9 @@
 -- `moundify::exchange_at` meets its contract: a node changed, a counter is spent, or the lists are exchanged. Assumes nothing.
 use borrow.Author.Needs.{needs}
 use Rattle.moundify.proofs.exchange_at.Statement.{statement}
-use Rattle.moundify.proofs.exchange_at.Tie as tie
 use Rattle.access.proofs.ReadLaws.{not-spent}
 use Rattle.moundify.proofs.Ways.{one-changed, node-spent, child-spent, lists-exchange}
+use Rattle.moundify.proofs.exchange_at.Tie as tie
 
 on-to-requires : tie.Need-on-to-requires
 on-to-requires c κs = search needs

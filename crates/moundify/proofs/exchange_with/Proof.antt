@@ -2,8 +2,8 @@
 -- nothing.
 use borrow.Author.Needs.{needs}
 use Rattle.moundify.proofs.exchange_with.Statement.{statement}
-use Rattle.moundify.proofs.exchange_with.Tie as tie
 use Rattle.moundify.proofs.Ways.{node-fits, exchange-without-node, no-child, exchange-tried}
+use Rattle.moundify.proofs.exchange_with.Tie as tie
 
 refused-requires : tie.Need-refused-requires
 refused-requires c κs = search needs

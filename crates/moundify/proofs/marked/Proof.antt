@@ -1,8 +1,8 @@
 -- `moundify::marked` meets its contract: the mark joins, or is there. Assumes nothing.
 use borrow.Author.Needs.{needs}
 use Rattle.moundify.proofs.marked.Statement.{statement}
-use Rattle.moundify.proofs.marked.Tie as tie
 use Rattle.moundify.proofs.Ways.{mark-fits, mark-joins, mark-there}
+use Rattle.moundify.proofs.marked.Tie as tie
 
 mark-of-requires : tie.Need-mark-of-requires
 mark-of-requires c κs = search needs

@@ -1,8 +1,8 @@
 -- `moundify::mend_clean` meets its contract: node 0 is refused, the node changed, or it becomes clean. Assumes nothing.
 use borrow.Author.Needs.{needs}
 use Rattle.moundify.proofs.mend_clean.Statement.{statement}
-use Rattle.moundify.proofs.mend_clean.Tie as tie
 use Rattle.moundify.proofs.Ways.{clean-without-node, clean-changed, clean-tried}
+use Rattle.moundify.proofs.mend_clean.Tie as tie
 
 refused-requires : tie.Need-refused-requires
 refused-requires c κs = search needs

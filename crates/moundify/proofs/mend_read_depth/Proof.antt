@@ -1,8 +1,8 @@
 -- `moundify::mend_read_depth` meets its contract: node 0 is refused, else the depth decides. Assumes nothing.
 use borrow.Author.Needs.{needs}
 use Rattle.moundify.proofs.mend_read_depth.Statement.{statement}
-use Rattle.moundify.proofs.mend_read_depth.Tie as tie
 use Rattle.moundify.proofs.Ways.{depth-without-node, depth-seen}
+use Rattle.moundify.proofs.mend_read_depth.Tie as tie
 
 refused-requires : tie.Need-refused-requires
 refused-requires c κs = search needs

@@ -1,8 +1,8 @@
 -- `moundify::mend_read_left` meets its contract: a child not in the tree is refused, any other fits a word and is read. Assumes nothing.
 use borrow.Author.Needs.{needs}
 use Rattle.moundify.proofs.mend_read_left.Statement.{statement}
-use Rattle.moundify.proofs.mend_read_left.Tie as tie
 use Rattle.moundify.proofs.Ways.{node-fits, no-left, left-read}
+use Rattle.moundify.proofs.mend_read_left.Tie as tie
 
 cast-left : tie.Need-cast-left
 cast-left c = search needs

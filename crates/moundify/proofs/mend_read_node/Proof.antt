@@ -1,8 +1,8 @@
 -- `moundify::mend_read_node` meets its contract: node 0 is refused, any other is read. Assumes nothing.
 use borrow.Author.Needs.{needs}
 use Rattle.moundify.proofs.mend_read_node.Statement.{statement}
-use Rattle.moundify.proofs.mend_read_node.Tie as tie
 use Rattle.moundify.proofs.Ways.{no-node, node-read}
+use Rattle.moundify.proofs.mend_read_node.Tie as tie
 
 refused-requires : tie.Need-refused-requires
 refused-requires c κs = search needs

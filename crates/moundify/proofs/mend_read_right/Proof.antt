@@ -1,8 +1,8 @@
 -- `moundify::mend_read_right` meets its contract: node 0 and a child not in the tree are refused, any other is read. Assumes nothing.
 use borrow.Author.Needs.{needs}
 use Rattle.moundify.proofs.mend_read_right.Statement.{statement}
-use Rattle.moundify.proofs.mend_read_right.Tie as tie
 use Rattle.moundify.proofs.Ways.{node-fits, children-asked, right-without-node, no-right, right-read}
+use Rattle.moundify.proofs.mend_read_right.Tie as tie
 
 refused-requires : tie.Need-refused-requires
 refused-requires c κs = search needs

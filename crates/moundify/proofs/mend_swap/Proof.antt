@@ -1,8 +1,8 @@
 -- `moundify::mend_swap` meets its contract: the order of the children chooses the child, and the exchange is with it. Assumes nothing.
 use borrow.Author.Needs.{needs}
 use Rattle.moundify.proofs.mend_swap.Statement.{statement}
-use Rattle.moundify.proofs.mend_swap.Tie as tie
 use Rattle.moundify.proofs.Ways.{child-swaps}
+use Rattle.moundify.proofs.mend_swap.Tie as tie
 
 value-of-requires : tie.Need-value-of-requires
 value-of-requires c κs = search needs

@@ -1,8 +1,8 @@
 -- `moundify::node_and_child_same` meets its contract: the node changed, or the child decides. Assumes nothing.
 use borrow.Author.Needs.{needs}
 use Rattle.moundify.proofs.node_and_child_same.Statement.{statement}
-use Rattle.moundify.proofs.node_and_child_same.Tie as tie
 use Rattle.moundify.proofs.Ways.{node-changed, child-decides}
+use Rattle.moundify.proofs.node_and_child_same.Tie as tie
 
 load-node-requires : tie.Need-load-node-requires
 load-node-requires c κs = search needs

@@ -1,7 +1,7 @@
 -- `moundify::return_answer` meets its contract: others wait, or none does and `after` decides. Assumes nothing.
 use Rattle.moundify.proofs.return_answer.Statement.{statement}
-use Rattle.moundify.proofs.return_answer.Tie as tie
 use Rattle.moundify.proofs.Ways.{others-wait, back-to-root, answered}
+use Rattle.moundify.proofs.return_answer.Tie as tie
 
 returns : tie.Need-returns
 returns c = search others-wait

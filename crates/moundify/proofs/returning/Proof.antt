@@ -1,8 +1,8 @@
 -- `moundify::returning` meets its contract. Assumes nothing.
 use borrow.Author.Needs.{needs}
 use Rattle.moundify.proofs.returning.Statement.{statement}
-use Rattle.moundify.proofs.returning.Tie as tie
 use Rattle.moundify.proofs.Ways.{returns-so}
+use Rattle.moundify.proofs.returning.Tie as tie
 
 returned-requires : tie.Need-returned-requires
 returned-requires c κs = search needs

@@ -1,8 +1,8 @@
 -- `readable::check_region` meets its contract: as `is_readable`, in numbers. Assumes nothing.
 use borrow.Author.Needs.{needs}
 use Rattle.readable.proofs.check_region.Statement.{statement}
-use Rattle.readable.proofs.check_region.Tie as tie
 use Rattle.readable.proofs.Turns.{check-not-whole, long-enough, fields-asked, check-yes, check-no}
+use Rattle.readable.proofs.check_region.Tie as tie
 
 is-whole-requires : tie.Need-is-whole-requires
 is-whole-requires c κs = search needs

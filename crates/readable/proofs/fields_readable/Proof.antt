@@ -1,8 +1,8 @@
 -- `readable::fields_readable` meets its contract. Assumes nothing.
 use borrow.Author.Needs.{needs}
 use Rattle.readable.proofs.fields_readable.Statement.{statement}
-use Rattle.readable.proofs.fields_readable.Tie as tie
 use Rattle.readable.proofs.Turns.{tree-asks, threads-within, tree-bad, fields-rest}
+use Rattle.readable.proofs.fields_readable.Tie as tie
 
 of-requires : tie.Need-of-requires
 of-requires c κs = search needs

@@ -1,10 +1,10 @@
 -- `readable::frame_of` meets its contract. Assumes nothing.
 use Rattle.readable.proofs.frame_of.Statement.{statement}
-use Rattle.readable.proofs.frame_of.Tie as tie
 use mathlib.Core.Path.{ap, subst, sym, _∙_}
 use Rattle.region.specs.Frame.{frameOf}
-use Rattle.region.specs.Shape.{InRange}
+use Rattle.region.specs.Inner.{InRange}
 use Rattle.readable.proofs.Laws.{readable-long, readable-shape}
+use Rattle.readable.proofs.frame_of.Tie as tie
 
 load-shape-requires : tie.Need-load-shape-requires
 load-shape-requires c κs = search readable-long

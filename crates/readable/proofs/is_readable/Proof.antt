@@ -1,8 +1,8 @@
 -- `readable::is_readable` meets its contract: a region that is not whole is not readable, else the fields decide. Assumes nothing.
 use borrow.Author.Needs.{needs}
 use Rattle.readable.proofs.is_readable.Statement.{statement}
-use Rattle.readable.proofs.is_readable.Tie as tie
 use Rattle.readable.proofs.Turns.{not-whole, long-enough, fields-asked, readable-rest}
+use Rattle.readable.proofs.is_readable.Tie as tie
 
 is-whole-requires : tie.Need-is-whole-requires
 is-whole-requires c κs = search needs

@@ -2,9 +2,9 @@
 use native.Mathlib.Omega.{arith}
 use mathlib.Core.List.{[], _∷_}
 use Rattle.readable.proofs.records_bounded.Statement.{statement}
-use Rattle.readable.proofs.records_bounded.Tie as tie
 use Rattle.readable.specs.Readable.{bounded}
 use Rattle.readable.proofs.Turns.{Scanned, scan-start, first-bad, second-bad, two-passed, none-left, one-left}
+use Rattle.readable.proofs.records_bounded.Tie as tie
 
 abbrev Inv-loop : tie.InvT-loop
 Inv-loop b at count x y z k₀ left₀ k left = Scanned (λ l j. bounded l j (x ∷ y ∷ z ∷ [])) 3 b at count k left

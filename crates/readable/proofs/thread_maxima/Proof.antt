@@ -2,8 +2,8 @@
 use native.Mathlib.Omega.{arith}
 use borrow.Author.Needs.{needs}
 use Rattle.readable.proofs.thread_maxima.Statement.{statement}
-use Rattle.readable.proofs.thread_maxima.Tie as tie
 use Rattle.region.proofs.Shapes.{sizes}
+use Rattle.readable.proofs.thread_maxima.Tie as tie
 
 node-count-requires : tie.Need-node-count-requires
 node-count-requires c κs = search needs

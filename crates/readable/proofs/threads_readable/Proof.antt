@@ -1,9 +1,9 @@
 -- `readable::threads_readable` meets its contract: the loop keeps `Scanned`. Assumes nothing.
 use native.Mathlib.Omega.{arith}
 use Rattle.readable.proofs.threads_readable.Statement.{statement}
-use Rattle.readable.proofs.threads_readable.Tie as tie
 use Rattle.readable.specs.Readable.{threadReadable}
 use Rattle.readable.proofs.Turns.{Scanned, scan-start, scan-more, scan-bad, scan-end, threads-ask}
+use Rattle.readable.proofs.threads_readable.Tie as tie
 
 abbrev Inv-loop : tie.InvT-loop
 Inv-loop b at shape maxima k₀ left₀ k left = Scanned (threadReadable shape) 33 b at (shape .threads) k left

@@ -1,10 +1,10 @@
 -- `readable::words_bounded` meets its contract: the loop keeps `Passed`. Assumes nothing.
 use native.Mathlib.Omega.{arith}
 use Rattle.readable.proofs.words_bounded.Statement.{statement}
-use Rattle.readable.proofs.words_bounded.Tie as tie
 use Prim.Native.Nat.{_-_}
 use lib.ListN.{length}
 use Rattle.readable.proofs.Turns.{Passed, pass-start, pass-more, pass-bad, pass-end}
+use Rattle.readable.proofs.words_bounded.Tie as tie
 
 abbrev Inv-loop : tie.InvT-loop
 Inv-loop b at maxima i₀ i = Passed b at maxima i

@@ -1,8 +1,8 @@
 -- `run::refusal` meets its contract: the first test that fails decides. Assumes nothing.
 use borrow.Author.Needs.{needs}
 use Rattle.run.proofs.refusal.Statement.{statement}
-use Rattle.run.proofs.refusal.Tie as tie
 use Rattle.run.proofs.Turns.{run-unreadable, part-of-turn, too-many, no-room, run-accepted}
+use Rattle.run.proofs.refusal.Tie as tie
 
 is-readable-requires : tie.Need-is-readable-requires
 is-readable-requires c κs = search needs

@@ -1,8 +1,8 @@
 -- `run::run` meets its contract: a refused run leaves both slices, another serves its turns. Assumes nothing.
 use borrow.Author.Needs.{needs}
 use Rattle.run.proofs.run.Statement.{statement}
-use Rattle.run.proofs.run.Tie as tie
 use Rattle.run.proofs.Turns.{run-refused, run-readable, run-asks, run-served}
+use Rattle.run.proofs.run.Tie as tie
 
 refusal-requires : tie.Need-refusal-requires
 refusal-requires c κs = search needs

@@ -1,10 +1,10 @@
 -- `run::serve` meets its contract: the turn, its answer's words and its accesses are the definition's. Assumes nothing.
 use borrow.Author.Needs.{needs}
 use Rattle.run.proofs.serve.Statement.{statement}
-use Rattle.run.proofs.serve.Tie as tie
 use native.Mathlib.Omega.{arith}
 use Rattle.run.proofs.Laws.{one-access}
 use Rattle.run.proofs.Turns.{one-served}
+use Rattle.run.proofs.serve.Tie as tie
 
 mul-load-word : tie.Need-mul-load-word
 mul-load-word c = search needs

@@ -1,9 +1,9 @@
 -- `run::serve_all` meets its contract: the loop keeps `Serving`. Assumes nothing.
 use Rattle.run.proofs.serve_all.Statement.{statement}
-use Rattle.run.proofs.serve_all.Tie as tie
 use native.Mathlib.Omega.{arith}
 use Prim.Native.Nat.{_-_}
 use Rattle.run.proofs.Turns.{Serving, serve-start, serve-asks, serve-more, serve-stop, serve-end}
+use Rattle.run.proofs.serve_all.Tie as tie
 
 abbrev Inv-loop : tie.InvT-loop
 Inv-loop f b₀ schedule limit answers₀ count turns₀ accesses₀ b answers turns accesses =

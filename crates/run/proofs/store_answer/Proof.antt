@@ -1,8 +1,8 @@
 -- `run::store_answer` meets its contract: the three words are the answer's. Assumes nothing.
 use borrow.Author.Needs.{needs}
 use Rattle.run.proofs.store_answer.Statement.{statement}
-use Rattle.run.proofs.store_answer.Tie as tie
 use Rattle.run.proofs.Turns.{answer-stored}
+use Rattle.run.proofs.store_answer.Tie as tie
 
 code-requires : tie.Need-code-requires
 code-requires c κs = search needs

@@ -1,8 +1,8 @@
 -- `words::load_word` meets its contract: the four bytes joined are the word. Assumes nothing.
 use borrow.Author.Needs.{needs}
 use Rattle.words.proofs.load_word.Statement.{statement}
-use Rattle.words.proofs.load_word.Tie as tie
 use Rattle.words.specs.Word.{word}
+use Rattle.words.proofs.load_word.Tie as tie
 
 mul-at : tie.Need-mul-at
 mul-at c = search needs

@@ -1,10 +1,10 @@
 -- `words::load_words` meets its contract: the loop keeps `Loaded`. Assumes nothing.
 use native.Mathlib.Omega.{arith}
 use Rattle.words.proofs.load_words.Statement.{statement}
-use Rattle.words.proofs.load_words.Tie as tie
 use Prim.Native.Nat.{_-_}
 use lib.ListN.{length}
 use Rattle.words.proofs.Loops.{Loaded, load-start, load-more, load-end}
+use Rattle.words.proofs.load_words.Tie as tie
 
 abbrev Inv-loop : tie.InvT-loop
 Inv-loop b at out₀ i₀ out i = Loaded b at out₀ out i

@@ -2,10 +2,10 @@
 use native.Mathlib.Omega.{arith}
 use borrow.Author.Needs.{needs}
 use Rattle.words.proofs.store_word.Statement.{statement}
-use Rattle.words.proofs.store_word.Tie as tie
 use lib.ListN.{length-set}
 use Rattle.words.specs.Word.{setWord}
 use mathlib.Core.Path.{refl}
+use Rattle.words.proofs.store_word.Tie as tie
 
 mul-at : tie.Need-mul-at
 mul-at c = search needs

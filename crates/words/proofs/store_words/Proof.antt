@@ -1,10 +1,10 @@
 -- `words::store_words` meets its contract: the loop keeps `Stored`. Assumes nothing.
 use native.Mathlib.Omega.{arith}
 use Rattle.words.proofs.store_words.Statement.{statement}
-use Rattle.words.proofs.store_words.Tie as tie
 use Prim.Native.Nat.{_-_}
 use lib.ListN.{length}
 use Rattle.words.proofs.Loops.{Stored, store-start, store-more, store-end}
+use Rattle.words.proofs.store_words.Tie as tie
 
 abbrev Inv-loop : tie.InvT-loop
 Inv-loop b₀ at vs i₀ b i = Stored b₀ at vs b i

@@ -1,8 +1,8 @@
 -- `access::effect::carry_cleaning` meets its contract: nothing, or a cleaning. Assumes nothing.
 use borrow.Author.Needs.{needs}
 use Rattle.access.proofs.effect.carry_cleaning.Statement.{statement}
-use Rattle.access.proofs.effect.carry_cleaning.Tie as tie
 use Rattle.access.proofs.Ways.{nothing-done, cleaned, no-growth, no-push, no-pop, no-exchange}
+use Rattle.access.proofs.effect.carry_cleaning.Tie as tie
 
 enum-told : tie.Need-enum-told
 enum-told c = search needs

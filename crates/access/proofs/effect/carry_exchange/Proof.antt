@@ -1,8 +1,8 @@
 -- `access::effect::carry_exchange` meets its contract: nothing, or an exchange. Assumes nothing.
 use borrow.Author.Needs.{needs}
 use Rattle.access.proofs.effect.carry_exchange.Statement.{statement}
-use Rattle.access.proofs.effect.carry_exchange.Tie as tie
 use Rattle.access.proofs.Ways.{nothing-done, exchanged, no-growth, no-push, no-pop, no-cleaning}
+use Rattle.access.proofs.effect.carry_exchange.Tie as tie
 
 enum-told : tie.Need-enum-told
 enum-told c = search needs

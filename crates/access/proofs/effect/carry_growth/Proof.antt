@@ -1,8 +1,8 @@
 -- `access::effect::carry_growth` meets its contract: nothing, or growth. Assumes nothing.
 use borrow.Author.Needs.{needs}
 use Rattle.access.proofs.effect.carry_growth.Statement.{statement}
-use Rattle.access.proofs.effect.carry_growth.Tie as tie
 use Rattle.access.proofs.Ways.{nothing-done, grown, no-push, no-pop, no-exchange, no-cleaning}
+use Rattle.access.proofs.effect.carry_growth.Tie as tie
 
 enum-told : tie.Need-enum-told
 enum-told c = search needs

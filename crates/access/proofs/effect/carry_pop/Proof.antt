@@ -1,8 +1,8 @@
 -- `access::effect::carry_pop` meets its contract: nothing, or a pop. Assumes nothing.
 use borrow.Author.Needs.{needs}
 use Rattle.access.proofs.effect.carry_pop.Statement.{statement}
-use Rattle.access.proofs.effect.carry_pop.Tie as tie
 use Rattle.access.proofs.Ways.{nothing-done, popped, no-growth, no-push, no-exchange, no-cleaning}
+use Rattle.access.proofs.effect.carry_pop.Tie as tie
 
 enum-told : tie.Need-enum-told
 enum-told c = search needs

@@ -1,8 +1,8 @@
 -- `access::effect::carry_push` meets its contract: nothing, or a push. Assumes nothing.
 use borrow.Author.Needs.{needs}
 use Rattle.access.proofs.effect.carry_push.Statement.{statement}
-use Rattle.access.proofs.effect.carry_push.Tie as tie
 use Rattle.access.proofs.Ways.{nothing-done, pushed, no-growth, no-pop, no-exchange, no-cleaning}
+use Rattle.access.proofs.effect.carry_push.Tie as tie
 
 enum-told : tie.Need-enum-told
 enum-told c = search needs

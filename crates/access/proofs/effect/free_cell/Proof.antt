@@ -1,8 +1,8 @@
 -- `access::effect::free_cell` meets its contract. Assumes nothing.
 use borrow.Author.Needs.{needs}
 use Rattle.access.proofs.effect.free_cell.Statement.{statement}
-use Rattle.access.proofs.effect.free_cell.Tie as tie
 use Rattle.access.proofs.Ways.{cell-freed}
+use Rattle.access.proofs.effect.free_cell.Tie as tie
 
 load-free-requires : tie.Need-load-free-requires
 load-free-requires c κs = search needs

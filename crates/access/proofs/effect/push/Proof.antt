@@ -1,8 +1,8 @@
 -- `access::effect::push` meets its contract. Assumes nothing.
 use borrow.Author.Needs.{needs}
 use Rattle.access.proofs.effect.push.Statement.{statement}
-use Rattle.access.proofs.effect.push.Tie as tie
 use Rattle.access.proofs.Ways.{cell-pushed}
+use Rattle.access.proofs.effect.push.Tie as tie
 
 load-cell-requires : tie.Need-load-cell-requires
 load-cell-requires c κs = search needs

@@ -1,8 +1,8 @@
 -- `access::order::item_le` meets its contract. Assumes nothing.
 use Rattle.access.proofs.order.item_le.Statement.{statement}
-use Rattle.access.proofs.order.item_le.Tie as tie
 use mathlib.Core.Path.{refl}
 use Rattle.access.specs.Order.{itemLe}
+use Rattle.access.proofs.order.item_le.Tie as tie
 
 returns : tie.Need-returns
 unfolding itemLe

@@ -1,10 +1,10 @@
 -- `access::order::item_lt` meets its contract. Assumes nothing.
 use borrow.Author.Needs.{needs}
 use Rattle.access.proofs.order.item_lt.Statement.{statement}
-use Rattle.access.proofs.order.item_lt.Tie as tie
 use mathlib.Core.Path.{ap}
 use mathlib.Core.Bool.{not}
 use Rattle.access.specs.Order.{itemLt}
+use Rattle.access.proofs.order.item_lt.Tie as tie
 
 item-le-requires : tie.Need-item-le-requires
 item-le-requires c κs = search needs

@@ -1,7 +1,7 @@
 -- `access::order::value_of` meets its contract. Assumes nothing.
 use Rattle.access.proofs.order.value_of.Statement.{statement}
-use Rattle.access.proofs.order.value_of.Tie as tie
 use Rattle.access.proofs.Ways.{empty-value, head-value}
+use Rattle.access.proofs.order.value_of.Tie as tie
 
 returns : tie.Need-returns
 returns c = search empty-value

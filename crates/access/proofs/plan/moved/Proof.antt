@@ -1,8 +1,8 @@
 -- `access::plan::moved` meets its contract. Assumes nothing.
 use borrow.Author.Needs.{needs}
 use Rattle.access.proofs.plan.moved.Statement.{statement}
-use Rattle.access.proofs.plan.moved.Tie as tie
 use Rattle.access.specs.Plan.{moved}
+use Rattle.access.proofs.plan.moved.Tie as tie
 
 plan-of-requires : tie.Need-plan-of-requires
 plan-of-requires c κs = search needs

@@ -1,9 +1,9 @@
 -- `access::plan::on_to` meets its contract. Assumes nothing.
 use borrow.Author.Needs.{needs}
 use Rattle.access.proofs.plan.on_to.Statement.{statement}
-use Rattle.access.proofs.plan.on_to.Tie as tie
 use mathlib.Core.Path.{ap, _∙_}
 use Rattle.access.specs.Plan.{moved, onTo}
+use Rattle.access.proofs.plan.on_to.Tie as tie
 
 at-place-requires : tie.Need-at-place-requires
 at-place-requires c κs = search needs

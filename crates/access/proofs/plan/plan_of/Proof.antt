@@ -1,8 +1,8 @@
 -- `access::plan::plan_of` meets its contract. Assumes nothing.
 use Rattle.access.proofs.plan.plan_of.Statement.{statement}
-use Rattle.access.proofs.plan.plan_of.Tie as tie
 use mathlib.Core.Path.{refl}
 use Rattle.access.specs.Plan.{plan}
+use Rattle.access.proofs.plan.plan_of.Tie as tie
 
 returns : tie.Need-returns
 unfolding plan

@@ -1,8 +1,8 @@
 -- `access::plan::refused` meets its contract. Assumes nothing.
 use borrow.Author.Needs.{needs}
 use Rattle.access.proofs.plan.refused.Statement.{statement}
-use Rattle.access.proofs.plan.refused.Tie as tie
 use Rattle.access.specs.Plan.{refused}
+use Rattle.access.proofs.plan.refused.Tie as tie
 
 plan-of-requires : tie.Need-plan-of-requires
 plan-of-requires c κs = search needs

@@ -1,8 +1,8 @@
 -- `access::read::is_dirty` meets its contract. Assumes nothing.
 use Rattle.access.proofs.read.is_dirty.Statement.{statement}
-use Rattle.access.proofs.read.is_dirty.Tie as tie
 use mathlib.Core.Path.{refl}
 use Rattle.access.specs.Read.{isDirty}
+use Rattle.access.proofs.read.is_dirty.Tie as tie
 
 returns : tie.Need-returns
 unfolding isDirty

@@ -1,8 +1,8 @@
 -- `access::read::is_level` meets its contract. Assumes nothing.
 use borrow.Author.Needs.{needs}
 use Rattle.access.proofs.read.is_level.Statement.{statement}
-use Rattle.access.proofs.read.is_level.Tie as tie
 use Rattle.access.specs.Read.{isLevel}
+use Rattle.access.proofs.read.is_level.Tie as tie
 
 is-between-requires : tie.Need-is-between-requires
 is-between-requires c κs = search needs

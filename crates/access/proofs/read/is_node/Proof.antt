@@ -1,8 +1,8 @@
 -- `access::read::is_node` meets its contract. Assumes nothing.
 use borrow.Author.Needs.{needs}
 use Rattle.access.proofs.read.is_node.Statement.{statement}
-use Rattle.access.proofs.read.is_node.Tie as tie
 use Rattle.access.proofs.Ways.{no-node, some-node}
+use Rattle.access.proofs.read.is_node.Tie as tie
 
 returns : tie.Need-returns
 returns c = search no-node

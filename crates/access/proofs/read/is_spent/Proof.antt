@@ -1,8 +1,8 @@
 -- `access::read::is_spent` meets its contract. Assumes nothing.
 use Rattle.access.proofs.read.is_spent.Statement.{statement}
-use Rattle.access.proofs.read.is_spent.Tie as tie
 use mathlib.Core.Path.{refl}
 use Rattle.access.specs.Read.{isSpent}
+use Rattle.access.proofs.read.is_spent.Tie as tie
 
 returns : tie.Need-returns
 unfolding isSpent

@@ -1,8 +1,8 @@
 -- `access::read::read_node` meets its contract. Assumes nothing.
 use borrow.Author.Needs.{needs}
 use Rattle.access.proofs.read.read_node.Statement.{statement}
-use Rattle.access.proofs.read.read_node.Tie as tie
 use Rattle.access.proofs.Ways.{node-read}
+use Rattle.access.proofs.read.read_node.Tie as tie
 
 load-node-requires : tie.Need-load-node-requires
 load-node-requires c κs = search needs

@@ -1,7 +1,7 @@
 -- `access::read::same_node` meets its contract. Assumes nothing.
 use Rattle.access.proofs.read.same_node.Statement.{statement}
-use Rattle.access.proofs.read.same_node.Tie as tie
 use Rattle.access.proofs.Ways.{other-first, other-dirty, same-rest}
+use Rattle.access.proofs.read.same_node.Tie as tie
 
 returns : tie.Need-returns
 returns c = search other-first

@@ -1,9 +1,9 @@
 -- `access::read::updated_node` meets its contract. Assumes nothing.
 use Rattle.access.proofs.read.updated_node.Statement.{statement}
-use Rattle.access.proofs.read.updated_node.Tie as tie
 use mathlib.Core.Path.{refl}
 use Rattle.access.specs.Read.{updated}
 use Rattle.access.proofs.Ways.{counts-up}
+use Rattle.access.proofs.read.updated_node.Tie as tie
 
 add-t4 : tie.Need-add-t4
 add-t4 c = record { fits = search counts-up }

@@ -1,8 +1,8 @@
 -- `machine::beginnings::begin_put` meets its contract: a refused put leaves the slice, another begins. Assumes nothing.
 use borrow.Author.Needs.{needs}
 use Rattle.machine.proofs.beginnings.begin_put.Statement.{statement}
-use Rattle.machine.proofs.beginnings.begin_put.Tie as tie
 use Rattle.machine.proofs.Ways.{put-readable, put-within, put-begins, put-refused}
+use Rattle.machine.proofs.beginnings.begin_put.Tie as tie
 
 put-refusal-requires : tie.Need-put-refusal-requires
 put-refusal-requires c κs = search needs

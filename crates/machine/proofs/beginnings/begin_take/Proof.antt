@@ -1,8 +1,8 @@
 -- `machine::beginnings::begin_take` meets its contract: a refused take leaves the slice, another begins. Assumes nothing.
 use borrow.Author.Needs.{needs}
 use Rattle.machine.proofs.beginnings.begin_take.Statement.{statement}
-use Rattle.machine.proofs.beginnings.begin_take.Tie as tie
 use Rattle.machine.proofs.Ways.{take-readable, take-within, take-begins, take-refused}
+use Rattle.machine.proofs.beginnings.begin_take.Tie as tie
 
 take-refusal-requires : tie.Need-take-refusal-requires
 take-refusal-requires c κs = search needs

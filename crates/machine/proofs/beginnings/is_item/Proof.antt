@@ -1,7 +1,7 @@
 -- `machine::beginnings::is_item` meets its contract. Assumes nothing.
 use Rattle.machine.proofs.beginnings.is_item.Statement.{statement}
-use Rattle.machine.proofs.beginnings.is_item.Tie as tie
 use Rattle.machine.proofs.Ways.{no-key, some-key}
+use Rattle.machine.proofs.beginnings.is_item.Tie as tie
 
 returns : tie.Need-returns
 returns c = search no-key

@@ -1,8 +1,8 @@
 -- `machine::beginnings::may_put` meets its contract. Assumes nothing.
 use Rattle.machine.proofs.beginnings.may_put.Statement.{statement}
-use Rattle.machine.proofs.beginnings.may_put.Tie as tie
 use mathlib.Core.Path.{refl}
 use Rattle.machine.specs.Begin.{mayPut}
+use Rattle.machine.proofs.beginnings.may_put.Tie as tie
 
 returns : tie.Need-returns
 unfolding mayPut

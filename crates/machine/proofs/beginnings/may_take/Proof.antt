@@ -1,8 +1,8 @@
 -- `machine::beginnings::may_take` meets its contract. Assumes nothing.
 use Rattle.machine.proofs.beginnings.may_take.Statement.{statement}
-use Rattle.machine.proofs.beginnings.may_take.Tie as tie
 use mathlib.Core.Path.{refl}
 use Rattle.machine.specs.Begin.{mayTake}
+use Rattle.machine.proofs.beginnings.may_take.Tie as tie
 
 returns : tie.Need-returns
 unfolding mayTake

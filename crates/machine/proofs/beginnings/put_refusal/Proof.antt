@@ -1,8 +1,8 @@
 -- `machine::beginnings::put_refusal` meets its contract: the first test that fails decides. Assumes nothing.
 use borrow.Author.Needs.{needs}
 use Rattle.machine.proofs.beginnings.put_refusal.Statement.{statement}
-use Rattle.machine.proofs.beginnings.put_refusal.Tie as tie
 use Rattle.machine.proofs.Ways.{read-well, frame-fits, put-unreadable, put-no-thread, put-no-item, put-not-permitted, put-permitted}
+use Rattle.machine.proofs.beginnings.put_refusal.Tie as tie
 
 is-readable-requires : tie.Need-is-readable-requires
 is-readable-requires c κs = search needs

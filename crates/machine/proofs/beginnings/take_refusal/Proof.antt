@@ -1,8 +1,8 @@
 -- `machine::beginnings::take_refusal` meets its contract: the first test that fails decides. Assumes nothing.
 use borrow.Author.Needs.{needs}
 use Rattle.machine.proofs.beginnings.take_refusal.Statement.{statement}
-use Rattle.machine.proofs.beginnings.take_refusal.Tie as tie
 use Rattle.machine.proofs.Ways.{read-well, frame-fits, take-unreadable, take-no-thread, take-not-permitted, take-busy, take-accepted}
+use Rattle.machine.proofs.beginnings.take_refusal.Tie as tie
 
 is-readable-requires : tie.Need-is-readable-requires
 is-readable-requires c κs = search needs

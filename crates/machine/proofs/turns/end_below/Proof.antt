@@ -1,8 +1,8 @@
 -- `machine::turns::end_below` meets its contract: nothing, or the record and then the effect. Assumes nothing.
 use borrow.Author.Needs.{needs}
 use Rattle.machine.proofs.turns.end_below.Statement.{statement}
-use Rattle.machine.proofs.turns.end_below.Tie as tie
 use Rattle.machine.proofs.Ways.{stayed, carried}
+use Rattle.machine.proofs.turns.end_below.Tie as tie
 
 stays-put-requires : tie.Need-stays-put-requires
 stays-put-requires c κs = search needs

@@ -1,8 +1,8 @@
 -- `machine::turns::keep` meets its contract: nothing, or the record alone, where the plan has no effect. Assumes nothing.
 use borrow.Author.Needs.{needs}
 use Rattle.machine.proofs.turns.keep.Statement.{statement}
-use Rattle.machine.proofs.turns.keep.Tie as tie
 use Rattle.machine.proofs.Ways.{stayed, kept}
+use Rattle.machine.proofs.turns.keep.Tie as tie
 
 stays-put-requires : tie.Need-stays-put-requires
 stays-put-requires c κs = search needs

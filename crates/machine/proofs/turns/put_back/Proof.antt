@@ -1,8 +1,8 @@
 -- `machine::turns::put_back` meets its contract: the record of an ended operation is idle as it stands. Assumes nothing.
 use borrow.Author.Needs.{needs}
 use Rattle.machine.proofs.turns.put_back.Statement.{statement}
-use Rattle.machine.proofs.turns.put_back.Tie as tie
 use Rattle.machine.proofs.Ways.{put-idle}
+use Rattle.machine.proofs.turns.put_back.Tie as tie
 
 ends-requires : tie.Need-ends-requires
 ends-requires c κs = search needs

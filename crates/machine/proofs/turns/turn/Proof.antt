@@ -2,9 +2,9 @@
 -- only reads has no effect. Assumes nothing.
 use borrow.Author.Needs.{needs}
 use Rattle.machine.proofs.turns.turn.Statement.{statement}
-use Rattle.machine.proofs.turns.turn.Tie as tie
 use Rattle.machine.proofs.PlaceEffects.{keeps-read-depth, keeps-read-leaf, keeps-read-ancestor, keeps-read-target, keeps-read-parent, keeps-read-root, keeps-mend-read-node, keeps-mend-read-depth, keeps-mend-read-left, keeps-mend-read-right, cleans, exchanges, grows, pops, pushes-at-root, pushes-below}
 use Rattle.machine.proofs.Ways.{no-turn, rested, turned}
+use Rattle.machine.proofs.turns.turn.Tie as tie
 
 is-between-requires : tie.Need-is-between-requires
 is-between-requires c κs = search needs

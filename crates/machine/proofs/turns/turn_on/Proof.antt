@@ -1,8 +1,8 @@
 -- `machine::turns::turn_on` meets its contract: the region is not readable, or the turn is made in its frame. Assumes nothing.
 use borrow.Author.Needs.{needs}
 use Rattle.machine.proofs.turns.turn_on.Statement.{statement}
-use Rattle.machine.proofs.turns.turn_on.Tie as tie
 use Rattle.machine.proofs.Ways.{turn-unreadable, turn-readable, turn-within, turned-on}
+use Rattle.machine.proofs.turns.turn_on.Tie as tie
 
 is-readable-requires : tie.Need-is-readable-requires
 is-readable-requires c κs = search needs

@@ -1,8 +1,8 @@
 -- `region::level::ancestor_at` meets its contract: a node is halved once for each level between. Assumes nothing.
 use borrow.Author.Needs.{needs}
 use Rattle.region.proofs.level.ancestor_at.Statement.{statement}
-use Rattle.region.proofs.level.ancestor_at.Tie as tie
 use Rattle.region.proofs.Levels.{ancestor-itself, few-halvings, ancestor-halved}
+use Rattle.region.proofs.level.ancestor_at.Tie as tie
 
 level-of-requires : tie.Need-level-of-requires
 level-of-requires c κs = search needs

@@ -1,8 +1,8 @@
 -- `region::level::level_of` meets its contract: the digits of a number are what its leading zeros leave of 32. Assumes nothing.
 use Rattle.region.proofs.level.level_of.Statement.{statement}
-use Rattle.region.proofs.level.level_of.Tie as tie
 use lib.Count.{leading-le}
 use Rattle.region.proofs.Levels.{level-leading}
+use Rattle.region.proofs.level.level_of.Tie as tie
 
 sub-result : tie.Need-sub-result
 sub-result c = leading-le 32 (c .args .n)

@@ -2,9 +2,9 @@
 use native.Mathlib.Omega.{arith}
 use borrow.Author.Needs.{needs}
 use Rattle.region.proofs.level.mark_of.Statement.{statement}
-use Rattle.region.proofs.level.mark_of.Tie as tie
 use Prim.Native.Nat.{_-_}
 use Rattle.region.proofs.Shapes.{shifted}
+use Rattle.region.proofs.level.mark_of.Tie as tie
 
 sub-result : tie.Need-sub-result
 sub-result c = search needs

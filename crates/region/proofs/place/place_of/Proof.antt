@@ -1,10 +1,10 @@
 -- `region::place::place_of` meets its contract: in each arm the number is known, and in the last it is none of them. Assumes nothing.
 use borrow.Author.Needs.{needs}
 use Rattle.region.proofs.place.place_of.Statement.{statement}
-use Rattle.region.proofs.place.place_of.Tie as tie
 use mathlib.Core.Path.{sym, ap}
 use Rattle.region.specs.Place.{placeOf}
 use Rattle.region.proofs.Places.{no-place}
+use Rattle.region.proofs.place.place_of.Tie as tie
 
 returns : tie.Need-returns
 returns c = search needs

@@ -1,9 +1,9 @@
 -- `region::record::load_cell_at` meets its contract: the words of the run, by their places. Assumes nothing.
 use borrow.Author.Needs.{needs}
 use Rattle.region.proofs.record.load_cell_at.Statement.{statement}
-use Rattle.region.proofs.record.load_cell_at.Tie as tie
 use mathlib.Core.Path.{ap}
 use Rattle.region.specs.Record.{cellOf, cellAt}
+use Rattle.region.proofs.record.load_cell_at.Tie as tie
 
 slice-aggregate-load-words : tie.Need-slice-aggregate-load-words
 slice-aggregate-load-words c = search needs

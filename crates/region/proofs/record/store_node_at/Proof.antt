@@ -1,8 +1,8 @@
 -- `region::record::store_node_at` meets its contract: the record's words are stored as a run. Assumes nothing.
 use borrow.Author.Needs.{needs}
 use Rattle.region.proofs.record.store_node_at.Statement.{statement}
-use Rattle.region.proofs.record.store_node_at.Tie as tie
 use Rattle.region.specs.Record.{setNodeAt}
+use Rattle.region.proofs.record.store_node_at.Tie as tie
 
 slice-aggregate-store-words : tie.Need-slice-aggregate-store-words
 slice-aggregate-store-words c = search needs

@@ -1,8 +1,8 @@
 -- `region::shape::is_between` meets its contract. Assumes nothing.
 use Rattle.region.proofs.shape.is_between.Statement.{statement}
-use Rattle.region.proofs.shape.is_between.Tie as tie
 use mathlib.Core.Path.{sym}
 use Rattle.region.proofs.Shapes.{below, from-least}
+use Rattle.region.proofs.shape.is_between.Tie as tie
 
 returns : tie.Need-returns
 returns c = sym (below _ _ _ (c .if1 .taken))

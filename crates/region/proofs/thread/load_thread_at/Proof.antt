@@ -2,8 +2,8 @@
 -- Assumes nothing.
 use borrow.Author.Needs.{needs}
 use Rattle.region.proofs.thread.load_thread_at.Statement.{statement}
-use Rattle.region.proofs.thread.load_thread_at.Tie as tie
 use Rattle.region.proofs.Threads.{thread-loaded}
+use Rattle.region.proofs.thread.load_thread_at.Tie as tie
 
 slice-aggregate-load-words : tie.Need-slice-aggregate-load-words
 slice-aggregate-load-words c = search needs

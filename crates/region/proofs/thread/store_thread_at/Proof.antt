@@ -1,8 +1,8 @@
 -- `region::thread::store_thread_at` meets its contract: the first run is stored, and the copies behind it. Assumes nothing.
 use borrow.Author.Needs.{needs}
 use Rattle.region.proofs.thread.store_thread_at.Statement.{statement}
-use Rattle.region.proofs.thread.store_thread_at.Tie as tie
 use Rattle.region.proofs.Threads.{thread-stored}
+use Rattle.region.proofs.thread.store_thread_at.Tie as tie
 
 number-requires : tie.Need-number-requires
 number-requires c κs = search needs

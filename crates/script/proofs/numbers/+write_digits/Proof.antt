@@ -6,11 +6,11 @@ use borrow.Fn.Kinds.{In}
 use borrow.Fn.PlainCycle.{Measures, is, falls, and}
 use Rattle.script.proofs.Decimals.{one-digit, digit-room, after-digit, last-digit, fewer-digits, last-room, after-last}
 use Rattle.script.proofs.Texts.{set-length}
+use Rattle.script.proofs.numbers.+write_digits.{statement}
+use Rattle.script.proofs.numbers.+write_digits.Tie.{close}
 use Rattle.script.proofs.numbers.write_digits.Reads as write-digits
 use Rattle.script.proofs.numbers.write_digits.Kinds as write-digits-kinds
 use Rattle.script.proofs.numbers.+write_digits.Lts-write_digits as write-digits-lts
-use Rattle.script.proofs.numbers.+write_digits.{statement}
-use Rattle.script.proofs.numbers.+write_digits.Tie.{close}
 
 abbrev μ-write-digits : Measures 1 write-digits-kinds.ps ℕ
 μ-write-digits κs a = a .1 .1 .0

@@ -28,8 +28,6 @@ use denote.Ref.{RefT, NamedLft, now}
 use denote.Signature.{plain, namedLft}
 use denote.Slice.{sliceVal, ShrSlice, slice-vals, shr-slice-tells, shr-slice-lawful, shr-slice-copy}
 use denote.Steps.{owned, peeks, heard, nothing}
-use denote.Enum.Laws as EL
-use denote.Struct.Laws as LL
 use denote.Triple.Statement.{Contract, Triple}
 use denote.Triple.Call.{calls-at}
 use denote.Triple.Entry.{Vals, onEntry}
@@ -41,19 +39,21 @@ use denote.Triple.Clauses.{ensured, lasts}
 use Rattle.script.specs.Reading.{readLine}
 use Rattle.script.specs.declared.reader.Reader.{Reader}
 use Rattle.script.specs.declared.reading.Line.{Line}
+use Rattle.script.proofs.reader.open.Symbol.{name as #open}
+use Rattle.script.proofs.reader.next_line.Symbol.{name as #next-line}
+use Rattle.script.proofs.reader.line_at.Key.{name as #line-at}
+use denote.Enum.Laws as EL
+use denote.Struct.Laws as LL
 use Rattle.script.proofs.reader.Reader as T
 use Rattle.script.proofs.reader.Reader.Laws as T′
 use Rattle.script.proofs.reading.Line as S
 use Rattle.script.proofs.reading.Line.Laws as S′
 use Rattle.script.proofs.reader.open as opened
 use Rattle.script.proofs.reader.open.Symbol as open-def
-use Rattle.script.proofs.reader.open.Symbol.{name as #open}
 use Rattle.script.proofs.reader.open.Met as open-thm
 use Rattle.script.proofs.reader.next_line as next
 use Rattle.script.proofs.reader.next_line.Symbol as next-def
-use Rattle.script.proofs.reader.next_line.Symbol.{name as #next-line}
 use Rattle.script.proofs.reader.next_line.Met as next-thm
-use Rattle.script.proofs.reader.line_at.Key.{name as #line-at}
 use Rattle.script.proofs.reader.line_at as line
 use Rattle.script.proofs.reader.line_at.Statement as stated
 use Rattle.script.proofs.reader.line_at.Code as code

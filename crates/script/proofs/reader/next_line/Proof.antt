@@ -30,9 +30,7 @@ use denote.Ref.{now}
 use denote.Signature.{namedLft}
 use denote.Slice.{sliceVal, ShrSlice}
 use denote.Steps.{owned, peeks, heard, nothing}
-use denote.Enum.Laws as EL
 use denote.Struct.Declared.{Declared}
-use denote.Struct.Laws as LL
 use denote.Struct.Rest.{all-own, ownAt, rest, own-open, own-out}
 use denote.Struct.Values.{Values}
 use denote.Triple.Statement.{Contract, Triple}
@@ -46,15 +44,17 @@ use denote.Triple.Clauses.{ensured, lasts}
 use Rattle.script.specs.Reading.{readLine}
 use Rattle.script.specs.declared.reader.Reader.{Reader}
 use Rattle.script.specs.declared.reading.Line.{Line}
+use Rattle.script.proofs.reading.read_line.Symbol.{name as #read-line}
+use Rattle.script.proofs.reader.next_line.Key.{name as #next-line}
+use denote.Enum.Laws as EL
+use denote.Struct.Laws as LL
 use Rattle.script.proofs.reader.Reader as T
 use Rattle.script.proofs.reader.Reader.Laws as T′
 use Rattle.script.proofs.reading.Line as S
 use Rattle.script.proofs.reading.Line.Laws as S′
 use Rattle.script.proofs.reading.read_line as step
 use Rattle.script.proofs.reading.read_line.Symbol as step-def
-use Rattle.script.proofs.reading.read_line.Symbol.{name as #read-line}
 use Rattle.script.proofs.reading.read_line.Met as step-thm
-use Rattle.script.proofs.reader.next_line.Key.{name as #next-line}
 use Rattle.script.proofs.reader.next_line as next
 use Rattle.script.proofs.reader.next_line.Statement as stated
 use Rattle.script.proofs.reader.next_line.Code as code

@@ -35,9 +35,9 @@ use denote.Triple.Table.{entered}
 use denote.Triple.Walked.{says, Stays, stay-none, stay-none-slice, walkOf, goes-none, goes-none-slice, Walks, ends-at, walked, walk-meets}
 use denote.Exit.{yes}
 use Rattle.script.specs.declared.reader.Reader.{Reader}
+use Rattle.script.proofs.reader.open.Key.{name as #open}
 use Rattle.script.proofs.reader.Reader as T
 use Rattle.script.proofs.reader.Reader.Laws as T′
-use Rattle.script.proofs.reader.open.Key.{name as #open}
 use Rattle.script.proofs.reader.open as opened
 use Rattle.script.proofs.reader.open.Statement as stated
 use Rattle.script.proofs.reader.open.Code as code

@@ -1,9 +1,9 @@
 -- `region::frame::Frame::load_cell` meets its contract: the number is 0, past the last, or names a record. Assumes nothing.
 use borrow.Author.Needs.{needs}
 use Rattle.region.proofs.frame.Frame.load_cell.Statement.{statement}
-use Rattle.region.proofs.frame.Frame.load_cell.Tie as tie
 use Rattle.region.specs.Shared.{cellIn}
 use Rattle.region.proofs.Entries.{load-zero, load-past, load-there}
+use Rattle.region.proofs.frame.Frame.load_cell.Tie as tie
 
 zero-requires : tie.Need-zero-requires
 zero-requires c κs = search needs

@@ -2,11 +2,11 @@
 use native.Mathlib.Omega.{arith}
 use borrow.Author.Needs.{needs}
 use Rattle.region.proofs.frame.Frame.load_node.Statement.{statement}
-use Rattle.region.proofs.frame.Frame.load_node.Tie as tie
 use Rattle.region.specs.Shared.{nodeIn}
 use Rattle.region.proofs.Entries.{load-zero, load-past, load-there}
 use Prim.Native.Nat.{_<_, _≤_}
 use Rattle.region.specs.Shape.{nodeCount}
+use Rattle.region.proofs.frame.Frame.load_node.Tie as tie
 
 empty-requires : tie.Need-empty-requires
 empty-requires c κs = search needs

@@ -2,10 +2,10 @@
 use native.Mathlib.Omega.{arith}
 use borrow.Author.Needs.{needs}
 use Rattle.region.proofs.frame.Frame.load_thread.Statement.{statement}
-use Rattle.region.proofs.frame.Frame.load_thread.Tie as tie
 use Rattle.region.specs.Shared.{threadIn}
 use Rattle.region.proofs.Entries.{load-zero, load-past, load-there, entry-end}
 use Rattle.region.specs.Frame.{threadsOf}
+use Rattle.region.proofs.frame.Frame.load_thread.Tie as tie
 
 idle-requires : tie.Need-idle-requires
 idle-requires c κs = search needs

@@ -2,9 +2,9 @@
 use native.Mathlib.Omega.{arith}
 use borrow.Author.Needs.{needs}
 use Rattle.region.proofs.frame.Frame.of.Statement.{statement}
-use Rattle.region.proofs.frame.Frame.of.Tie as tie
 use Rattle.region.proofs.Shapes.{sizes}
 use Rattle.region.specs.Frame.{frameOf}
+use Rattle.region.proofs.frame.Frame.of.Tie as tie
 
 node-count-requires : tie.Need-node-count-requires
 node-count-requires c κs = omega arith

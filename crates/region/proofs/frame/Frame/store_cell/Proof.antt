@@ -1,9 +1,9 @@
 -- `region::frame::Frame::store_cell` meets its contract: the number is 0, past the last, or names a record. Assumes nothing.
 use borrow.Author.Needs.{needs}
 use Rattle.region.proofs.frame.Frame.store_cell.Statement.{statement}
-use Rattle.region.proofs.frame.Frame.store_cell.Tie as tie
 use Rattle.region.specs.Shared.{setCellIn}
 use Rattle.region.proofs.Entries.{store-zero, store-past, store-there}
+use Rattle.region.proofs.frame.Frame.store_cell.Tie as tie
 
 returns : tie.Need-returns
 unfolding setCellIn

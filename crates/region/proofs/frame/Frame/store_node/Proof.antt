@@ -2,11 +2,11 @@
 use native.Mathlib.Omega.{arith}
 use borrow.Author.Needs.{needs}
 use Rattle.region.proofs.frame.Frame.store_node.Statement.{statement}
-use Rattle.region.proofs.frame.Frame.store_node.Tie as tie
 use Rattle.region.specs.Shared.{setNodeIn}
 use Rattle.region.proofs.Entries.{store-zero, store-past, store-there}
 use Prim.Native.Nat.{_<_, _≤_}
 use Rattle.region.specs.Shape.{nodeCount}
+use Rattle.region.proofs.frame.Frame.store_node.Tie as tie
 
 returns : tie.Need-returns
 unfolding setNodeIn

@@ -2,10 +2,10 @@
 use native.Mathlib.Omega.{arith}
 use borrow.Author.Needs.{needs}
 use Rattle.region.proofs.frame.Frame.store_thread.Statement.{statement}
-use Rattle.region.proofs.frame.Frame.store_thread.Tie as tie
 use Rattle.region.specs.Shared.{setThreadIn}
 use Rattle.region.proofs.Entries.{store-zero, store-past, store-there, entry-end}
 use Rattle.region.specs.Frame.{threadsOf}
+use Rattle.region.proofs.frame.Frame.store_thread.Tie as tie
 
 returns : tie.Need-returns
 unfolding setThreadIn

@@ -1,8 +1,8 @@
 -- `region::shape::Shape::fits` meets its contract: the first test that fails decides. Assumes nothing.
 use borrow.Author.Needs.{needs}
 use Rattle.region.proofs.shape.Shape.fits.Statement.{statement}
-use Rattle.region.proofs.shape.Shape.fits.Tie as tie
 use Rattle.region.proofs.Shapes.{bad-depth, some-depth, few-levels, bad-cells, bad-threads, last-test}
+use Rattle.region.proofs.shape.Shape.fits.Tie as tie
 
 is-between-requires : tie.Need-is-between-requires
 is-between-requires c κs = search needs

@@ -2,11 +2,10 @@
 use native.Mathlib.Omega.{arith}
 use borrow.Author.Needs.{needs}
 use Rattle.region.proofs.shape.Shape.node_count.Statement.{statement}
-use Rattle.region.proofs.shape.Shape.node_count.Tie as tie
 use mathlib.Core.Path.{ap}
-use Rattle.region.proofs.Shapes.{shifted}
-use Prim.Native.Nat.{_-_}
 use Rattle.region.proofs.Shapes.{shifted, sizes}
+use Prim.Native.Nat.{_-_}
+use Rattle.region.proofs.shape.Shape.node_count.Tie as tie
 
 cast-result : tie.Need-cast-result
 cast-result c = search needs

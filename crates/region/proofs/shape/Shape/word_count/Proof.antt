@@ -2,9 +2,9 @@
 use native.Mathlib.Omega.{arith}
 use borrow.Author.Needs.{needs}
 use Rattle.region.proofs.shape.Shape.word_count.Statement.{statement}
-use Rattle.region.proofs.shape.Shape.word_count.Tie as tie
 use Rattle.region.proofs.Shapes.{sizes}
 use Rattle.region.specs.Shape.{regionWords}
+use Rattle.region.proofs.shape.Shape.word_count.Tie as tie
 
 cast-cells : tie.Need-cast-cells
 cast-cells c = search needs

@@ -1,8 +1,8 @@
 -- `region::thread::Thread::at_place` meets its contract: each field computes to its value. Assumes nothing.
 use Rattle.region.proofs.thread.Thread.at_place.Statement.{statement}
-use Rattle.region.proofs.thread.Thread.at_place.Tie as tie
 use mathlib.Core.Path.{refl}
 use Rattle.region.specs.Thread.{atPlace}
+use Rattle.region.proofs.thread.Thread.at_place.Tie as tie
 
 returns : tie.Need-returns
 unfolding atPlace

@@ -1,8 +1,8 @@
 -- `region::thread::Thread::begun_put` meets its contract: each field computes to its value. Assumes nothing.
 use Rattle.region.proofs.thread.Thread.begun_put.Statement.{statement}
-use Rattle.region.proofs.thread.Thread.begun_put.Tie as tie
 use mathlib.Core.Path.{refl}
 use Rattle.region.specs.Thread.{begunPut}
+use Rattle.region.proofs.thread.Thread.begun_put.Tie as tie
 
 returns : tie.Need-returns
 unfolding begunPut

@@ -1,8 +1,8 @@
 -- `region::thread::Thread::begun_take` meets its contract. Assumes nothing.
 use borrow.Author.Needs.{needs}
 use Rattle.region.proofs.thread.Thread.begun_take.Statement.{statement}
-use Rattle.region.proofs.thread.Thread.begun_take.Tie as tie
 use Rattle.region.specs.Thread.{begunTake}
+use Rattle.region.proofs.thread.Thread.begun_take.Tie as tie
 
 at-place-requires : tie.Need-at-place-requires
 at-place-requires c κs = search needs

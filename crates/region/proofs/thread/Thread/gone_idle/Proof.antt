@@ -1,8 +1,8 @@
 -- `region::thread::Thread::gone_idle` meets its contract. Assumes nothing.
 use borrow.Author.Needs.{needs}
 use Rattle.region.proofs.thread.Thread.gone_idle.Statement.{statement}
-use Rattle.region.proofs.thread.Thread.gone_idle.Tie as tie
 use Rattle.region.specs.Thread.{goneIdle}
+use Rattle.region.proofs.thread.Thread.gone_idle.Tie as tie
 
 idle-requires : tie.Need-idle-requires
 idle-requires c κs = search needs

@@ -1,8 +1,8 @@
 -- `region::thread::Thread::returned` meets its contract: none waits, or the deepest level's ancestor is next. Assumes nothing.
 use borrow.Author.Needs.{needs}
 use Rattle.region.proofs.thread.Thread.returned.Statement.{statement}
-use Rattle.region.proofs.thread.Thread.returned.Tie as tie
 use Rattle.region.proofs.Returns.{back-to-root, answered, some-level, few-levels, mark-within, to-ancestor}
+use Rattle.region.proofs.thread.Thread.returned.Tie as tie
 
 at-place-requires : tie.Need-at-place-requires
 at-place-requires c κs = search needs

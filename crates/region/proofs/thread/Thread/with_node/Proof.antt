@@ -1,8 +1,8 @@
 -- `region::thread::Thread::with_node` meets its contract: each field computes to its value. Assumes nothing.
 use Rattle.region.proofs.thread.Thread.with_node.Statement.{statement}
-use Rattle.region.proofs.thread.Thread.with_node.Tie as tie
 use mathlib.Core.Path.{refl}
 use Rattle.region.specs.Thread.{withNode}
+use Rattle.region.proofs.thread.Thread.with_node.Tie as tie
 
 returns : tie.Need-returns
 unfolding withNode

@@ -1,9 +1,9 @@
--- What the functions of the run ask, and what a run answers and leaves (document 01, A run).
+-- What only the contracts of inner functions and the proofs need. A reader of the result may skip this file.
 use Prim.Native.Nat.{ℕ, _+_, _*_, _/_, _<_, _≤_}
 use mathlib.Core.Path.{_≡_}
 use mathlib.Core.List.{List}
 use lib.ListN.{length}
-use Rattle.region.specs.Frame.{Within}
+use Rattle.region.specs.Inner.{Within}
 use Rattle.region.specs.declared.frame.Frame.{Frame}
 use Rattle.machine.specs.Run.{runRefusal, runResult, soFar}
 use Rattle.run.specs.declared.Outcome.{Outcome}
