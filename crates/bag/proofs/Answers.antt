@@ -1,104 +1,198 @@
--- What a turn tells says what it answers, place by place over the plans. Assumes nothing.
+-- What a turn tells goes by its plan's effect and answer, and its answer says what it told: place by place over the plans. Assumes nothing.
 use Prim.Native.Nat.{ℕ, _+_, _*_}
-use mathlib.Core.Path.{_≡_, refl, sym, subst}
-use mathlib.Core.Bool.{Bool, not, _&&_}
+use mathlib.Core.Path.{_≡_, refl, sym, ap, subst, _∙_}
+use mathlib.Core.Bool.{Bool, true, false, not, _&&_, _||_}
 use mathlib.Core.List.{List}
 use lib.Dec.{eqb}
+use Rattle.region.specs.Frame.{frameOf}
 use Rattle.region.specs.Pick.{pick}
 use Rattle.region.specs.Shared.{Shared, sharedIn, threadIn}
-use Rattle.region.specs.Thread.{atPlace, withDepth}
+use Rattle.region.specs.Thread.{atPlace, goneIdle, mending, returned, withDepth}
 use Rattle.region.specs.declared.answer.Answer.{Answer}
-use Rattle.region.specs.declared.answer.Answer.the-variants.{Moved, Refused}
+use Rattle.region.specs.declared.answer.Answer.the-variants.{Moved, Idle as AnswersIdle, Inserted, Took, Empty, Refused}
 use Rattle.region.specs.declared.frame.Frame.{Frame}
 use Rattle.region.specs.declared.place.Place.{Place}
 use Rattle.region.specs.declared.place.Place.the-variants.{Idle, ReadDepth, ReadLeaf, ReadAncestor, GrowDepth, ReadTarget, InsertAtRoot, ReadParent, InsertBelow, ReadRoot, RemoveHead, MendReadNode, MendReadDepth, MendReadLeft, MendReadRight, MendSwap, MendClean}
+use Rattle.region.specs.declared.record.Item.{Item}
 use Rattle.region.specs.declared.record.Node.{Node}
 use Rattle.region.specs.declared.shape.Shape.{Shape}
 use Rattle.region.specs.declared.thread.Thread.{Thread}
-use Rattle.region.proofs.Picks.{pick-good}
+use Rattle.region.proofs.Picks.{pick-good, upd-same}
 use Rattle.access.specs.Plan.{plan, moved, onTo, refused}
 use Rattle.access.specs.declared.effect.Effect.{Effect}
-use Rattle.access.specs.declared.effect.Effect.the-variants.{Nothing, Clean}
+use Rattle.access.specs.declared.effect.Effect.the-variants.{Nothing, Grow, Push, Pop, Exchange, Clean}
 use Rattle.access.specs.declared.plan.Plan.{Plan}
-use Rattle.insert.specs.Insert.{readDepth, readLeaf, readAncestor, growDepth, readTarget, insertAtRoot, readParent, insertBelow}
+use Rattle.insert.specs.Insert.{readDepth, readLeaf, readAncestor, growDepth, readTarget, insertAt, insertAtRoot, readParent, insertBelow}
 use Rattle.extract.specs.Extract.{readRoot, removeHead}
 use Rattle.moundify.specs.Moundify.{returnAnswer, returning, mendReadNode, mendReadDepth, mendReadLeft, mendReadRight, exchangeWith, mendSwap, mendClean}
-use Rattle.machine.specs.Turn.{decide, decideAt, turnAnswer, turnPlan}
-use Rattle.bag.specs.History.{answerTells, effectTells, turnTells}
-use Rattle.bag.specs.Operations.{Says, TurnSaysItsAnswer, moved as says-moved, idle, refused as says-refused, inserted, empty, took, removed}
+use Rattle.readable.proofs.Laws.{Good}
+use Rattle.machine.specs.Run.{Turn}
+use Rattle.machine.specs.Turn.{decide, decideAt, staysPut, turnAnswer, turnPlan}
+use Rattle.bag.specs.Demand3.{Says, moved as says-moved, idle, refused as says-refused, inserted, empty, took, removed}
+use Rattle.bag.specs.History.{ServedTurn, turned, rootItem, servedOn}
+use Rattle.bag.specs.Told.{Told, nothing, decidesPut, decidesTake, decidesEmpty, answersTook, answerTells, stands, tells}
+use Rattle.bag.proofs.Carried.{turn-threads}
 
-module _ (f : Frame) (b : List ℕ) (u : ℕ) where
-  record Spoken (p : Plan) : Type 0 where
-    says : Says u (p .answer) (effectTells f b u (p .answer) (p .effect))
+-- what an effect and an answer tell: a pushed cell is a successful I6 or I8, a popped one a successful E2
+abbrev pub quietTells : ℕ → Answer → Told
+quietTells t Moved = nothing
+quietTells t AnswersIdle = nothing
+quietTells t Inserted = nothing
+quietTells t (Took i) = answersTook t i
+quietTells t Empty = decidesEmpty t
+quietTells t (Refused n) = nothing
 
-  plan-says : (e : Effect) (t : Thread) (a : Answer) → Says u a (effectTells f b u a e) → Spoken (plan e t a)
+abbrev pub effectTells : Item → ℕ → Answer → Effect → Told
+effectTells i t a Nothing = quietTells t a
+effectTells i t a (Grow d) = quietTells t a
+effectTells i t a (Push n v c x) = decidesPut t
+effectTells i t a (Pop v c) = decidesTake t i
+effectTells i t a (Exchange n v k w) = quietTells t a
+effectTells i t a (Clean n v) = quietTells t a
+
+-- the turn of thread u, with i as the root's item, from the place p on by the plan x
+module _ (i : Item) (u : ℕ) where
+  abbrev pub seen : Place → Place → Answer → ServedTurn
+  seen p q a = record { thread = u; from = p; to = q; answer = a; root = i }
+
+  record Spoken (p : Place) (x : Plan) : Type 0 where
+    tells-so : answerTells (seen p (x .thread .place) (x .answer)) (x .answer) ≡ effectTells i u (x .answer) (x .effect)
+    says : Says u (x .answer) (effectTells i u (x .answer) (x .effect))
+
+  -- the place where the thread stands afterwards matters where it moved
+  pub place-after : (p q q′ : Place) (a : Answer) → (a ≡ Moved → q ≡ q′) → answerTells (seen p q a) a ≡ answerTells (seen p q′ a) a
+  place-after p q q′ Moved h = ap (λ y. answerTells (seen p y Moved) Moved) (h refl)
+  place-after p q q′ AnswersIdle h = refl
+  place-after p q q′ Inserted h = refl
+  place-after p q q′ (Took j) h = refl
+  place-after p q q′ Empty h = refl
+  place-after p q q′ (Refused n) h = refl
+
+  plan-says : (p : Place) (e : Effect) (t : Thread) (a : Answer) → answerTells (seen p (t .place) a) a ≡ effectTells i u a e
+      → Says u a (effectTells i u a e) → Spoken p (plan e t a)
   unfolding plan
-  plan-says e t a h = record { says = h }
+  plan-says p e t a k h = record { tells-so = k; says = h }
 
-  moved-says : (t : Thread) → Spoken (moved t)
-  unfolding moved
-  moved-says t = plan-says Nothing t Moved says-moved
-
-  onTo-says : (t : Thread) (p : Place) → Spoken (onTo t p)
-  unfolding onTo
-  onTo-says t p = moved-says (atPlace t p)
-
-  refused-says : (t : Thread) (n : ℕ) → Spoken (refused t n)
+  refused-says : (p : Place) (t : Thread) (n : ℕ) → Spoken p (refused t n)
   unfolding refused
-  refused-says t n = plan-says Nothing t (Refused n) says-refused
+  refused-says p t n = plan-says p Nothing t (Refused n) refl says-refused
 
-  either : (q : Bool) {a b : Plan} → Spoken a → Spoken b → Spoken (pick q a b)
-  either q h g = pick-good Spoken q (λ e. h) (λ e. g)
+  either : (p : Place) (q : Bool) {a b : Plan} → Spoken p a → Spoken p b → Spoken p (pick q a b)
+  either p q h g = pick-good (Spoken p) q (λ e. h) (λ e. g)
 
-  -- "Return: .. by after": took, or on
-  returning-says : (e : Effect) (t : Thread) (w : ℕ) → ((a : Answer) → effectTells f b u a e ≡ answerTells u a) → Spoken (returning e t w)
-  unfolding returning returnAnswer
-  returning-says e t w h =
-      plan-says e _ _
-      (subst (Says u (returnAnswer t w)) (sym (h (returnAnswer t w)))
-      (pick-good (λ a. Says u a (answerTells u a)) (eqb w 0 && not (eqb (t .after) 0)) (λ k. took) (λ k. says-moved)))
+  -- a move from any place but E2
+  module _ (p : Place) (other : stands p RemoveHead ≡ false) where
+    quiet-tells : (q : Place) → answerTells (seen p q Moved) Moved ≡ nothing
+    unfolding pick
+    quiet-tells q = rw other refl
+
+    moves-on : (e : Effect) (t : Thread) → effectTells i u Moved e ≡ nothing → Spoken p (plan e t Moved)
+    moves-on e t k =
+        plan-says p e t Moved (quiet-tells (t .place) ∙ sym k) (subst (Says u Moved) (sym k) says-moved)
+
+    moved-says : (t : Thread) → Spoken p (moved t)
+    unfolding moved
+    moved-says t = moves-on Nothing t refl
+
+    onTo-says : (t : Thread) (q : Place) → Spoken p (onTo t q)
+    unfolding onTo
+    onTo-says t q = moved-says (atPlace t q)
+
+    -- "Return: .. by after": took, or on
+    returning-says : (e : Effect) (t : Thread) (w : ℕ) → ((a : Answer) → effectTells i u a e ≡ quietTells u a) → Spoken p (returning e t w)
+    unfolding returning returnAnswer
+    returning-says e t w h =
+        pick-good (λ a. Spoken p (plan e (returned t w) a)) (eqb w 0 && not (eqb (t .after) 0))
+        (λ k. plan-says p e _ _ (sym (h (Took (t .result)))) (subst (Says u (Took (t .result))) (sym (h (Took (t .result)))) took))
+        (λ k. moves-on e _ (h Moved))
 
   -- every place
   module _ (s : Shape) (m : Shared) (t : Thread) (c : ℕ) where
-    at-place-says : (p : Place) → Spoken (decideAt s m t c p)
-    unfolding readDepth readLeaf readAncestor growDepth readTarget insertAtRoot readParent insertBelow readRoot removeHead mendReadNode mendReadDepth mendReadLeft mendReadRight mendSwap mendClean
-    at-place-says Idle = plan-says _ _ _ idle
-    at-place-says ReadDepth = onTo-says _ _
-    at-place-says ReadLeaf =
-        either _ (either _ (either _ (onTo-says _ _) (either _ (onTo-says _ _) (refused-says _ _))) (onTo-says _ _)) (refused-says _ _)
-    at-place-says ReadAncestor =
-        either _ (refused-says _ _) (either _ (onTo-says _ _) (either _ (onTo-says _ _) (refused-says _ _)))
-    at-place-says GrowDepth = either _ (either _ (plan-says _ _ _ says-moved) (onTo-says _ _)) (refused-says _ _)
-    at-place-says ReadTarget = either _ (refused-says _ _) (onTo-says _ _)
-    at-place-says InsertAtRoot =
-        either _ (refused-says _ _) (either _ (either _ (refused-says _ _) (plan-says _ _ _ inserted)) (onTo-says _ _))
-    at-place-says ReadParent = either _ (refused-says _ _) (onTo-says _ _)
-    at-place-says InsertBelow =
-        either _ (refused-says _ _) (either _ (either _ (refused-says _ _) (plan-says _ _ _ inserted)) (onTo-says _ _))
-    at-place-says ReadRoot = either _ (moved-says _) (either _ (plan-says _ _ _ empty) (onTo-says _ _))
-    at-place-says RemoveHead =
-        either _ (refused-says _ _) (either _ (either _ (refused-says _ _) (plan-says _ _ _ removed)) (onTo-says _ _))
-    at-place-says (MendReadNode w) = either _ (refused-says _ _) (onTo-says _ _)
-    at-place-says (MendReadDepth w) =
-        either _ (refused-says _ _)
-        (either _ (either _ (onTo-says _ _) (onTo-says _ _)) (returning-says Nothing (withDepth t (m .depth)) w (λ a. refl)))
-    at-place-says (MendReadLeft w) = either _ (onTo-says _ _) (refused-says _ _)
-    at-place-says (MendReadRight w) =
-        either _ (either _ (moved-says _) (either _ (moved-says _) (either _ (onTo-says _ _) (onTo-says _ _)))) (refused-says _ _)
-    at-place-says (MendSwap w) =
-        either _ (exchanged (2 * t .node) (t .copies .second .node)) (exchanged (2 * t .node + 1) (t .copies .third .node))
-      where
-        exchanged : (k : ℕ) (q : Node) → Spoken (exchangeWith s m t w k q)
-        exchanged k q = either _ (either _ (either _ (refused-says _ _) (plan-says _ _ _ says-moved)) (onTo-says _ _)) (refused-says _ _)
-    at-place-says (MendClean w) =
-        either _ (refused-says _ _)
-        (either _ (either _ (refused-says _ _) (returning-says (Clean _ _) t w (λ a. refl))) (onTo-says _ _))
+    -- I6 and I8
+    push-says : (p : Place) → stands p InsertAtRoot || stands p InsertBelow ≡ true → (n k x : ℕ) (v : Node)
+        → Spoken p (plan (Push n v k x) (goneIdle t) Inserted)
+    unfolding pick
+    push-says p here n k x v = plan-says p _ _ _ (ap (λ q. pick q (decidesPut u) nothing) here) inserted
 
-plan-spoken : (f : Frame) (b : List ℕ) (t c : ℕ) → Spoken f b t (turnPlan f b t c)
+    inserts-says : (p : Place) (n : ℕ) (holds : Bool) → stands p RemoveHead ≡ false
+        → stands p InsertAtRoot || stands p InsertBelow ≡ true → Spoken p (insertAt t n holds)
+    unfolding insertAt
+    inserts-says p n holds other here =
+        either p holds (either p _ (refused-says p _ _) (push-says p here _ _ _ _)) (onTo-says p other _ _)
+
+    -- E1 that answers empty, E2 that takes an item, and E2 that fails
+    empty-says : Spoken ReadRoot (plan Nothing (goneIdle t) Empty)
+    unfolding pick
+    empty-says = plan-says _ _ _ _ refl empty
+
+    pop-says : (v : Node) (k n w : ℕ) (x : Thread) → Spoken RemoveHead (plan (Pop v k) (mending x n w) Moved)
+    unfolding pick mending atPlace
+    pop-says v k n w x = plan-says _ _ _ _ refl removed
+
+    failed-says : Spoken RemoveHead (onTo t ReadRoot)
+    unfolding pick onTo moved atPlace
+    failed-says = plan-says _ _ _ _ refl says-moved
+
+    at-place-says : (p : Place) → Spoken p (decideAt s m t c p)
+    unfolding readDepth readLeaf readAncestor growDepth readTarget insertAtRoot readParent insertBelow readRoot removeHead mendReadNode mendReadDepth mendReadLeft mendReadRight mendSwap mendClean
+    at-place-says Idle = plan-says _ _ _ _ refl idle
+    at-place-says ReadDepth = onTo-says _ refl _ _
+    at-place-says ReadLeaf =
+        either _ _ (either _ _ (either _ _ (onTo-says _ refl _ _) (either _ _ (onTo-says _ refl _ _) (refused-says _ _ _))) (onTo-says _ refl _ _))
+        (refused-says _ _ _)
+    at-place-says ReadAncestor =
+        either _ _ (refused-says _ _ _) (either _ _ (onTo-says _ refl _ _) (either _ _ (onTo-says _ refl _ _) (refused-says _ _ _)))
+    at-place-says GrowDepth = either _ _ (either _ _ (moves-on _ refl _ _ refl) (onTo-says _ refl _ _)) (refused-says _ _ _)
+    at-place-says ReadTarget = either _ _ (refused-says _ _ _) (onTo-says _ refl _ _)
+    at-place-says InsertAtRoot = either _ _ (refused-says _ _ _) (inserts-says _ _ _ refl refl)
+    at-place-says ReadParent = either _ _ (refused-says _ _ _) (onTo-says _ refl _ _)
+    at-place-says InsertBelow = either _ _ (refused-says _ _ _) (inserts-says _ _ _ refl refl)
+    at-place-says ReadRoot = either _ _ (moved-says _ refl _) (either _ _ empty-says (onTo-says _ refl _ _))
+    at-place-says RemoveHead =
+        either _ _ (refused-says _ _ _)
+        (either _ _ (either _ _ (refused-says _ _ _) (pop-says _ _ _ _ _)) failed-says)
+    at-place-says (MendReadNode w) = either _ _ (refused-says _ _ _) (onTo-says _ refl _ _)
+    at-place-says (MendReadDepth w) =
+        either _ _ (refused-says _ _ _)
+        (either _ _ (either _ _ (onTo-says _ refl _ _) (onTo-says _ refl _ _))
+        (returning-says _ refl Nothing (withDepth t (m .depth)) w (λ a. refl)))
+    at-place-says (MendReadLeft w) = either _ _ (onTo-says _ refl _ _) (refused-says _ _ _)
+    at-place-says (MendReadRight w) =
+        either _ _
+        (either _ _ (moved-says _ refl _) (either _ _ (moved-says _ refl _) (either _ _ (onTo-says _ refl _ _) (onTo-says _ refl _ _))))
+        (refused-says _ _ _)
+    at-place-says (MendSwap w) =
+        either _ _ (exchanged (2 * t .node) (t .copies .second .node)) (exchanged (2 * t .node + 1) (t .copies .third .node))
+      where
+        exchanged : (k : ℕ) (q : Node) → Spoken (MendSwap w) (exchangeWith s m t w k q)
+        exchanged k q =
+            either _ _ (either _ _ (either _ _ (refused-says _ _ _) (moves-on _ refl _ _ refl)) (onTo-says _ refl _ _)) (refused-says _ _ _)
+    at-place-says (MendClean w) =
+        either _ _ (refused-says _ _ _)
+        (either _ _ (either _ _ (refused-says _ _ _) (returning-says _ refl (Clean _ _) t w (λ a. refl))) (onTo-says _ refl _ _))
+
+plan-spoken : (f : Frame) (b : List ℕ) (t c : ℕ) → Spoken (rootItem f b) t (threadIn f b t .place) (turnPlan f b t c)
 unfolding turnPlan decide
 plan-spoken f b t c =
-    either f b t _ (at-place-says f b t (f .shape) (sharedIn f b) (threadIn f b t) c (threadIn f b t .place)) (refused-says f b t _ _)
+    either (rootItem f b) t _ _
+    (at-place-says (rootItem f b) t (f .shape) (sharedIn f b) (threadIn f b t) c (threadIn f b t .place))
+    (refused-says (rootItem f b) t _ _ _)
 
-pub turn-says-its-answer : TurnSaysItsAnswer
-unfolding turnTells turnAnswer
-turn-says-its-answer f b t = plan-spoken f b (t .thread) (t .choice) .says
+-- a turn on a readable region
+module _ (s : Shape) (b : List ℕ) (g : Good s b) (x : Turn) where
+  abbrev p : Plan
+  p = turnPlan (frameOf s) b (x .thread) (x .choice)
+
+  pub turn-tells : tells (turned (servedOn (frameOf s) b x)) ≡ effectTells (rootItem (frameOf s) b) (x .thread) (p .answer) (p .effect)
+  unfolding servedOn turnAnswer
+  turn-tells =
+      let t = x .thread in
+      let c = x .choice in
+      place-after (rootItem (frameOf s) b) t _ _ (p .thread .place) (p .answer) (λ e.
+      let moved-on = ap (λ h. h t) (turn-threads s b t c g (ap staysPut e)) ∙ upd-same (threadIn (frameOf s) b) t (p .thread) in
+      ap (λ y. y .place) moved-on)
+      ∙ plan-spoken (frameOf s) b t c .tells-so
+
+  pub turn-says : Says (x .thread) (turnAnswer (frameOf s) b (x .thread) (x .choice)) (tells (turned (servedOn (frameOf s) b x)))
+  unfolding turnAnswer
+  turn-says = subst (Says (x .thread) (p .answer)) (sym turn-tells) (plan-spoken (frameOf s) b (x .thread) (x .choice) .says)

@@ -9,8 +9,9 @@ use Rattle.region.specs.declared.record.Item.{Item}
 use Rattle.layout.specs.Layout.{layoutBytes}
 use Rattle.cases.specs.Cases.{schedule}
 use Rattle.computes.specs.Computes.{computes}
-use Rattle.bag.specs.Calls.{Call, put, take, run, after}
-use Rattle.bag.specs.History.{Told, Moment, nothing, begunPut, begunTake, decidedPut, decidedTake, decidedEmpty, tookItem, turnTells, turnMoments, callMoments, history}
+use Rattle.bag.specs.Calls.{Call, put, take, run, after, refusalOf}
+use Rattle.bag.specs.History.{Moment, servedOn, turnMoments, servedMoments, callMoments, history}
+use Rattle.bag.specs.Told.{Told, nothing, beginsPut, beginsTake, decidesPut, decidesTake, decidesEmpty, answersTook, tells}
 
 -- a run of these threads' turns, with an answer slice for it
 abbrev runs : List ℕ → Call
@@ -27,22 +28,22 @@ pub calls : List Call
 unfolding five
 calls = put 1 five ∷ runs (1 ∷ 1 ∷ 1 ∷ 1 ∷ []) ∷ take 1 ∷ take 2 ∷ runs (1 ∷ 1 ∷ 2 ∷ 2 ∷ 2 ∷ 2 ∷ 2 ∷ 1 ∷ 1 ∷ []) ∷ []
 
--- the moments that tell something
+-- what is told, in order
 pub some : Told → List Told
 some nothing = []
-some (begunPut t i) = begunPut t i ∷ []
-some (begunTake t) = begunTake t ∷ []
-some (decidedPut t) = decidedPut t ∷ []
-some (decidedTake t i) = decidedTake t i ∷ []
-some (decidedEmpty t) = decidedEmpty t ∷ []
-some (tookItem t i) = tookItem t i ∷ []
+some (beginsPut t i) = beginsPut t i ∷ []
+some (beginsTake t) = beginsTake t ∷ []
+some (decidesPut t) = decidesPut t ∷ []
+some (decidesTake t i) = decidesTake t i ∷ []
+some (decidesEmpty t) = decidesEmpty t ∷ []
+some (answersTook t i) = answersTook t i ∷ []
 
 pub told : List Moment → List Told
 unfolding some
 told [] = []
-told (m ∷ ms) = some (m .told) ++ told ms
+told (m ∷ ms) = some (tells (m .event)) ++ told ms
 
 pub case-J : told (history laid calls)
-    ≡ begunPut 1 five ∷ decidedPut 1 ∷ begunTake 1 ∷ begunTake 2 ∷ decidedTake 1 five ∷ decidedEmpty 2 ∷ tookItem 1 five ∷ []
-unfolding told laid calls five computes after turnTells turnMoments callMoments history
+    ≡ beginsPut 1 five ∷ decidesPut 1 ∷ beginsTake 1 ∷ beginsTake 2 ∷ decidesTake 1 five ∷ decidesEmpty 2 ∷ answersTook 1 five ∷ []
+unfolding told laid calls five computes after refusalOf servedOn turnMoments servedMoments callMoments history
 case-J = refl

@@ -7,7 +7,7 @@ use native.Mathlib.Omega.{arith}
 use mathlib.Core.Path.{_≡_, refl, sym, ap, subst, _∙_}
 use mathlib.Core.Bool.{Bool, true, false, _||_}
 use mathlib.Core.List.{List, [], _∷_}
-use borrow.Author.Tests.{eq-eqb, ne-eqb}
+use borrow.Author.Tests.{eq-eqb, ne-eqb, eqb-true, eqb-false}
 use lib.Dec.{eqb}
 use lib.ListN.{length}
 use lib.Pow.{pow-mono}
@@ -21,7 +21,9 @@ use Rattle.region.specs.Shape.{between, nodeCount}
 use Rattle.region.specs.Inner.{InRange}
 use Rattle.region.specs.Shared.{Shared, loadEntry, nodeIn, setThreadIn, sharedIn, threadIn}
 use Rattle.region.specs.Thread.{atPlace, begunTake, goneIdle, mending, withAfter, withCopies, withDepth, withFirst, withNode, withResult, withSecond, withThird}
-use Rattle.region.specs.declared.answer.Answer.the-variants.{Moved, Took, Empty}
+use Rattle.region.specs.declared.answer.Answer.{Answer}
+use Rattle.region.specs.declared.answer.Answer.the-variants.{Moved, Idle, Inserted, Took, Empty, Refused}
+use Rattle.region.specs.declared.frame.Frame.{Frame}
 use Rattle.region.specs.declared.place.Place.{Place}
 use Rattle.region.specs.declared.place.Place.the-variants.{ReadRoot, RemoveHead, MendReadNode, MendReadDepth, MendReadLeft, MendReadRight, MendSwap, MendClean}
 use Rattle.region.specs.declared.record.Item.{Item}
@@ -45,11 +47,61 @@ use Rattle.readable.proofs.Stores.{good-shared, good-thread, good-within, threa
 use Rattle.extract.specs.Extract.{rootRead, readRoot, headRemoved, removeHead}
 use Rattle.moundify.specs.Moundify.{returnAnswer, returning, mendReadNode, depthRead, mendReadDepth, mendReadLeft, childLess, childrenRead, mendReadRight, exchangeAt, nodeAndChildSame, exchangeWith, mendSwap, cleanAt, mendClean}
 use Rattle.machine.specs.Begin.{frameIn, takeBytes, takeRefusal}
+use Rattle.machine.specs.Run.{Turn, accessesOf}
 use Rattle.machine.specs.Turn.{decide, decideAt, staysPut, turnAnswer, turnBytes, turnPlan}
 use Rattle.preserved.proofs.Proved.{begun-take-good, take-good, take-thread, turn-good}
 use Rattle.preserved.proofs.TreeLevels.{level-child, twice}
-use Rattle.bag.specs.Ceiling.{AllClean, EndsAt, NoneSpent, ReadableTakesEnd, alone, found-empty, took, moved-then}
-use Rattle.bag.proofs.Carried.{turn-decides, turn-shared, turn-threads}
+use Rattle.bag.specs.Ceiling.{AllClean, EndsAt, NoOtherMoves, NoneSpent, ReadableTakesEnd, answersOf, found-empty, took, moved-then}
+use Rattle.bag.proofs.Carried.{turn-decides, turn-shared, turn-stays, turn-threads}
+
+-- the answers of thread t's turns with these choices, each on the bytes that the one before left
+unfoldable pub alone : Frame → List ℕ → ℕ → List ℕ → List Answer
+alone f b t [] = []
+alone f b t (c ∷ cs) = turnAnswer f b t c ∷ alone f (turnBytes f b t c) t cs
+
+length-alone : (f : Frame) (t : ℕ) (cs b : List ℕ) → length (alone f b t cs) ≡ length cs
+unfolding alone
+length-alone f t [] b = refl
+length-alone f t (c ∷ cs) b = ap suc (length-alone f t cs (turnBytes f b t c))
+
+-- the choices of thread t's turns among these
+choicesOf : ℕ → List Turn → List ℕ
+choicesOf t [] = []
+choicesOf t (u ∷ us) = pick (eqb (u .thread) t) (u .choice ∷ choicesOf t us) (choicesOf t us)
+
+no-access : (a : Answer) → accessesOf a ≡ 0 → staysPut a ≡ true
+no-access Moved h = absurd (omega arith)
+no-access Idle h = refl
+no-access Inserted h = absurd (omega arith)
+no-access (Took i) h = absurd (omega arith)
+no-access Empty h = absurd (omega arith)
+no-access (Refused n) h = refl
+
+-- turns of others that make no access leave thread t alone
+module _ (s : Shape) (t : ℕ) where
+  abbrev f : Frame
+  f = frameOf s
+
+  others-aside : (us : List Turn) (b : List ℕ) → NoOtherMoves f b t us → answersOf f b t us ≡ alone f b t (choicesOf t us)
+  unfolding answersOf alone choicesOf pick turnAnswer
+  others-aside [] b h = refl
+  others-aside (u ∷ us) b h = go (eqb (u .thread) t) refl (others-aside us (turnBytes f b (u .thread) (u .choice)) (h .1))
+    where
+      rest : List ℕ → List Answer
+      rest b′ = answersOf f b′ t us
+
+      go : (q : Bool) → eqb (u .thread) t ≡ q
+          → rest (turnBytes f b (u .thread) (u .choice)) ≡ alone f (turnBytes f b (u .thread) (u .choice)) t (choicesOf t us)
+          → pick q (turnAnswer f b (u .thread) (u .choice) ∷ rest (turnBytes f b (u .thread) (u .choice)))
+          (rest (turnBytes f b (u .thread) (u .choice)))
+          ≡ alone f b t (pick q (u .choice ∷ choicesOf t us) (choicesOf t us))
+      go true e more =
+          ap (λ xs. turnAnswer f b (u .thread) (u .choice) ∷ xs) more
+          ∙ ap (λ k. turnAnswer f b k (u .choice) ∷ alone f (turnBytes f b k (u .choice)) t (choicesOf t us)) (eqb-true (u .thread) t e)
+      go false e more =
+          more
+          ∙ ap (λ b′. alone f b′ t (choicesOf t us))
+          (turn-stays s b (u .thread) (u .choice) (no-access (turnAnswer f b (u .thread) (u .choice)) (h .0 (eqb-false (u .thread) t e))))
 
 -- a comparison with a copy that still holds
 same-copy : {n q : Node} → q ≡ n → sameNode n q ≡ true
@@ -462,7 +514,7 @@ module _ (b : List ℕ) (t : ℕ) (choices : List ℕ) (r : readable b ≡ true)
       (thread-fit s (g .range) u (begun-take-good s (threadIn (frameIn b) b t) (good-thread s b g t))))
       ∙ upd-same (threadIn (frameIn b) b) t u
 
-  module _ (clean : AllClean b) (long : length choices ≡ 5 * word b (frameIn b .depth)) where
+  module _ (clean : AllClean b) (long : 5 * word b (frameIn b .depth) ≤ length choices) where
     past : (x : ℕ) → between 1 x (nodeCount (shapeIn b)) ≡ false → nodeIn (frameIn b) b x ≡ emptyNode
     unfolding nodeIn loadEntry frameOf pick
     past x n = rw n refl
@@ -497,14 +549,30 @@ module _ (b : List ℕ) (t : ℕ) (choices : List ℕ) (r : readable b ≡ true)
 
 pub take-ends : ReadableTakesEnd
 unfolding sharedIn
-take-ends b r t choices e clean long spent = go (ℕ-discrete (nodeIn (frameIn b) b 1 .first) 0)
+take-ends b r t turns e clean quiet long spent =
+    subst (λ xs. (n : ℕ) × (1 ≤ n) × (n ≤ 5 * d) × EndsAt n xs) (sym same) (go (ℕ-discrete (nodeIn (frameIn b) b 1 .first) 0))
   where
-    some : 1 ≤ word b (frameIn b .depth)
+    d : ℕ
+    d = word b (frameIn b .depth)
+
+    choices : List ℕ
+    choices = choicesOf t turns
+
+    same : answersOf (frameIn b) (takeBytes b t) t turns ≡ alone (frameIn b) (takeBytes b t) t choices
+    same = others-aside (shapeIn b) t turns (takeBytes b t) quiet
+
+    enough : 5 * d ≤ length choices
+    enough = subst (λ n. 5 * d ≤ n) (ap length same ∙ length-alone (frameIn b) t choices (takeBytes b t)) long
+
+    unspent : NoneSpent (alone (frameIn b) (takeBytes b t) t choices)
+    unspent = subst NoneSpent same spent
+
+    some : 1 ≤ d
     some = good-shared (shapeIn b) b (good b r) .depth-least
 
     go : Dec (nodeIn (frameIn b) b 1 .first ≡ 0)
-        → (n : ℕ) × (1 ≤ n) × (n ≤ 5 * word b (frameIn b .depth)) × EndsAt n (alone (frameIn b) (takeBytes b t) t choices)
-    go (yes none) = (1, omega arith, omega (arith, some), take-empty b t choices r e clean long none)
+        → (n : ℕ) × (1 ≤ n) × (n ≤ 5 * d) × EndsAt n (alone (frameIn b) (takeBytes b t) t choices)
+    go (yes none) = (1, omega arith, omega (arith, some), take-empty b t choices r e clean enough none)
     go (no full) =
-        let h = take-rests b t choices r e clean long full spent in
+        let h = take-rests b t choices r e clean enough full unspent in
         (h .count, omega (arith, h .least, h .exact, some), omega (arith, h .exact), rests-end (shapeIn b) t (h .rests))

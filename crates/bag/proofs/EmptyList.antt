@@ -1,13 +1,13 @@
 -- A thread with an empty permission list stands idle from the layout on: its calls are refused, its turns answer idle, and no
 -- other thread's call or turn stores to its record. Assumes nothing.
-use Prim.Native.Nat.{ℕ, _*_}
+use Prim.Native.Nat.{ℕ, _-_, _*_, _≤_}
 use native.Mathlib.Decide.{ℕ-discrete}
 use mathlib.Core.Path.{_≡_, refl, sym, ap, subst, _∙_}
 use mathlib.Core.Bool.{true, true≢false}
-use mathlib.Core.List.{List}
+use mathlib.Core.List.{List, [], _∷_}
 use borrow.Author.Tests.{eqb-true}
 use lib.Dec.{eqb}
-use lib.ListN.{length}
+use lib.ListN.{length, getD}
 use Rattle.region.specs.Answer.{done}
 use Rattle.region.specs.Frame.{frameOf}
 use Rattle.region.specs.Pick.{pick}
@@ -19,17 +19,18 @@ use Rattle.region.specs.declared.record.Item.{Item}
 use Rattle.region.specs.declared.shape.Shape.{Shape}
 use Rattle.region.proofs.Picks.{pick-good}
 use Rattle.access.specs.Plan.{plan, refused}
-use Rattle.layout.specs.Layout.{layoutBytes}
+use Rattle.layout.specs.Layout.{layoutRefusal, layoutBytes}
 use Rattle.layout.proofs.Laws.{laid-exact}
 use Rattle.readable.specs.Readable.{readable, shapeIn}
 use Rattle.readable.proofs.Laws.{good, readable-good}
 use Rattle.machine.specs.Begin.{frameIn, mayPut, mayTake, putBytes, putRefusal, takeBytes, takeRefusal}
 use Rattle.machine.specs.Turn.{carriedOut, decide, decideAt, turnBytes, turnPlan}
 use Rattle.preserved.proofs.Proved.{put-permitted, take-permitted, put-keeps-readable, put-keeps-shape, put-leaves-others, take-keeps-readable, take-keeps-shape, take-leaves-others, turn-keeps-readable, turn-keeps-shape, turn-leaves-others}
-use Rattle.bag.specs.Calls.{NoLayout}
-use Rattle.bag.specs.EmptyList.{EmptyListChangesNothing, LeavesAlone}
-use Rattle.bag.specs.History.{Told}
-use Rattle.bag.proofs.Histories.{Kept, Next, calls-kept, kept-after}
+use Rattle.bag.specs.Calls.{Call, NoAcceptedLayout}
+use Rattle.bag.specs.Demand3.{makes}
+use Rattle.bag.specs.History.{Event, Moment, history, servedOn}
+use Rattle.bag.specs.Moments.{EachMoment}
+use Rattle.bag.proofs.Histories.{Kept, Next, calls-kept}
 use Rattle.bag.proofs.LaidOut.{laid-good, laid-thread}
 
 -- the turn of an idle thread
@@ -64,10 +65,6 @@ module _ (s : Shape) (t : ℕ) (b : List ℕ) (h : Barred s t b) where
       pick-good (λ x. x ≡ b) (eqb (takeRefusal b t) done)
       (λ e. absurd (true≢false (sym (take-permitted b t (eqb-true (takeRefusal b t) done e)) ∙ ap mayTake here)))
       (λ e. refl)
-
-  leaves-alone : LeavesAlone s b t
-  leaves-alone =
-      record { put = put-stays; take = take-stays; turn = λ c. idle-turn (frameIn b) b t c here; frame = ap frameOf (h .shape) }
 
   -- bytes b′ that are readable, of b's shape, and have t's record as it was
   barred-still : (b′ : List ℕ) → readable b′ ≡ true → shapeIn b′ ≡ shapeIn b
@@ -111,15 +108,47 @@ module _ (s : Shape) (t : ℕ) (b : List ℕ) (h : Barred s t b) where
   barred-long : length b ≡ 4 * regionWords s
   barred-long = good b (h .reads) .exact ∙ ap (λ x. 4 * regionWords x) (h .shape)
 
--- nothing is known beside the region, and nothing is claimed of what is told
-abbrev Anything : Told → Unit {0} → Unit {0} → Type 0
-Anything told x y = Unit
+-- beside the region nothing is known but the region itself, and t's moments leave it as it is
+abbrev Still : ℕ → Event → List ℕ → List ℕ → Type 0
+Still t e b b′ = makes t e ≡ true → b′ ≡ b
 
-next-barred : (s : Shape) (t : ℕ) (told : Told) (b : List ℕ) → Barred s t b → Next (λ b x. Barred s t b) Anything tt told b
-next-barred s t told b h = record { next = tt; follows = tt; region = h }
+-- thread t is barred from this region, which is the one known
+abbrev BarredFrom : Shape → ℕ → List ℕ → List ℕ → Type 0
+BarredFrom s t b x = Barred s t b × (x ≡ b)
 
-pub empty-list-changes-nothing : EmptyListChangesNothing
-empty-list-changes-nothing s ps b e calls n earlier later split t l u z =
+each-still : (s : Shape) (t : ℕ) (ms : List Moment) (b : List ℕ) → Kept (BarredFrom s t) (Still t) b ms
+    → EachMoment (λ before m. makes t (m .event) ≡ true → m .region ≡ before) b ms
+each-still s t [] b k = tt
+each-still s t (m ∷ ms) b k =
+    let same : k .0 ≡ m .region = k .2 .1 in
+    (λ h. sym same ∙ k .1 h, each-still s t ms (m .region) (subst (λ x. Kept (BarredFrom s t) (Still t) x ms) same (k .3)))
+
+module _ (s : Shape) (t : ℕ) where
+  -- a moment that leaves b′, which is b where it is t's
+  next-barred : (b x : List ℕ) → BarredFrom s t b x → (e : Event) (b′ : List ℕ) → Barred s t b′ → (makes t e ≡ true → b′ ≡ b)
+      → Next (BarredFrom s t) (Still t) x e b′
+  next-barred b x h e b′ g k = record { next = b′; follows = λ m. k m ∙ sym (h .1); region = (g, refl) }
+
+  barred-kept : (calls : List Call) (b : List ℕ) → Barred s t b → NoAcceptedLayout (length b) calls
+      → Kept (BarredFrom s t) (Still t) b (history b calls)
+  unfolding servedOn
+  barred-kept calls b h n =
+      calls-kept (BarredFrom s t) (Still t) s
+      (λ b x h. h .0 .shape) (λ b x h. barred-long s t b (h .0))
+      (λ b x h u i. next-barred b x h _ _ (put-keeps s t b (h .0) u i)
+      (λ e. subst (λ k. putBytes b k i ≡ b) (eqb-true t u e) (put-stays s t b (h .0) i)))
+      (λ b x h u. next-barred b x h _ _ (take-keeps s t b (h .0) u)
+      (λ e. subst (λ k. takeBytes b k ≡ b) (eqb-true t u e) (take-stays s t b (h .0))))
+      (λ b x h u. next-barred b x h _ _ (turn-keeps s t b (h .0) (u .thread) (u .choice))
+      (λ e. subst (λ k. turnBytes (frameOf s) b k (u .choice) ≡ b) (eqb-true t (u .thread) e)
+      (idle-turn (frameOf s) b t (u .choice) (h .0 .idle))))
+      (λ b x h c r e. next-barred b x h _ _ (h .0) (λ m. refl))
+      calls b b (h, refl) n
+
+pub empty-list-changes-nothing : (s : Shape) (ps b : List ℕ) → layoutRefusal s ps (length b) ≡ done → (calls : List Call)
+    → NoAcceptedLayout (length b) calls → (t : ℕ) → 1 ≤ t → t ≤ s .threads → getD ps (t - 1) 0 ≡ 0
+    → EachMoment (λ before m. makes t (m .event) ≡ true → m .region ≡ before) (layoutBytes s ps b) (history (layoutBytes s ps b) calls)
+empty-list-changes-nothing s ps b e calls n t l u z =
     let laid = layoutBytes s ps b in
     let g = laid-good s ps b e in
     let barred : Barred s t laid = record {
@@ -127,13 +156,5 @@ empty-list-changes-nothing s ps b e calls n earlier later split t l u z =
       shape = g .shape;
       idle = laid-thread s ps b e t l u ∙ ap idleThread z;
     } in
-    let kept = calls-kept (λ b x. Barred s t b) Anything s
-    (λ b x h. h .shape) (λ b x h. barred-long s t b h) (λ x. tt)
-    (λ b x h v i. next-barred s t _ _ (put-keeps s t b h v i))
-    (λ b x h v. next-barred s t _ _ (take-keeps s t b h v))
-    (λ b x h v. next-barred s t _ _ (turn-keeps s t b h (v .thread) (v .choice)))
-    calls laid tt barred (subst (λ k. NoLayout k calls) (laid-exact s ps b e ∙ sym (g .exact)) n)
-    in
-    leaves-alone s t _
-    (kept-after (λ b x. Barred s t b) Anything earlier later laid tt barred
-    (subst (Kept (λ b x. Barred s t b) Anything tt) split kept) .1)
+    each-still s t (history laid calls) laid
+    (barred-kept s t calls laid barred (subst (λ k. NoAcceptedLayout k calls) (laid-exact s ps b e ∙ sym (g .exact)) n))

@@ -9,6 +9,7 @@ pub mod Chains
 pub mod Counts
 pub mod Effects
 pub mod EmptyList
+pub mod Exported
 pub mod Facts
 pub mod Held
 pub mod Histories

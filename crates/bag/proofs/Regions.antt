@@ -42,8 +42,10 @@ use Rattle.machine.specs.Run.{Turn}
 use Rattle.machine.specs.Turn.{staysPut, turnBytes, turnPlan}
 use Rattle.preserved.proofs.EffectsGood.{cell-fit}
 use Rattle.preserved.proofs.Proved.{begun-put-good, begun-take-good, free-few, in-order, next-few, put-allowed, put-item, turn-good}
-use Rattle.bag.specs.History.{Told, nothing, begunPut as toldPut, begunTake as toldTake, answerTells, effectTells, turnTells}
+use Rattle.bag.specs.History.{rootItem, servedOn, turned}
 use Rattle.bag.specs.Ledger.{Operation, none, putting, taking, Ledger, Follows, still, put-begins, take-begins}
+use Rattle.bag.specs.Told.{Told, nothing, beginsPut, beginsTake, tells}
+use Rattle.bag.proofs.Answers.{effectTells, quietTells, turn-tells}
 use Rattle.bag.proofs.Carried.{turn-decides, turn-shared, turn-stays, turn-threads}
 use Rattle.bag.proofs.Effects.{Mound, begin-counts, begin-keeps, rely-same}
 use Rattle.bag.proofs.Facts.{At}
@@ -92,12 +94,12 @@ module _ (s : Shape) (b : List ℕ) (l : Ledger) (g : Region s b l) where
     p : Plan
     p = turnPlan (frameOf s) b t c
 
-    quiet-turn : (a : Answer) → staysPut a ≡ true → answerTells t a ≡ nothing → p .effect ≡ Nothing → p .answer ≡ a
-        → Follow s l (effectTells (frameOf s) b t (p .answer) (p .effect)) (turnBytes (frameOf s) b t c)
+    quiet-turn : (a : Answer) → staysPut a ≡ true → quietTells t a ≡ nothing → p .effect ≡ Nothing → p .answer ≡ a
+        → Follow s l (effectTells (rootItem (frameOf s) b) t (p .answer) (p .effect)) (turnBytes (frameOf s) b t c)
     unfolding p
     quiet-turn a st tells ee ea =
-        let e : effectTells (frameOf s) b t (p .answer) (p .effect) ≡ nothing =
-        ap (effectTells (frameOf s) b t (p .answer)) ee ∙ ap (answerTells t) ea ∙ tells
+        let e : effectTells (rootItem (frameOf s) b) t (p .answer) (p .effect) ≡ nothing =
+        ap (effectTells (rootItem (frameOf s) b) t (p .answer)) ee ∙ ap (quietTells t) ea ∙ tells
         in
         record {
           next = l;
@@ -108,7 +110,7 @@ module _ (s : Shape) (b : List ℕ) (l : Ledger) (g : Region s b l) where
     module _ (lt : 1 ≤ t) (ut : t ≤ s .threads) where
       moving-turn : (op′ : Operation) → Allowed s m (owns th) t (p .effect) → Speaks m (l .operation t) op′ (p .effect) (p .answer)
           → OwnAfter (p .effect) (th t .own) (p .thread .own) → At s m (p .thread) op′ (p .thread .place)
-          → Follow s l (effectTells (frameOf s) b t (p .answer) (p .effect)) (turnBytes (frameOf s) b t c)
+          → Follow s l (effectTells (rootItem (frameOf s) b) t (p .answer) (p .effect)) (turnBytes (frameOf s) b t c)
       unfolding p
       moving-turn op′ al sp ow at =
           let v = p .thread in
@@ -135,7 +137,7 @@ module _ (s : Shape) (b : List ℕ) (l : Ledger) (g : Region s b l) where
           }
 
       there : Planned s m (owns th) t (th t .own) (l .operation t) p
-          → Follow s l (effectTells (frameOf s) b t (p .answer) (p .effect)) (turnBytes (frameOf s) b t c)
+          → Follow s l (effectTells (rootItem (frameOf s) b) t (p .answer) (p .effect)) (turnBytes (frameOf s) b t c)
       there (rests ee ea) = quiet-turn AnswersIdle refl refl ee ea
       there (refuses ee ea) = quiet-turn (Refused counterSpent) refl refl ee ea
       there (moves op′ al sp ow at) = moving-turn op′ al sp ow at
@@ -144,21 +146,23 @@ module _ (s : Shape) (b : List ℕ) (l : Ledger) (g : Region s b l) where
     unfolding turnPlan frameOf pick
     nowhere e = rw e refl
 
-    turn-step : Follow s l (effectTells (frameOf s) b t (p .answer) (p .effect)) (turnBytes (frameOf s) b t c)
+    turn-step : Follow s l (effectTells (rootItem (frameOf s) b) t (p .answer) (p .effect)) (turnBytes (frameOf s) b t c)
     unfolding p refused plan
     turn-step = go (between 1 t (s .threads)) refl
       where
         go : (q : Bool) → between 1 t (s .threads) ≡ q
-            → Follow s l (effectTells (frameOf s) b t (p .answer) (p .effect)) (turnBytes (frameOf s) b t c)
+            → Follow s l (effectTells (rootItem (frameOf s) b) t (p .answer) (p .effect)) (turnBytes (frameOf s) b t c)
         go true e =
             let lt = between-least 1 t (s .threads) e in
             let ut = between-most 1 t (s .threads) e in
             there lt ut (plan-fits t c lt ut)
         go false e = quiet-turn (Refused badThread) refl refl (ap (λ x. x .effect) (nowhere e)) (ap (λ x. x .answer) (nowhere e))
 
-  pub turn-next : (x : Turn) → Follow s l (turnTells (frameOf s) b x) (turnBytes (frameOf s) b (x .thread) (x .choice))
-  unfolding turnTells p
-  turn-next x = turn-step (x .thread) (x .choice)
+  pub turn-next : (x : Turn) → Follow s l (tells (turned (servedOn (frameOf s) b x))) (turnBytes (frameOf s) b (x .thread) (x .choice))
+  unfolding p
+  turn-next x =
+      subst (λ y. Follow s l y (turnBytes (frameOf s) b (x .thread) (x .choice))) (sym (turn-tells s b (g .good) x))
+      (turn-step (x .thread) (x .choice))
 
 -- What is not refused.
 module _ (b : List ℕ) (t : ℕ) where
@@ -233,7 +237,7 @@ module _ (s : Shape) (b : List ℕ) (l : Ledger) (g : Region s b l) (t : ℕ) (l
         })
         (record { operation = refl; permitted = may; none = at-rest .1 })
 
-    pub take-next : Good s (setThreadIn (frameOf s) b t taker) → Follow s l (toldTake t) (setThreadIn (frameOf s) b t taker)
+    pub take-next : Good s (setThreadIn (frameOf s) b t taker) → Follow s l (beginsTake t) (setThreadIn (frameOf s) b t taker)
     take-next good =
         record {
           next = takes;
@@ -332,7 +336,7 @@ module _ (s : Shape) (b : List ℕ) (l : Ledger) (g : Region s b l) (t : ℕ) (l
           proper = item-below-top i key;
         })
 
-    pub put-next : Good s (acceptedPut (frameOf s) b t i) → Follow s l (toldPut t i) (acceptedPut (frameOf s) b t i)
+    pub put-next : Good s (acceptedPut (frameOf s) b t i) → Follow s l (beginsPut t i) (acceptedPut (frameOf s) b t i)
     put-next good =
         record {
           next = begins;

@@ -21,9 +21,10 @@ use Rattle.access.specs.Read.{readNode}
 use Rattle.access.specs.declared.effect.Effect.{Effect}
 use Rattle.access.specs.declared.effect.Effect.the-variants.{Nothing, Grow, Push, Pop, Exchange, Clean}
 use Rattle.access.proofs.OrderLaws.{item-key, item-trans}
-use Rattle.bag.specs.History.{effectTells}
+use Rattle.bag.specs.History.{rootItem}
 use Rattle.bag.specs.Ledger.{Operation, none, holding, Ledger, Follows, still, put-decides, take-decides, empty-decides, take-answers, oneMore, oneLess}
 use Rattle.bag.specs.Tree.{sameItem}
+use Rattle.bag.proofs.Answers.{effectTells}
 use Rattle.bag.proofs.Effects.{Keeps, Mound, in-tree, root-there, value-there, rely-same, grow-keeps, grow-counts, push-keeps, push-counts, pop-keeps, pop-counts, pop-own, exchange-keeps, exchange-counts, clean-keeps, clean-counts}
 use Rattle.bag.proofs.Facts.{At, stays}
 use Rattle.bag.proofs.Held.{val, counted, held-by, head-held}
@@ -143,7 +144,7 @@ module _ (s : Shape) (f : Frame) (b : List ℕ) (own own′ : ℕ → ℕ) (l : 
 
   pub record Step (e : Effect) (a : Answer) (op′ : Operation) : Type 0 where
     pub after : Ledger
-    pub follows : Follows (effectTells f b t a e) l after
+    pub follows : Follows (effectTells (rootItem f b) t a e) l after
     pub stepped : Stepped s m (effectShared m e) own own′ l after t op′
     -- a cell that the thread still owns is as before
     pub mine : 1 ≤ own′ t → effectShared m e .cell (own′ t) ≡ m .cell (own′ t)

@@ -1,4 +1,4 @@
--- Every statement of specs/ about histories, under its name: demand 3, its corollaries, and what else holds throughout. Assumes nothing.
+-- Every statement of specs/ about histories, under its name: demand 3, and what else holds throughout. Assumes nothing.
 use Prim.Native.Nat.{ℕ}
 use native.Mathlib.Omega.{arith}
 use mathlib.Core.Path.{_≡_, refl, sym, ap, subst, _∙_}
@@ -16,26 +16,24 @@ use Rattle.access.specs.Plan.{plan, refused}
 use Rattle.layout.specs.Layout.{layoutBytes}
 use Rattle.readable.proofs.Laws.{readable-good}
 use Rattle.machine.specs.Turn.{staysPut, turnAnswer, turnPlan}
-use Rattle.bag.specs.Ledger.{Follows, Ledger, Operation, emptyLedger}
+use Rattle.bag.specs.Ledger.{Ledger, Operation, emptyLedger}
 use Rattle.bag.specs.Moments.{Throughout, regionAfter}
 use Rattle.bag.specs.Theorems.{CellsAccounted, NoTurnUnreadable, RefusedTenWhenFull, StaysReadable, TakesEndInTime}
 use Rattle.bag.proofs.Account.{all-cells-accounted, puts-refused-when-full}
 use Rattle.bag.proofs.Ceiling.{take-ends}
 use Rattle.bag.proofs.Plans.{Planned, moves, refuses, rests}
 use Rattle.bag.proofs.Histories.{Kept, kept-after}
-use Rattle.bag.proofs.Proved.{history-kept}
+use Rattle.bag.proofs.Proved.{Moves, history-kept}
 use Rattle.bag.proofs.Regions.{Region, plan-fits, nowhere, speaks-moves}
 use Rattle.bag.proofs.Start.{laid-region}
 pub use Rattle.bag.proofs.Proved.{region-is-a-bag}
-pub use Rattle.bag.proofs.Operations.{every-moment-as-a-bag, operations-decide-once}
-pub use Rattle.bag.proofs.Answers.{turn-says-its-answer}
-pub use Rattle.bag.proofs.EmptyList.{empty-list-changes-nothing}
+pub use Rattle.bag.proofs.Exported.{calls-are-exported}
 
 -- the invariant holds of every region of a history, with some ledger
 holds : Throughout λ s permissions b. (l : Ledger) × Region s b l
 holds s ps b e calls n earlier later split =
-    kept-after (Region s) Follows earlier later (layoutBytes s ps b) emptyLedger (laid-region s ps b e)
-    (subst (Kept (Region s) Follows emptyLedger) split (history-kept s ps b e calls n))
+    kept-after (Region s) Moves earlier later (layoutBytes s ps b) emptyLedger (laid-region s ps b e)
+    (subst (Kept (Region s) Moves emptyLedger) split (history-kept s ps b e calls n))
 
 pub stays-readable : StaysReadable
 stays-readable s ps b e calls n earlier later split =

@@ -1,14 +1,16 @@
 -- The calls on a region, with their arguments as given (document 01, The bag: "any list of calls on it .. put, take, run, check
--- and refused layouts, with whatever arguments, refused or not").
+-- and refused layouts, with whatever arguments, refused or not"). That they are the exported functions is Exported.antt.
 use Prim.Native.Nat.{ℕ}
 use mathlib.Core.Path.{_≡_}
 use mathlib.Core.List.{List, [], _∷_}
+use lib.ListN.{length}
 use Rattle.region.specs.Answer.{done}
 use Rattle.region.specs.declared.record.Item.{Item}
 use Rattle.region.specs.declared.shape.Shape.{Shape}
 use Rattle.layout.specs.Layout.{layoutRefusal, layoutBytes}
-use Rattle.machine.specs.Begin.{putBytes, takeBytes}
-use Rattle.machine.specs.Run.{runResult}
+use Rattle.readable.specs.Readable.{checkAnswer}
+use Rattle.machine.specs.Begin.{putBytes, putRefusal, takeBytes, takeRefusal}
+use Rattle.machine.specs.Run.{runRefusal, runResult}
 
 pub data Call : Type 0 where
   layout : Shape → List ℕ → Call
@@ -16,6 +18,14 @@ pub data Call : Type 0 where
   take : ℕ → Call
   run : List ℕ → ℕ → List ℕ → Call
   check : Call
+
+-- what a call on the region b answers: done, or its refusal's number
+unfoldable pub refusalOf : List ℕ → Call → ℕ
+refusalOf b (layout s permissions) = layoutRefusal s permissions (length b)
+refusalOf b (put t i) = putRefusal b t i
+refusalOf b (take t) = takeRefusal b t
+refusalOf b (run schedule limit answers) = runRefusal b schedule (length answers)
+refusalOf b check = checkAnswer b
 
 -- the region after a call: "Each call is lent the whole region as the one before left it"
 unfoldable pub after : List ℕ → Call → List ℕ
@@ -26,10 +36,10 @@ after b (run schedule limit answers) = runResult b schedule limit answers .regio
 after b check = b
 
 -- "without another accepted layout", on a slice of l bytes
-abbrev pub NoLayout : ℕ → List Call → Type 0
-NoLayout l [] = Unit
-NoLayout l (layout s permissions ∷ cs) = (layoutRefusal s permissions l ≡ done → ⊥) × NoLayout l cs
-NoLayout l (put t i ∷ cs) = NoLayout l cs
-NoLayout l (take t ∷ cs) = NoLayout l cs
-NoLayout l (run schedule limit answers ∷ cs) = NoLayout l cs
-NoLayout l (check ∷ cs) = NoLayout l cs
+abbrev pub NoAcceptedLayout : ℕ → List Call → Type 0
+NoAcceptedLayout l [] = Unit
+NoAcceptedLayout l (layout s permissions ∷ cs) = (layoutRefusal s permissions l ≡ done → ⊥) × NoAcceptedLayout l cs
+NoAcceptedLayout l (put t i ∷ cs) = NoAcceptedLayout l cs
+NoAcceptedLayout l (take t ∷ cs) = NoAcceptedLayout l cs
+NoAcceptedLayout l (run schedule limit answers ∷ cs) = NoAcceptedLayout l cs
+NoAcceptedLayout l (check ∷ cs) = NoAcceptedLayout l cs

@@ -4,7 +4,7 @@ use Prim.Native.Nat.{ℕ, _+_, _-_, _≤_}
 use mathlib.Core.Path.{_≡_}
 use Rattle.region.specs.Pick.{pick, upd}
 use Rattle.region.specs.declared.record.Item.{Item}
-use Rattle.bag.specs.History.{Told, nothing, begunPut, begunTake, decidedPut, decidedTake, decidedEmpty, tookItem}
+use Rattle.bag.specs.Told.{Told, nothing, beginsPut, beginsTake, decidesPut, decidesTake, decidesEmpty, answersTook}
 use Rattle.bag.specs.Tree.{sameItem}
 
 -- a thread's operation begun last, as far as it goes
@@ -37,19 +37,19 @@ pub data Follows : Told → Ledger → Ledger → Type 0 where
   still : {l : Ledger} → Follows nothing l l
   -- a beginning; the thread has no operation under way
   put-begins : {l : Ledger} {t : ℕ} {i : Item} → l .operation t ≡ none
-      → Follows (begunPut t i) l (record { bag = l .bag; operation = upd (l .operation) t (putting i) })
+      → Follows (beginsPut t i) l (record { bag = l .bag; operation = upd (l .operation) t (putting i) })
   take-begins : {l : Ledger} {t : ℕ} → l .operation t ≡ none
-      → Follows (begunTake t) l (record { bag = l .bag; operation = upd (l .operation) t taking })
-  -- "Successful I6 or I8: one copy more of the item given to the put's call."
+      → Follows (beginsTake t) l (record { bag = l .bag; operation = upd (l .operation) t taking })
+  -- "Successful I6 or I8: one copy more of the item given to the put's call." The same turn answers the put.
   put-decides : {l : Ledger} {t : ℕ} {i : Item} → l .operation t ≡ putting i
-      → Follows (decidedPut t) l (record { bag = oneMore (l .bag) i; operation = upd (l .operation) t none })
+      → Follows (decidesPut t) l (record { bag = oneMore (l .bag) i; operation = upd (l .operation) t none })
   -- "Successful E2: .. The bag holds it and holds no lesser key; one copy leaves."
   take-decides : {l : Ledger} {t : ℕ} {i : Item} → l .operation t ≡ taking → 1 ≤ l .bag i
       → ((j : Item) → 1 ≤ l .bag j → i .key ≤ j .key)
-      → Follows (decidedTake t i) l (record { bag = oneLess (l .bag) i; operation = upd (l .operation) t (holding i) })
-  -- "E1 that answers empty: the bag holds nothing."
+      → Follows (decidesTake t i) l (record { bag = oneLess (l .bag) i; operation = upd (l .operation) t (holding i) })
+  -- "E1 that answers empty: the bag holds nothing." The same turn answers the take.
   empty-decides : {l : Ledger} {t : ℕ} → l .operation t ≡ taking → ((j : Item) → l .bag j ≡ 0)
-      → Follows (decidedEmpty t) l (record { bag = l .bag; operation = upd (l .operation) t none })
+      → Follows (decidesEmpty t) l (record { bag = l .bag; operation = upd (l .operation) t none })
   -- "The take's answer, if it comes, is took with this item."
   take-answers : {l : Ledger} {t : ℕ} {i : Item} → l .operation t ≡ holding i
-      → Follows (tookItem t i) l (record { bag = l .bag; operation = upd (l .operation) t none })
+      → Follows (answersTook t i) l (record { bag = l .bag; operation = upd (l .operation) t none })

@@ -2,11 +2,12 @@
 pub mod Account
 pub mod Calls
 pub mod Ceiling
-pub mod Claim
-pub mod EmptyList
+pub mod Demand3
+pub mod Exported
 pub mod History
 pub mod Ledger
 pub mod Moments
 pub mod Operations
 pub mod Theorems
+pub mod Told
 pub mod Tree

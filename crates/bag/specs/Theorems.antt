@@ -1,5 +1,5 @@
--- What holds throughout every history of a laid-out region, beside demand 3 itself (Claim, Operations, EmptyList). Each is
--- proved under its name in proofs/Theorems.antt.
+-- What holds throughout every history of a laid-out region, beside demand 3 itself (Demand3.antt). Each is proved under its name in
+-- proofs/Theorems.antt.
 use Prim.Native.Nat.{ℕ}
 use mathlib.Core.Path.{_≡_}
 use mathlib.Core.Bool.{true}

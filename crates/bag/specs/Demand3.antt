@@ -1,0 +1,68 @@
+-- Demand 3, whole: `RegionIsABag`, proved by the one term `region-is-a-bag` of proofs/Proved.antt.
+use Prim.Native.Nat.{ℕ, _-_, _≤_}
+use mathlib.Core.Path.{_≡_}
+use mathlib.Core.Bool.{Bool, true, false}
+use mathlib.Core.List.{List, [], _∷_}
+use lib.Dec.{eqb}
+use lib.ListN.{getD}
+use Rattle.region.specs.declared.answer.Answer.{Answer}
+use Rattle.region.specs.declared.answer.Answer.the-variants.{Moved, Idle, Inserted, Took, Empty, Refused}
+use Rattle.region.specs.declared.record.Item.{Item}
+use Rattle.region.specs.declared.shape.Shape.{Shape}
+use Rattle.machine.specs.Begin.{frameIn}
+use Rattle.bag.specs.Calls.{Call, layout, put, take, run, check}
+use Rattle.bag.specs.History.{Event, called, turned, Moment}
+use Rattle.bag.specs.Ledger.{Ledger, Follows, emptyLedger}
+use Rattle.bag.specs.Moments.{InEveryHistory, EachMoment}
+use Rattle.bag.specs.Operations.{AnsweredDecidesOnce, DecidesAtMostOnce}
+use Rattle.bag.specs.Told.{Told, nothing, decidesPut, decidesTake, decidesEmpty, answersTook, tells}
+use Rattle.bag.specs.Tree.{inTree}
+
+-- the bag holds exactly what the tree of the region holds
+abbrev pub HoldsTheSame : Ledger → List ℕ → Type 0
+HoldsTheSame l b = (i : Item) → l .bag i ≡ inTree (frameIn b) b i
+
+-- so it is before the first moment, b being the region then; and the ledger follows every moment, and after each it is so again
+abbrev pub Agrees : Ledger → List ℕ → List Moment → Type 0
+Agrees l b [] = HoldsTheSame l b
+Agrees l b (m ∷ ms) = HoldsTheSame l b × ((l′ : Ledger) × Follows (tells (m .event)) l l′ × Agrees l′ (m .region) ms)
+
+-- a turn of thread t that answers so tells this: no other turn answers inserted, took or empty
+pub data Says (t : ℕ) : Answer → Told → Type 0 where
+  moved : Says t Moved nothing
+  removed : {i : Item} → Says t Moved (decidesTake t i)
+  idle : Says t Idle nothing
+  inserted : Says t Inserted (decidesPut t)
+  took : {i : Item} → Says t (Took i) (answersTook t i)
+  empty : Says t Empty (decidesEmpty t)
+  refused : {n : ℕ} → Says t (Refused n) nothing
+
+abbrev pub AnswerSays : Event → Type 0
+AnswerSays (called c r) = Unit
+AnswerSays (turned x) = Says (x .thread) (x .answer) (tells (turned x))
+
+-- a call or turn of thread t
+abbrev pub makes : ℕ → Event → Bool
+makes t (called (layout s permissions) r) = false
+makes t (called (put u i) r) = eqb t u
+makes t (called (take u) r) = eqb t u
+makes t (called (run schedule limit answers) r) = false
+makes t (called check r) = false
+makes t (turned x) = eqb t (x .thread)
+
+-- of a region b that was laid out with this shape and permission list, and its history
+pub record Demand3 (s : Shape) (permissions b : List ℕ) (ms : List Moment) : Type 0 where
+  -- "the region cannot differ from a plain bag of items"; "after each call and each served turn the bag holds exactly what the tree holds"
+  pub bag : Agrees emptyLedger b ms
+  -- "Each operation has at most one deciding access, each answered one exactly one, after its beginning and no later than its answer"
+  pub at-most-once : DecidesAtMostOnce ms
+  pub answered-once : AnsweredDecidesOnce ms
+  -- a turn's answer says what it told
+  pub answers-say : EachMoment (λ before m. AnswerSays (m .event)) b ms
+  -- "no call or turn of a thread with an empty permission list changes it"
+  pub empty-list : (t : ℕ) → 1 ≤ t → t ≤ s .threads → getD permissions (t - 1) 0 ≡ 0
+      → EachMoment (λ before m. makes t (m .event) ≡ true → m .region ≡ before) b ms
+
+-- "For every list of calls on a laid-out region .. whatever the order of turns and the leaf choices"
+abbrev pub RegionIsABag : Type 0
+RegionIsABag = InEveryHistory Demand3
