@@ -5,7 +5,7 @@ use Prim.Native.Nat.{ℕ, zero, suc, _+_, _*_, _≤_}
 use native.Mathlib.Decide.{ℕ-discrete}
 use native.Mathlib.Omega.{arith}
 use mathlib.Core.Path.{_≡_, refl, sym, ap, subst, _∙_}
-use mathlib.Core.Bool.{Bool, true, false}
+use mathlib.Core.Bool.{Bool, true, false, not}
 use mathlib.Core.List.{List, [], _∷_}
 use borrow.Author.Tests.{eq-eqb, ne-eqb}
 use lib.Dec.{eqb}
@@ -24,7 +24,7 @@ use Rattle.region.specs.declared.shape.Shape.{Shape}
 use Rattle.region.specs.declared.thread.Thread.{Thread}
 use Rattle.readable.specs.Readable.{shapeIn}
 use Rattle.readable.proofs.Laws.{Good}
-use Rattle.machine.specs.Begin.{frameIn, putBusy, putRefusal}
+use Rattle.machine.specs.Begin.{frameIn, hasFreeCell, putRefusal}
 use Rattle.bag.specs.Account.{anyItem, treeCells, isPutPlace, putsAmong, begunPuts, freeCells, AllCellsAccounted, NothingElseRefuses, RefusedWhenFull, PutsRefusedWhenFull}
 use Rattle.bag.specs.Ledger.{Ledger, Operation}
 use Rattle.bag.specs.Tree.{inList, inNodes}
@@ -120,8 +120,8 @@ module _ (s : Shape) (m : Shared) (th : ℕ → Thread) (l : Ledger) (inv : Inva
 
 -- where nothing else refuses a put, the first free cell decides
 cell-decides : (b : List ℕ) (t : ℕ) (i : Item) → NothingElseRefuses b t i
-    → putRefusal b t i ≡ pick (eqb (word b (frameIn b .free)) 0) noFreeCell done
-unfolding putRefusal putBusy pick
+    → putRefusal b t i ≡ pick (not (eqb (word b (frameIn b .free)) 0)) done noFreeCell
+unfolding putRefusal hasFreeCell pick
 cell-decides b t i a = rw (a .region, a .thread, a .item, a .permitted, a .idle) refl
 
 -- Both, of every readable region of which the invariant holds.
@@ -141,8 +141,8 @@ module _ (s : Shape) (b : List ℕ) (l : Ledger) (g : Good s b)
       first : ℕ
       first = word b (frameIn b .free)
 
-      decided : (q : Bool) → eqb first 0 ≡ q → putRefusal b t i ≡ pick q noFreeCell done
-      decided q e = cell-decides b t i a ∙ ap (λ x. pick x noFreeCell done) e
+      decided : (q : Bool) → eqb first 0 ≡ q → putRefusal b t i ≡ pick (not q) done noFreeCell
+      decided q e = cell-decides b t i a ∙ ap (λ x. pick (not x) done noFreeCell) e
 
       go : Dec (first ≡ 0) → RefusedWhenFull b t i
       go (yes e) =

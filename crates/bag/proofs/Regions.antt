@@ -37,11 +37,11 @@ use Rattle.access.proofs.OrderLaws.{item-below-top}
 use Rattle.readable.specs.Readable.{readable, shapeIn}
 use Rattle.readable.proofs.Laws.{Good}
 use Rattle.readable.proofs.Stores.{good-thread, good-within, thread-fit}
-use Rattle.machine.specs.Begin.{frameIn, isIdle, isItem, mayPut, mayTake, acceptedPut, putBusy, putRefusal, takeRefusal}
+use Rattle.machine.specs.Begin.{frameIn, isIdle, isItem, mayTake, acceptedPut, putRefusal, takeRefusal}
 use Rattle.machine.specs.Run.{Turn}
 use Rattle.machine.specs.Turn.{staysPut, turnBytes, turnPlan}
 use Rattle.preserved.proofs.EffectsGood.{cell-fit}
-use Rattle.preserved.proofs.Proved.{begun-put-good, begun-take-good, free-few, in-order, next-few, put-allowed, put-item, turn-good}
+use Rattle.preserved.proofs.Proved.{begun-put-good, begun-take-good, free-few, in-order, next-few, put-item, put-passed, turn-good}
 use Rattle.bag.specs.History.{rootItem, servedOn, turned}
 use Rattle.bag.specs.Ledger.{Operation, none, putting, taking, Ledger, Follows, still, put-begins, take-begins}
 use Rattle.bag.specs.Told.{Told, nothing, beginsPut, beginsTake, tells}
@@ -170,9 +170,7 @@ module _ (b : List ℕ) (t : ℕ) where
   x = threadIn (frameIn b) b t
 
   pub put-idle : (i : Item) → putRefusal b t i ≡ done → isIdle x ≡ true
-  unfolding putBusy
-  put-idle i e =
-      in-order (isIdle x) _ 9 (λ z. omega arith) (in-order (mayPut x) _ 8 (λ z. omega arith) (put-allowed b t i e) .1) .0
+  put-idle i e = put-passed b t i e .idle
 
   pub put-key : (i : Item) → putRefusal b t i ≡ done → i .key ≤ 4294967294
   unfolding isItem

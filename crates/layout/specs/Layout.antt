@@ -7,11 +7,11 @@ use mathlib.Core.List.{List, [], _∷_}
 use lib.Dec.{leb, ltb, eqb}
 use lib.ListN.{length, getD}
 use Rattle.words.specs.Word.{setWords}
-use Rattle.region.specs.Answer.{done, badShape, badLength}
+use Rattle.region.specs.Answer.{done, badShape, badLength, _unless_otherwise_}
 use Rattle.region.specs.Frame.{frameOf}
 use Rattle.region.specs.Pick.{pick}
 use Rattle.region.specs.Shape.{shapeFits, regionWords}
-use Rattle.region.specs.Thread.{threadSize}
+use Rattle.region.specs.Thread.{threadSize, greatestPermission}
 use Rattle.region.specs.declared.shape.Shape.{Shape}
 
 -- every element is at most m
@@ -22,13 +22,15 @@ atMost m (x ∷ xs) = leb x m && atMost m xs
 -- "a permission list .. of T bytes of 0..3"
 unfoldable pub permissionsFit : Shape → List ℕ → Bool
 unfolding atMost
-permissionsFit s ps = eqb (length ps) (s .threads) && atMost 3 ps
+permissionsFit s ps = eqb (length ps) (s .threads) && atMost greatestPermission ps
 
--- "1: layout shape outside the ranges, or a permission list not of T bytes of 0..3. 2: layout slice not of the exact length."
--- l is the slice's length in bytes.
+-- "layout 1, 2": "1: layout shape outside the ranges, or a permission list not of T bytes of 0..3. 2: layout slice not of the exact
+-- length."; l is the slice's length in bytes
 unfoldable pub layoutRefusal : Shape → List ℕ → ℕ → ℕ
 layoutRefusal s ps l =
-    pick (shapeFits s && permissionsFit s ps) (pick (eqb l (4 * regionWords s)) done badLength) badShape
+    badShape unless shapeFits s && permissionsFit s ps
+    otherwise badLength unless eqb l (4 * regionWords s)
+    otherwise done
 
 -- word j of the cells: "key, tag, next cell (0 ends)"; the cells chain, the last ends the chain
 unfoldable pub cellWord : ℕ → ℕ → ℕ

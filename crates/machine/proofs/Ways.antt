@@ -9,11 +9,12 @@ use lib.Dec.{leb, eqb}
 use lib.ListN.{length}
 use Rattle.words.specs.Word.{word, setWord}
 use Rattle.words.proofs.Laws.{length-setWord}
-use Rattle.region.specs.Answer.{done, badThread, badItem, unreadable, notPermitted, threadBusy, noFreeCell}
+use Rattle.region.specs.Answer.{done, badThread, badItem, unreadable, notPermitted, threadBusy, noFreeCell, _unless_otherwise_}
 use Rattle.region.specs.Frame.{frameOf}
 use Rattle.region.specs.Inner.{Within}
 use Rattle.region.specs.Pick.{pick}
 use Rattle.region.specs.Place.{placeNumber}
+use Rattle.region.specs.Record.{greatestKey, greatestTag}
 use Rattle.region.specs.Shape.{between}
 use Rattle.region.specs.Shared.{loadEntry, sharedIn, cellIn, setCellIn, threadIn, setThreadIn}
 use Rattle.region.specs.Thread.{begunPut, begunTake, goneIdle, idleThread}
@@ -34,7 +35,7 @@ use Rattle.access.specs.declared.effect.Effect.the-variants.{Nothing, Grow, Pus
 use Rattle.access.specs.declared.plan.Plan.{Plan}
 use Rattle.readable.specs.Readable.{readable, shapeIn}
 use Rattle.readable.proofs.Laws.{readable-within}
-use Rattle.machine.specs.Begin.{PutBegun, TakeBegun, frameIn, isIdle, isItem, mayPut, mayTake, acceptedPut, putBusy, putBytes, putRefusal, takeBytes, takeRefusal}
+use Rattle.machine.specs.Begin.{PutBegun, TakeBegun, frameIn, isIdle, isItem, mayPut, mayTake, acceptedPut, hasFreeCell, putBytes, putRefusal, takeBytes, takeRefusal}
 use Rattle.machine.specs.Turn.{Turned, TurnedOn, carriedOut, decide, decideAt, ends, staysPut, turnAnswer, turnBytes, turnOnAnswer, turnOnBytes, turnPlan}
 use Rattle.machine.specs.Inner.{Carried, EndAsked, PutBackAsked}
 
@@ -122,33 +123,36 @@ module _ (f : Frame) (b : List ℕ) (t c : ℕ) where
 
 -- What a beginning asks of a thread and an item.
 module _ (i : Item) where
-  pub no-key : 4294967294 < i .key → false ≡ isItem i
+  pub no-key : greatestKey < i .key → false ≡ isItem i
   unfolding isItem
-  no-key h = rw (lt-leb (i .key) 4294967294 h) refl
+  no-key h = rw (lt-leb (i .key) greatestKey h) refl
 
-  pub some-key : i .key ≤ 4294967294 → leb (i .tag) 65535 ≡ isItem i
+  pub some-key : i .key ≤ greatestKey → leb (i .tag) greatestTag ≡ isItem i
   unfolding isItem
-  some-key h = rw (le-leb (i .key) 4294967294 h) refl
+  some-key h = rw (le-leb (i .key) greatestKey h) refl
 
 pub idle-test : (t : Thread) (n : ℕ) → n ≡ placeNumber (t .place) → eqb n 0 ≡ isIdle t
 unfolding isIdle
 idle-test t n e = ap (λ k. eqb k 0) e
 
+-- The last refusals of a put, then all: the first test that fails decides.
+abbrev lastOfPut : Frame → List ℕ → Thread → ℕ
+lastOfPut f b t = threadBusy unless isIdle t otherwise noFreeCell unless hasFreeCell f b otherwise done
+
 module _ (f : Frame) (b : List ℕ) (t : Thread) (q : Bool) (eq : q ≡ isIdle t) where
-  pub put-is-busy : not q ≡ true → threadBusy ≡ putBusy f b t
-  unfolding putBusy pick
+  pub put-is-busy : not q ≡ true → threadBusy ≡ lastOfPut f b t
+  unfolding pick
   put-is-busy n = rw (← eq, not-true q n) refl
 
   module _ (gq : not q ≡ false) (w : ℕ) (ew : w ≡ word b (f .free)) where
-    pub no-cell : w ≡ 0 → noFreeCell ≡ putBusy f b t
-    unfolding putBusy pick
+    pub no-cell : w ≡ 0 → noFreeCell ≡ lastOfPut f b t
+    unfolding hasFreeCell pick
     no-cell e = rw (← eq, not-false q gq, ← ew, eq-eqb w 0 e) refl
 
-    pub some-cell : (w ≡ 0 → ⊥) → done ≡ putBusy f b t
-    unfolding putBusy pick
+    pub some-cell : (w ≡ 0 → ⊥) → done ≡ lastOfPut f b t
+    unfolding hasFreeCell pick
     some-cell n = rw (← eq, not-false q gq, ← ew, ne-eqb w 0 n) refl
 
--- The refusals: the first test that fails decides.
 module _ (b : List ℕ) (t : ℕ) (q : Bool) (eq : q ≡ readable b) where
   pub put-unreadable : (i : Item) → not q ≡ true → unreadable ≡ putRefusal b t i
   unfolding putRefusal pick
@@ -197,12 +201,12 @@ module _ (b : List ℕ) (t : ℕ) (q : Bool) (eq : q ≡ readable b) where
               put-not-permitted n =
                   rw (read-well, ← thread-test, not-false p gp, ← eu, not-false u gu, ← put-test, not-true m n) refl
 
-              pub put-permitted : not m ≡ false → (r : ℕ) → r ≡ putBusy f b x → r ≡ putRefusal b t i
+              pub put-permitted : not m ≡ false → (r : ℕ) → r ≡ lastOfPut f b x → r ≡ putRefusal b t i
               unfolding putRefusal pick
               put-permitted n r e =
                   rw
                   (read-well, ← thread-test, not-false p gp, ← eu, not-false u gu, ← put-test, not-false m n)
-                  (e ∙ (λ j. putBusy (ef j) b (put-thread j)))
+                  (e ∙ (λ j. lastOfPut (ef j) b (put-thread j)))
 
           module _ (x : Thread) (ex : x ≡ threadIn f b t) (m : Bool) (em : m ≡ mayTake x) where
             take-thread : x ≡ threadIn (frameIn b) b t

@@ -1,14 +1,15 @@
 -- Beginning a put and a take on a whole region (document 01, The sixteen places and the refusals).
 use Prim.Native.Nat.{ℕ, _/_, _%_}
 use mathlib.Core.Path.{_≡_}
-use mathlib.Core.Bool.{Bool, _&&_}
+use mathlib.Core.Bool.{Bool, not, _&&_}
 use mathlib.Core.List.{List}
 use lib.Dec.{leb, eqb}
 use Rattle.words.specs.Word.{word, setWord}
-use Rattle.region.specs.Answer.{done, badThread, badItem, unreadable, notPermitted, threadBusy, noFreeCell}
+use Rattle.region.specs.Answer.{done, badThread, badItem, unreadable, notPermitted, threadBusy, noFreeCell, _unless_otherwise_}
 use Rattle.region.specs.Frame.{frameOf}
 use Rattle.region.specs.Pick.{pick}
 use Rattle.region.specs.Place.{placeNumber}
+use Rattle.region.specs.Record.{greatestKey, greatestTag}
 use Rattle.region.specs.Shape.{between}
 use Rattle.region.specs.Shared.{cellIn, setCellIn, threadIn, setThreadIn}
 use Rattle.region.specs.Thread.{begunPut, begunTake}
@@ -33,26 +34,22 @@ isIdle t = eqb (placeNumber (t .place)) 0
 
 -- "Keys are 0 to 4,294,967,294.", "Tags are 0 to 65,535."
 unfoldable pub isItem : Item → Bool
-isItem i = leb (i .key) 4294967294 && leb (i .tag) 65535
+isItem i = leb (i .key) greatestKey && leb (i .tag) greatestTag
 
--- 9 and 10, behind the permission
-unfoldable pub putBusy : Frame → List ℕ → Thread → ℕ
-putBusy f b t = pick (isIdle t) (pick (eqb (word b (f .free)) 0) noFreeCell done) threadBusy
+-- a cell is free: the chain of free cells has a first one
+unfoldable pub hasFreeCell : Frame → List ℕ → Bool
+hasFreeCell f b = not (eqb (word b (f .free)) 0)
 
 -- "Put 7, 3, 4, 8, 9, 10."
 unfoldable pub putRefusal : List ℕ → ℕ → Item → ℕ
-unfolding putBusy
 putRefusal b t i =
-    pick
-    (readable b)
-    (pick
-    (between 1 t (shapeIn b .threads))
-    (pick
-    (isItem i)
-    (pick (mayPut (threadIn (frameIn b) b t)) (putBusy (frameIn b) b (threadIn (frameIn b) b t)) notPermitted)
-    badItem)
-    badThread)
-    unreadable
+    unreadable unless readable b
+    otherwise badThread unless between 1 t (shapeIn b .threads)
+    otherwise badItem unless isItem i
+    otherwise notPermitted unless mayPut (threadIn (frameIn b) b t)
+    otherwise threadBusy unless isIdle (threadIn (frameIn b) b t)
+    otherwise noFreeCell unless hasFreeCell (frameIn b) b
+    otherwise done
 
 -- "Own cell is the first free one; key and tag are written in it, next 0": it leaves the chain
 unfoldable pub acceptedPut : Frame → List ℕ → ℕ → Item → List ℕ
@@ -72,13 +69,11 @@ putBytes b t i = pick (eqb (putRefusal b t i) done) (acceptedPut (frameIn b) b t
 -- "Take 7, 3, 8, 9."
 unfoldable pub takeRefusal : List ℕ → ℕ → ℕ
 takeRefusal b t =
-    pick
-    (readable b)
-    (pick
-    (between 1 t (shapeIn b .threads))
-    (pick (mayTake (threadIn (frameIn b) b t)) (pick (isIdle (threadIn (frameIn b) b t)) done threadBusy) notPermitted)
-    badThread)
-    unreadable
+    unreadable unless readable b
+    otherwise badThread unless between 1 t (shapeIn b .threads)
+    otherwise notPermitted unless mayTake (threadIn (frameIn b) b t)
+    otherwise threadBusy unless isIdle (threadIn (frameIn b) b t)
+    otherwise done
 
 unfoldable pub takeBytes : List ℕ → ℕ → List ℕ
 takeBytes b t =

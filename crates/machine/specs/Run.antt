@@ -5,7 +5,7 @@ use mathlib.Core.List.{List, [], _∷_}
 use lib.Dec.{leb, eqb}
 use lib.ListN.{length}
 use Rattle.words.specs.Word.{word, setWords}
-use Rattle.region.specs.Answer.{done, shortAnswers, badSchedule, unreadable, answerWords}
+use Rattle.region.specs.Answer.{done, shortAnswers, badSchedule, unreadable, answerWords, _unless_otherwise_}
 use Rattle.region.specs.Pick.{pick}
 use Rattle.region.specs.declared.answer.Answer.{Answer}
 use Rattle.region.specs.declared.answer.Answer.the-variants.{Moved, Idle, Inserted, Took, Empty, Refused}
@@ -64,13 +64,10 @@ serveAll f limit (t ∷ ts) r = pick (eqb (r .accesses) limit) r (serveAll f lim
 -- "Run 7, 6, 5": "6: schedule not whole turns of 8 bytes, or over 4,096", "5: answer slice below 12 bytes a turn"; l is the answers' length
 unfoldable pub runRefusal : List ℕ → List ℕ → ℕ → ℕ
 runRefusal b schedule l =
-    pick
-    (readable b)
-    (pick
-    (eqb (length schedule % 8) 0 && leb (length schedule / 8) 4096)
-    (pick (leb (12 * (length schedule / 8)) l) done shortAnswers)
-    badSchedule)
-    unreadable
+    unreadable unless readable b
+    otherwise badSchedule unless eqb (length schedule % 8) 0 && leb (length schedule / 8) 4096
+    otherwise shortAnswers unless leb (12 * (length schedule / 8)) l
+    otherwise done
 
 -- the whole call: "The result is the turns served, refused and idle ones included, and the accesses made"; a refused one changes nothing
 unfoldable pub runResult : List ℕ → List ℕ → ℕ → List ℕ → Served

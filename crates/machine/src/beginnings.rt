@@ -1,8 +1,9 @@
 // Beginning a put and a take: calls on a whole region, which refuse what they cannot begin and then change no byte.
 ghost use mathlib.Core.Path.{_≡_};
 ghost use lib.ListN.{length};
+ghost use Rattle.region.specs.Answer.{done, threadBusy, noFreeCell, _unless_otherwise_};
 ghost use Rattle.region.specs.Inner.{Within};
-ghost use Rattle.machine.specs.Begin.{PutBegun, TakeBegun, isIdle, isItem, mayPut, mayTake, acceptedPut, putBusy, putRefusal, takeRefusal};
+ghost use Rattle.machine.specs.Begin.{PutBegun, TakeBegun, isIdle, isItem, mayPut, mayTake, acceptedPut, hasFreeCell, putRefusal, takeRefusal};
 use region::BAD_ITEM;
 use region::BAD_THREAD;
 use region::Cell;
@@ -43,10 +44,10 @@ fn is_item(i: Item) -> bool
     i.tag <= 65535
 }
 
-// Refusals 9 and 10 of a put.
+// The last refusals of a put, 9 and 10, or done.
 fn put_busy(f: Frame, b: &[u8], t: Thread) -> u32
     requires { ⌜ Within f (length (now b)) ⌝ }
-    ensures { λ r. ⌜ r ≡ putBusy f (now (b .entry)) t ⌝ }
+    ensures { λ r. ⌜ r ≡ (threadBusy unless isIdle t otherwise noFreeCell unless hasFreeCell f (now (b .entry)) otherwise done) ⌝ }
 {
     if !is_idle(t) {
         return THREAD_BUSY;

@@ -5,17 +5,18 @@ use Prim.Native.Nat.{ℕ, _+_, _*_, _^_, _≤_, _<_}
 use native.Mathlib.Omega.{arith}
 use mathlib.Core.Path.{_≡_, refl, sym, ap, subst, _∙_}
 use mathlib.Core.Logic.{inl, inr}
-use mathlib.Core.Bool.{Bool, true, false, true≢false}
+use mathlib.Core.Bool.{Bool, true, false, not, true≢false}
 use mathlib.Core.List.{List}
 use borrow.Author.Tests.{eqb-true, eq-eqb, leb-true}
 use lib.Dec.{leb, eqb}
 use lib.ListN.{length}
 use Rattle.words.specs.Word.{word, setWord}
 use Rattle.words.proofs.Laws.{word-other, length-setWord}
-use Rattle.region.specs.Answer.{done, badThread, noFreeCell}
+use Rattle.region.specs.Answer.{done, badThread}
 use Rattle.region.specs.Frame.{frameOf, nodesOf}
 use Rattle.region.specs.Inner.{Within, InRange}
 use Rattle.region.specs.Pick.{pick}
+use Rattle.region.specs.Record.{greatestKey, greatestTag}
 use Rattle.region.specs.Shape.{between}
 use Rattle.region.specs.Shared.{Shared, entry, cellIn, setCellIn, setNodeIn, threadIn, setThreadIn, sharedIn}
 use Rattle.region.specs.Thread.{begunPut, begunTake, idleThread}
@@ -41,7 +42,7 @@ use Rattle.access.proofs.EffectLaws.{effect-word}
 use Rattle.readable.specs.Readable.{readable, shapeIn, threadReadable}
 use Rattle.readable.proofs.Laws.{Good, good, readable-good}
 use Rattle.readable.proofs.Stores.{CellGood, PlaceGood, ThreadGood, SharedGood, make-good, shape-kept, thread-reads, good-shared, good-thread, good-within, good-setThread, thread-fit}
-use Rattle.machine.specs.Begin.{frameIn, isIdle, isItem, mayPut, mayTake, acceptedPut, putBusy, putRefusal, putBytes, takeRefusal, takeBytes}
+use Rattle.machine.specs.Begin.{frameIn, isIdle, isItem, mayPut, mayTake, acceptedPut, hasFreeCell, putRefusal, putBytes, takeRefusal, takeBytes}
 use Rattle.machine.specs.Turn.{carriedOut, decide, decideAt, staysPut, turnBytes, turnPlan}
 use Rattle.preserved.specs.Theorems.{Apart, OutsideEffect, TurnKeepsReadable, PutKeepsReadable, TakeKeepsReadable, TurnKeepsShape, PutKeepsShape, TakeKeepsShape, TurnLeavesOthers, PutLeavesOthers, TakeLeavesOthers, TurnLeavesWords}
 use Rattle.preserved.proofs.EffectsGood.{cell-fit, good-effect, put-cell, thread-elsewhere}
@@ -226,54 +227,52 @@ module _ (s : Shape) (b : List ℕ) where
       unfolding acceptedPut
       put-begun-good t l u = good-setThread s ownStored stored-good t l u _ (put-thread-good t)
 
-none-free : (q : Bool) → q ≡ true → pick q noFreeCell done ≡ 0 → ⊥
-unfolding pick
-none-free true e z = omega arith
-none-free false e z = true≢false (sym e)
+-- every test of a put that is not refused holds
+pub record PutPassed (b : List ℕ) (t : ℕ) (i : Item) : Type 0 where
+  pub thread : between 1 t (shapeIn b .threads) ≡ true
+  pub item : isItem i ≡ true
+  pub permitted : mayPut (threadIn (frameIn b) b t) ≡ true
+  pub idle : isIdle (threadIn (frameIn b) b t) ≡ true
+  pub cell : hasFreeCell (frameIn b) b ≡ true
 
 module _ (b : List ℕ) (t : ℕ) (i : Item) (e : putRefusal b t i ≡ done) where
-  put-looked : pick (between 1 t (shapeIn b .threads))
-      (pick (isItem i) (pick (mayPut (threadIn (frameIn b) b t)) (putBusy (frameIn b) b (threadIn (frameIn b) b t)) 8) 4) 3 ≡ 0
+  pub put-passed : PutPassed b t i
   unfolding putRefusal
-  put-looked = in-order (readable b) _ 7 (λ z. omega arith) e .1
-
-  pub put-thread : between 1 t (shapeIn b .threads) ≡ true
-  put-thread = in-order (between 1 t (shapeIn b .threads)) _ 3 (λ z. omega arith) put-looked .0
-
-  put-rest : pick (isItem i) (pick (mayPut (threadIn (frameIn b) b t)) (putBusy (frameIn b) b (threadIn (frameIn b) b t)) 8) 4 ≡ 0
-  put-rest = in-order (between 1 t (shapeIn b .threads)) _ 3 (λ z. omega arith) put-looked .1
+  put-passed =
+      let x = threadIn (frameIn b) b t in
+      let region = in-order (readable b) _ 7 (λ z. omega arith) e in
+      let thread = in-order (between 1 t (shapeIn b .threads)) _ 3 (λ z. omega arith) (region .1) in
+      let item = in-order (isItem i) _ 4 (λ z. omega arith) (thread .1) in
+      let permitted = in-order (mayPut x) _ 8 (λ z. omega arith) (item .1) in
+      let idle = in-order (isIdle x) _ 9 (λ z. omega arith) (permitted .1) in
+      let cell = in-order (hasFreeCell (frameIn b) b) _ 10 (λ z. omega arith) (idle .1) in
+      record { thread = thread .0; item = item .0; permitted = permitted .0; idle = idle .0; cell = cell .0 }
 
   pub put-least : 1 ≤ t
-  put-least = between-least 1 t (shapeIn b .threads) put-thread
+  put-least = between-least 1 t (shapeIn b .threads) (put-passed .thread)
 
   pub put-most : t ≤ shapeIn b .threads
-  put-most = between-most 1 t (shapeIn b .threads) put-thread
+  put-most = between-most 1 t (shapeIn b .threads) (put-passed .thread)
 
   pub put-item : isItem i ≡ true
-  put-item = in-order (isItem i) _ 4 (λ z. omega arith) put-rest .0
+  put-item = put-passed .item
 
   put-key : i .key < 2 ^ 32
   unfolding isItem
   put-key =
-      let k = leb-true (i .key) 4294967294 (and-left (leb (i .key) 4294967294) (leb (i .tag) 65535) put-item) in
+      let k = leb-true (i .key) greatestKey (and-left (leb (i .key) greatestKey) (leb (i .tag) greatestTag) put-item) in
       omega arith
 
-  pub put-tag : i .tag ≤ 65535
+  pub put-tag : i .tag ≤ greatestTag
   unfolding isItem
-  put-tag = leb-true (i .tag) 65535 (and-right (leb (i .key) 4294967294) (leb (i .tag) 65535) put-item)
-
-  pub put-allowed : pick (mayPut (threadIn (frameIn b) b t)) (putBusy (frameIn b) b (threadIn (frameIn b) b t)) 8 ≡ 0
-  put-allowed = in-order (isItem i) _ 4 (λ z. omega arith) put-rest .1
+  put-tag = leb-true (i .tag) greatestTag (and-right (leb (i .key) greatestKey) (leb (i .tag) greatestTag) put-item)
 
   pub put-permitted : mayPut (threadIn (frameIn b) b t) ≡ true
-  put-permitted = in-order (mayPut (threadIn (frameIn b) b t)) _ 8 (λ z. omega arith) put-allowed .0
+  put-permitted = put-passed .permitted
 
   pub put-free : word b (frameIn b .free) ≡ 0 → ⊥
-  unfolding putBusy
-  put-free z =
-      let k = in-order (mayPut (threadIn (frameIn b) b t)) _ 8 (λ z. omega arith) put-allowed .1 in
-      let n = in-order (isIdle (threadIn (frameIn b) b t)) _ 9 (λ z. omega arith) k .1 in
-      none-free (eqb (word b (frameIn b .free)) 0) (eq-eqb (word b (frameIn b .free)) 0 z) n
+  unfolding hasFreeCell
+  put-free z = true≢false (sym (put-passed .cell) ∙ ap not (eq-eqb (word b (frameIn b .free)) 0 z))
 
 pub put-good : (b : List ℕ) → Good (shapeIn b) b → (t : ℕ) (i : Item) → Good (shapeIn b) (putBytes b t i)
 unfolding putBytes

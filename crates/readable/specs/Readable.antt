@@ -2,61 +2,75 @@
 -- depth is 1..D, and every field is in range". Every rule is said of a word: it is at most its greatest value.
 use Prim.Native.Nat.{ℕ, zero, suc, _+_, _-_, _*_, _^_}
 use mathlib.Core.Bool.{Bool, true, _&&_}
-use mathlib.Core.List.{List, [], _∷_, _++_}
+use mathlib.Core.List.{List, [], _∷_}
 use lib.Dec.{leb, eqb}
 use lib.ListN.{length}
 use Rattle.words.specs.Word.{word}
-use Rattle.region.specs.Answer.{done, unreadable}
+use Rattle.region.specs.Answer.{done, unreadable, _unless_otherwise_}
 use Rattle.region.specs.Frame.{frameOf}
 use Rattle.region.specs.Level.{level}
 use Rattle.region.specs.Pick.{pick}
 use Rattle.region.specs.Place.{placeNumber}
+use Rattle.region.specs.Record.{nodeWords, cellWords, greatestTag}
 use Rattle.region.specs.Shape.{between, shapeFits, nodeCount, regionWords}
-use Rattle.region.specs.Thread.{threadSize}
+use Rattle.region.specs.Thread.{threadSize, threadWords, greatestPermission, placeWord, triesWord, nodeWord, waitingWord}
 use Rattle.region.specs.declared.frame.Frame.{Frame}
-use Rattle.region.specs.declared.place.Place.the-variants.{ReadLeaf, MendReadNode}
+use Rattle.region.specs.declared.place.Place.the-variants.{ReadLeaf, MendReadNode, MendClean}
+use Rattle.region.specs.declared.record.Cell.{Cell}
+use Rattle.region.specs.declared.record.Item.{Item}
+use Rattle.region.specs.declared.record.Node.{Node}
+use Rattle.region.specs.declared.record.NodeCopy.{NodeCopy}
 use Rattle.region.specs.declared.shape.Shape.{Shape}
+use Rattle.region.specs.declared.thread.Thread.{Thread}
 
 -- "Counters and keys are free."
 abbrev pub anyWord : ℕ
 anyWord = 4294967295
 
--- "Tags are 0 to 65,535."
-abbrev pub greatestTag : ℕ
-greatestTag = 65535
+-- The greatest value of each field, by its name. "cell 0..C", "dirty .. 0 or 1", "tags in range":
+abbrev pub greatestNode : ℕ → Node
+greatestNode cells = record { first = cells; dirty = 1; counter = anyWord }
 
--- the greatest value of each word of a node, with C cells: "cell 0..C", "dirty .. 0 or 1", counter
+abbrev pub greatestItem : Item
+greatestItem = record { key = anyWord; tag = greatestTag }
+
+abbrev pub greatestCell : ℕ → Cell
+greatestCell cells = record { item = greatestItem; next = cells }
+
+abbrev pub greatestCopy : ℕ → NodeCopy
+greatestCopy cells = record { node = greatestNode cells; head = greatestCell cells }
+
+-- and of a thread's record; tries at I2 and waiting levels have further rules below
+abbrev pub greatestThread : Shape → Thread
+greatestThread s =
+    record {
+      permission = greatestPermission;  -- "permission 0..3"
+      place = MendClean anyWord;  -- "place 0..16": M6 is place 16; any waiting levels
+      item = greatestItem;  -- any key, "tags in range"
+      own = s .cells;  -- "cell 0..C"
+      depth = s .depth;  -- "d, lo and hi 0..D"
+      search =
+          record {
+            leaf = nodeCount s;  -- "node or leaf 0..2^D − 1"
+            tries = s .threshold;  -- "tries 0..H"
+            lo = s .depth;  -- "d, lo and hi 0..D"
+            hi = s .depth;  -- "d, lo and hi 0..D"
+          };
+      node = nodeCount s;  -- "node or leaf 0..2^D − 1"
+      after = 1;  -- "dirty and after 0 or 1"
+      result = greatestItem;  -- any key, "tags in range"
+      copies = record { first = greatestCopy (s .cells); second = greatestCopy (s .cells); third = greatestCopy (s .cells) };
+    }
+
+-- the same word by word, in the order of the words
 abbrev pub nodeMaxima : ℕ → List ℕ
-nodeMaxima cells = cells ∷ 1 ∷ anyWord ∷ []
+nodeMaxima cells = nodeWords (greatestNode cells)
 
--- of a cell: key, tag, next cell
 abbrev pub cellMaxima : ℕ → List ℕ
-cellMaxima cells = anyWord ∷ greatestTag ∷ cells ∷ []
+cellMaxima cells = cellWords (greatestCell cells)
 
--- of a node copy
-abbrev pub copyMaxima : ℕ → List ℕ
-copyMaxima cells = nodeMaxima cells ++ cellMaxima cells
-
--- of a thread: "permission 0..3, place 0..16", key, tag, own cell, "node or leaf 0..2^D − 1, d, lo and hi 0..D", "tries 0..H",
--- "dirty and after 0 or 1"; the waiting levels have a rule of their own
 abbrev pub threadMaxima : Shape → List ℕ
-threadMaxima s =
-    3
-    ∷ 16
-    ∷ anyWord
-    ∷ greatestTag
-    ∷ s .cells
-    ∷ s .depth
-    ∷ nodeCount s
-    ∷ s .threshold
-    ∷ s .depth
-    ∷ s .depth
-    ∷ nodeCount s
-    ∷ anyWord
-    ∷ 1
-    ∷ anyWord
-    ∷ greatestTag
-    ∷ copyMaxima (s .cells) ++ (copyMaxima (s .cells) ++ copyMaxima (s .cells))
+threadMaxima s = threadWords (greatestThread s)
 
 -- "and below H at I2"
 unfoldable pub triesMost : Shape → ℕ → ℕ
@@ -71,13 +85,13 @@ unfoldable pub bounded : List ℕ → ℕ → List ℕ → Bool
 bounded b at [] = true
 bounded b at (m ∷ ms) = leb (word b at) m && bounded b (suc at) ms
 
--- the thread's record at word `at`: each word alone, then tries and waiting levels by place (word 1) and node (word 10)
+-- the thread's record at word `at`: each word alone, then tries by the place, and waiting levels by place and node
 unfoldable pub threadReadable : Shape → List ℕ → ℕ → Bool
 unfolding bounded triesMost waitingMost
 threadReadable s b at =
     bounded b at (threadMaxima s)
-    && leb (word b (at + 7)) (triesMost s (word b (at + 1)))
-    && leb (word b (at + 11)) (waitingMost (word b (at + 1)) (word b (at + 10)))
+    && leb (word b (at + triesWord)) (triesMost s (word b (at + placeWord)))
+    && leb (word b (at + waitingWord)) (waitingMost (word b (at + placeWord)) (word b (at + nodeWord)))
 
 -- n records from word `at` on, `stride` words from one to the next, all pass the test
 unfoldable pub allRecords : (List ℕ → ℕ → Bool) → ℕ → List ℕ → ℕ → ℕ → Bool
@@ -114,4 +128,4 @@ readable b = isWhole b && fieldsReadable (shapeIn b) b
 -- "Check answers yes or 7."
 unfoldable pub checkAnswer : List ℕ → ℕ
 unfolding readable
-checkAnswer b = pick (readable b) done unreadable
+checkAnswer b = unreadable unless readable b otherwise done

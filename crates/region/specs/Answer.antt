@@ -1,7 +1,9 @@
 -- The number and values of each answer (document 01, A run): "moved 0, idle 1, inserted 2, took 3 with key and tag, empty 4,
--- refused 5 with its number as key; unused words are 0"; and the numbers of the refusals.
+-- refused 5 with its number as key; unused words are 0"; the numbers of the refusals, and refusals in an order.
 use Prim.Native.Nat.{ℕ}
+use mathlib.Core.Bool.{Bool}
 use mathlib.Core.List.{List, [], _∷_}
+use Rattle.region.specs.Pick.{pick}
 use Rattle.region.specs.declared.answer.Answer.{Answer}
 use Rattle.region.specs.declared.answer.Answer.the-variants.{Moved, Idle, Inserted, Took, Empty, Refused}
 
@@ -69,3 +71,8 @@ noFreeCell = 10
 
 abbrev pub counterSpent : ℕ
 counterSpent = 11
+
+-- "the first refusal that applies": a refusal unless its test holds, otherwise the next, `done` last, read from top to bottom
+infixr 10 _unless_otherwise_
+abbrev pub _unless_otherwise_ : ℕ → Bool → ℕ → ℕ
+refusal unless test otherwise rest = pick test rest refusal

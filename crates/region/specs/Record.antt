@@ -8,6 +8,13 @@ use Rattle.region.specs.declared.record.Node.{Node}
 use Rattle.region.specs.declared.record.Cell.{Cell}
 use Rattle.region.specs.declared.record.NodeCopy.{NodeCopy}
 
+-- "Keys are 0 to 4,294,967,294.", "Tags are 0 to 65,535."
+abbrev pub greatestKey : ℕ
+greatestKey = 4294967294
+
+abbrev pub greatestTag : ℕ
+greatestTag = 65535
+
 -- the item, node or cell, and below the node copy, whose words stand in ws from index k on
 abbrev pub itemOf : List ℕ → ℕ → Item
 itemOf ws k = record { key = getD ws k 0; tag = getD ws (k + 1) 0 }

@@ -20,6 +20,23 @@ use Rattle.region.specs.declared.thread.Thread.{Thread}
 abbrev pub threadSize : ℕ
 threadSize = 33
 
+-- "permission 0..3": both bits set
+abbrev pub greatestPermission : ℕ
+greatestPermission = 3
+
+-- which word of the record holds the place, the tries, the node and the waiting levels, counted from 0 as in `threadOf`
+abbrev pub placeWord : ℕ
+placeWord = 1
+
+abbrev pub triesWord : ℕ
+triesWord = 7
+
+abbrev pub nodeWord : ℕ
+nodeWord = 10
+
+abbrev pub waitingWord : ℕ
+waitingWord = 11
+
 abbrev pub searchOf : List ℕ → ℕ → ℕ → ℕ → ℕ → Search
 searchOf ws a b c d = record { leaf = getD ws a 0; tries = getD ws b 0; lo = getD ws c 0; hi = getD ws d 0 }
 
@@ -29,12 +46,12 @@ abbrev pub threadOf : List ℕ → Thread
 threadOf ws =
     record {
       permission = getD ws 0 0;
-      place = placeOf (getD ws 1 0) (getD ws 11 0);
+      place = placeOf (getD ws placeWord 0) (getD ws waitingWord 0);
       item = itemOf ws 2;
       own = getD ws 4 0;
       depth = getD ws 5 0;
-      search = searchOf ws 6 7 8 9;
-      node = getD ws 10 0;
+      search = searchOf ws 6 triesWord 8 9;
+      node = getD ws nodeWord 0;
       after = getD ws 12 0;
       result = itemOf ws 13;
       copies = record { first = copyOf ws 15; second = copyOf ws 21; third = copyOf ws 27 };

@@ -4,7 +4,7 @@ use Prim.Native.Nat.{ℕ, zero, suc, _*_}
 use mathlib.Core.List.{List, [], _++_}
 use lib.Dec.{leb, ltb, eqb}
 use lib.ListN.{length, replicate}
-use Rattle.region.specs.Answer.{done, badShape}
+use Rattle.region.specs.Answer.{done, badShape, _unless_otherwise_}
 use Rattle.region.specs.Pick.{pick}
 use Rattle.region.specs.Shape.{regionWords}
 use Rattle.region.specs.declared.answer.Answer.the-variants.{Refused}
@@ -77,7 +77,7 @@ regionLength u = 4 * regionWords (u .shape)
 
 -- "D above 8 is refused 1"; the layout is given a slice of the exact length
 unfoldable pub setupRefusal : Setup → ℕ
-setupRefusal u = pick (leb (u .shape .depth) 8) (layoutRefusal (u .shape) (permissionsOf u) (regionLength u)) badShape
+setupRefusal u = badShape unless leb (u .shape .depth) 8 otherwise layoutRefusal (u .shape) (permissionsOf u) (regionLength u)
 
 -- the region as the layout leaves it; it sets every byte, so what was there before does not matter
 unfoldable pub laidRegion : Setup → List ℕ
