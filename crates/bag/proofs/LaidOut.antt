@@ -1,89 +1,24 @@
--- A laid-out region, read as shared memory and threads' records: it is readable, every node is empty, the cells chain as free,
--- and every thread is idle with the permission that layout gave it. Assumes nothing.
-use Prim.Native.Nat.{ℕ, zero, suc, _+_, _-_, _*_, _/_, _%_, _≤_, _<_}
-use native.Mathlib.Decide.{decLt}
+-- A laid-out region is readable, and its tree holds nothing. Assumes nothing.
+use Prim.Native.Nat.{ℕ, zero, suc}
 use native.Mathlib.Omega.{arith}
 use mathlib.Core.Path.{_≡_, refl, sym, ap, subst, _∙_}
-use mathlib.Core.Bool.{Bool, true, false, _&&_, true≢false}
-use mathlib.Core.List.{List, _∷_}
-use borrow.Author.Tests.{eq-eqb, ne-eqb, lt-ltb, le-ltb, le-leb}
-use lib.Dec.{leb, ltb}
-use lib.ListN.{length, getD, replicate}
-use Rattle.words.specs.Word.{word, wordsAt}
+use mathlib.Core.Bool.{Bool}
+use mathlib.Core.List.{List}
+use lib.ListN.{length}
 use Rattle.region.specs.Answer.{done}
-use Rattle.region.specs.Frame.{frameOf, nodesOf}
-use Rattle.region.specs.Pick.{pick}
-use Rattle.region.specs.Record.{nodeOf, nodeAt, emptyNode, cellAt, zeroItem}
-use Rattle.region.specs.Shape.{between, nodeCount, regionWords}
-use Rattle.region.specs.Shared.{Shared, entry, loadEntry, nodeIn, cellIn, threadIn, sharedIn}
-use Rattle.region.specs.Thread.{threadAt, threadOf, idleThread}
-use Rattle.region.specs.declared.record.Cell.{Cell}
+use Rattle.region.specs.Frame.{frameOf}
+use Rattle.region.specs.Record.{emptyNode}
+use Rattle.region.specs.Shape.{nodeCount}
+use Rattle.region.specs.Shared.{Shared, sharedIn}
 use Rattle.region.specs.declared.record.Item.{Item}
-use Rattle.region.specs.declared.record.Node.{Node}
 use Rattle.region.specs.declared.shape.Shape.{Shape}
-use Rattle.region.proofs.Picks.{pick-good}
-use Rattle.region.proofs.Shapes.{between-least, between-most, is-between}
-use Rattle.layout.specs.Layout.{layoutRefusal, layoutBytes, cellWord, threadWord}
-use Rattle.layout.proofs.Laws.{threadWord-rest}
+use Rattle.layout.specs.Layout.{layoutRefusal, layoutBytes}
+pub use Rattle.layout.proofs.LayoutReads.{laid-node, laid-thread}
 use Rattle.readable.proofs.Laws.{Good, good}
-use Rattle.queue.proofs.LaidOutIsReadable.{header, node-word, cell-word, thread-word, laid-out-is-readable, same-shape}
+use Rattle.queue.proofs.LaidOutIsReadable.{laid-out-is-readable, same-shape}
 use Rattle.machine.specs.Begin.{frameIn}
 use Rattle.bag.specs.Tree.{inList, inNodes, inTree, sameItem}
 use Rattle.bag.proofs.Chains.{empty-list}
-
--- the chain of free cells: behind cell c comes c + 1, and cell C, like a number that is no cell, ends it
-unfoldable pub nextFree : ℕ → ℕ → ℕ
-nextFree cells c = pick (leb 1 c && ltb c cells) (c + 1) 0
-
-pub next-in-chain : (cells c : ℕ) → 1 ≤ c → c < cells → nextFree cells c ≡ c + 1
-unfolding nextFree pick
-next-in-chain cells c l u = rw (le-leb 1 c l, lt-ltb c cells u) refl
-
-pub next-past : (cells c : ℕ) → cells ≤ c → nextFree cells c ≡ 0
-unfolding nextFree pick
-next-past cells c h = ap (λ q. pick (leb 1 c && q) (c + 1) 0) (le-ltb c cells h) ∙ last (leb 1 c)
-  where
-    last : (q : Bool) → pick (q && false) (c + 1) 0 ≡ 0
-    last true = refl
-    last false = refl
-
-pub next-of-none : (cells c : ℕ) → between 1 c cells ≡ false → nextFree cells c ≡ 0
-unfolding nextFree pick
-next-of-none cells zero h = refl
-next-of-none cells (suc c) h = go (decLt (suc c) cells)
-  where
-    go : Dec (suc c < cells) → nextFree cells (suc c) ≡ 0
-    go (yes l) = absurd (true≢false (sym (is-between 1 (suc c) cells (omega arith) (omega arith)) ∙ h))
-    go (no n) = next-past cells (suc c) (omega arith)
-
--- a run of words that are all 0
-zero-run : (b : List ℕ) (n at : ℕ) → ((j : ℕ) → at ≤ j → j < at + n → word b j ≡ 0) → wordsAt b at n ≡ replicate n 0
-zero-run b zero at h = refl
-zero-run b (suc n) at h =
-    cc (h at (omega arith) (omega arith), zero-run b n (suc at) (λ j l u. h j (omega arith) (omega arith)))
-
--- the words of cell c + 1
-module _ (cells c : ℕ) where
-  key-word : cellWord cells (3 * c + 0) ≡ 0
-  unfolding cellWord pick
-  key-word = rw (ne-eqb ((3 * c + 0) % 3) 2 (λ z. omega arith)) refl
-
-  tag-word : cellWord cells (3 * c + 1) ≡ 0
-  unfolding cellWord pick
-  tag-word = rw (ne-eqb ((3 * c + 1) % 3) 2 (λ z. omega arith)) refl
-
-  next-word : cellWord cells (3 * c + 2) ≡ nextFree cells (c + 1)
-  unfolding cellWord nextFree pick
-  next-word =
-      let q : (3 * c + 2) / 3 ≡ c = omega arith in
-      let n : c + 2 ≡ c + 1 + 1 = omega arith in
-      rw (eq-eqb ((3 * c + 2) % 3) 2 (omega arith), q, le-leb 1 (c + 1) (omega arith), n) refl
-
-permission-word : (ps : List ℕ) (i : ℕ) → threadWord ps (33 * i + 0) ≡ getD ps i 0
-unfolding threadWord pick
-permission-word ps i =
-    let q : (33 * i + 0) / 33 ≡ i = omega arith in
-    rw (eq-eqb ((33 * i + 0) % 33) 0 (omega arith), q) refl
 
 -- empty nodes hold nothing
 empty-nodes : (m : Shared) (test : Item → Bool) (l : ℕ) → ((n : ℕ) → m .node n ≡ emptyNode) → (n : ℕ) → inNodes m test l n ≡ 0
@@ -100,74 +35,9 @@ module _ (s : Shape) (ps b : List ℕ) (e : layoutRefusal s ps (length b) ≡ do
   pub laid-good : Good s laid
   laid-good = subst (λ x. Good x laid) (same-shape s ps b e) (good laid (laid-out-is-readable s ps b e))
 
-  pub laid-depth : sharedIn (frameOf s) laid .depth ≡ 1
-  unfolding sharedIn frameOf
-  laid-depth = header s ps b e 4 (omega arith)
-
-  pub laid-free : sharedIn (frameOf s) laid .free ≡ 1
-  unfolding sharedIn frameOf
-  laid-free = header s ps b e 5 (omega arith)
-
-  pub laid-node : (n : ℕ) → sharedIn (frameOf s) laid .node n ≡ emptyNode
-  unfolding sharedIn nodeIn loadEntry nodeAt frameOf
-  laid-node n =
-      pick-good (λ (v : Node). v ≡ emptyNode) (between 1 n (nodeCount s))
-      (λ h. let l = between-least 1 n (nodeCount s) h in
-      let u = between-most 1 n (nodeCount s) h in
-      ap (λ ws. nodeOf ws 0)
-      (zero-run laid 3 (entry (nodesOf (frameOf s)) n) λ j lo hi. node-word s ps b e j (omega arith) (omega arith)))
-      (λ h. refl)
-
-  -- word j of cell i + 1, and of thread i + 1's record
-  cell-part : (i j k : ℕ) → i < s .cells → j < 3 → k ≡ frameOf s .cells + 3 * i + j → word laid k ≡ cellWord (s .cells) (3 * i + j)
-  unfolding frameOf
-  cell-part i j k h l at = cell-word s ps b e k (omega arith) (omega arith) ∙ ap (cellWord (s .cells)) (omega arith)
-
-  thread-part : (i j k : ℕ) → i < s .threads → j < 33 → k ≡ frameOf s .threads + 33 * i + j → word laid k ≡ threadWord ps (33 * i + j)
-  unfolding frameOf regionWords
-  thread-part i j k h l at = thread-word s ps b e k (omega arith) (omega arith) ∙ ap (threadWord ps) (omega arith)
-
-  laid-words : (i : ℕ) → i < s .cells
-      → cellAt laid (frameOf s .cells + 3 * i) ≡ record { item = zeroItem; next = nextFree (s .cells) (i + 1) }
-  unfolding cellAt
-  laid-words i h =
-      let at = frameOf s .cells + 3 * i in
-      let key = cell-part i 0 at h (omega arith) (omega arith) ∙ key-word (s .cells) i in
-      let tag = cell-part i 1 (suc at) h (omega arith) (omega arith) ∙ tag-word (s .cells) i in
-      let next = cell-part i 2 (suc (suc at)) h (omega arith) (omega arith) ∙ next-word (s .cells) i in
-      λ x. record { item = record { key = key x; tag = tag x }; next = next x }
-
-  pub laid-cell : (c : ℕ) → sharedIn (frameOf s) laid .cell c ≡ record { item = zeroItem; next = nextFree (s .cells) c }
-  unfolding sharedIn cellIn loadEntry frameOf
-  laid-cell c =
-      pick-good (λ (v : Cell). v ≡ record { item = zeroItem; next = nextFree (s .cells) c }) (between 1 c (s .cells))
-      (λ h. let l = between-least 1 c (s .cells) h in
-      let u = between-most 1 c (s .cells) h in
-      let n : c - 1 + 1 ≡ c = omega arith in
-      laid-words (c - 1) (omega arith) ∙ ap (λ k. record { item = zeroItem; next = nextFree (s .cells) k }) n)
-      (λ h. ap (λ n. record { item = zeroItem; next = n }) (sym (next-of-none (s .cells) c h)))
-
-  record-words : (i : ℕ) → i < s .threads → wordsAt laid (frameOf s .threads + 33 * i) 33 ≡ getD ps i 0 ∷ replicate 32 0
-  record-words i h =
-      let at = frameOf s .threads + 33 * i in
-      cc (
-        thread-part i 0 at h (omega arith) (omega arith),
-        permission-word ps i,
-        zero-run laid 32 (suc at) (λ j lo hi.
-            thread-part i (j - at) j h (omega arith) (omega arith) ∙ threadWord-rest ps i (j - at) (omega arith) (omega arith)),
-      )
-
-  pub laid-thread : (t : ℕ) → 1 ≤ t → t ≤ s .threads → threadIn (frameOf s) laid t ≡ idleThread (getD ps (t - 1) 0)
-  unfolding threadIn loadEntry threadAt frameOf pick
-  laid-thread t l u = rw (is-between 1 t (s .threads) l u) (ap threadOf (record-words (t - 1) (omega arith)))
-
-  pub laid-no-thread : (t : ℕ) → between 1 t (s .threads) ≡ false → threadIn (frameOf s) laid t ≡ idleThread 0
-  unfolding threadIn loadEntry frameOf pick
-  laid-no-thread t h = rw h refl
-
   -- the tree of a laid-out region holds nothing
   pub laid-out-holds-nothing : (i : Item) → inTree (frameIn laid) laid i ≡ 0
   unfolding inTree
   laid-out-holds-nothing i =
       subst (λ x. inTree (frameOf x) laid i ≡ 0) (sym (same-shape s ps b e))
-      (empty-nodes (sharedIn (frameOf s) laid) (sameItem i) (frameOf s .shape .cells) laid-node (nodeCount (frameOf s .shape)))
+      (empty-nodes (sharedIn (frameOf s) laid) (sameItem i) (frameOf s .shape .cells) (laid-node s ps b e) (nodeCount (frameOf s .shape)))

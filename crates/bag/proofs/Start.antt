@@ -24,6 +24,7 @@ use Rattle.access.specs.Order.{topItem, valueOf}
 use Rattle.access.specs.Read.{readNode}
 use Rattle.access.proofs.OrderLaws.{item-refl}
 use Rattle.layout.specs.Layout.{layoutRefusal, layoutBytes}
+use Rattle.layout.proofs.LayoutReads.{laid-cell, laid-depth, laid-free, laid-no-thread, laid-node, laid-thread, next-in-chain, next-past, nextFree}
 use Rattle.bag.specs.Ledger.{emptyLedger, none}
 use Rattle.bag.specs.Tree.{sameItem}
 use Rattle.bag.proofs.Chains.{Chain, ends, link, among, items}
@@ -31,7 +32,7 @@ use Rattle.bag.proofs.Counts.{inChain}
 use Rattle.bag.proofs.Effects.{Mound}
 use Rattle.bag.proofs.Facts.{At}
 use Rattle.bag.proofs.Held.{Held, nodeLength, threadLength, counted, counts, head-free, heads, val}
-use Rattle.bag.proofs.LaidOut.{laid-cell, laid-depth, laid-free, laid-good, laid-no-thread, laid-node, laid-thread, next-in-chain, next-past, nextFree}
+use Rattle.bag.proofs.LaidOut.{laid-good}
 use Rattle.bag.proofs.Regions.{Region}
 use Rattle.bag.proofs.Sorted.{AtMost, Sorted, valueAt}
 use Rattle.bag.proofs.Steps.{owns}

@@ -5,7 +5,7 @@ use native.Mathlib.Omega.{arith}
 use mathlib.Core.Path.{_≡_, refl, sym, ap, _∙_}
 use mathlib.Core.Bool.{true}
 use mathlib.Core.List.{List, [], _∷_}
-use borrow.Author.Tests.{eq-eqb, ne-eqb, ltb-true, leb-true}
+use borrow.Author.Tests.{eq-eqb, ne-eqb, lt-ltb, le-ltb, ltb-true, leb-true}
 use lib.Dec.{leb, ltb, eqb}
 use lib.ListN.{length, getD}
 use Rattle.words.specs.Word.{word, setWords}
@@ -115,3 +115,29 @@ module _ (s : Shape) (ps b : List ℕ) (e : layoutRefusal s ps (length b) ≡ do
       (laid-fit s ps laid-shape laid-permissions 0 (regionWords s)) (omega (arith, n, h))
       ∙ laid-at s ps 0 (regionWords s) k h
       ∙ ap (laidWord s ps) z
+
+  -- the words of each part
+  abbrev laid : List ℕ
+  laid = layoutBytes s ps b
+
+  pub header : (k : ℕ) → k < 6 → word laid k ≡ getD (s .depth ∷ s .cells ∷ s .threads ∷ s .threshold ∷ 1 ∷ 1 ∷ []) k 0
+  unfolding laidWord pick regionWords
+  header k h = laid-word k (omega arith) ∙ rw (lt-ltb k 6 h) refl
+
+  pub node-word : (k : ℕ) → 6 ≤ k → k < frameOf s .cells → word laid k ≡ 0
+  unfolding laidWord pick regionWords frameOf
+  node-word k l u = laid-word k (omega arith) ∙ rw (le-ltb k 6 l, lt-ltb k (frameOf s .cells) u) refl
+
+  pub cell-word : (k : ℕ) → frameOf s .cells ≤ k → k < frameOf s .threads → word laid k ≡ cellWord (s .cells) (k - frameOf s .cells)
+  unfolding laidWord pick regionWords frameOf
+  cell-word k l u =
+      laid-word k (omega arith)
+      ∙ rw (le-ltb k 6 (omega arith), le-ltb k (frameOf s .cells) l, lt-ltb k (frameOf s .threads) u) refl
+
+  pub thread-word : (k : ℕ) → frameOf s .threads ≤ k → k < regionWords s → word laid k ≡ threadWord ps (k - frameOf s .threads)
+  unfolding laidWord pick frameOf
+  thread-word k l u =
+      laid-word k u
+      ∙ rw
+      (le-ltb k 6 (omega arith), le-ltb k (frameOf s .cells) (omega arith), le-ltb k (frameOf s .threads) l)
+      refl

@@ -1,5 +1,5 @@
 -- What only the contracts of inner functions and the proofs need. A reader of the result may skip this file.
-use Prim.Native.Nat.{ℕ, _-_, _*_, _<_}
+use Prim.Native.Nat.{ℕ, _*_, _<_}
 use mathlib.Core.Path.{_≡_}
 use mathlib.Core.List.{List}
 use lib.ListN.{length}

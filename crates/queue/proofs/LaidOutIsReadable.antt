@@ -2,22 +2,22 @@
 use Prim.Native.Nat.{ℕ, zero, suc, _+_, _-_, _*_, _≤_, _<_}
 use native.Mathlib.Nat.{add-zero}
 use native.Mathlib.Omega.{arith}
-use mathlib.Core.Path.{_≡_, refl, sym, ap, subst, subst⁻¹, _∙_}
+use mathlib.Core.Path.{_≡_, refl, sym, subst, subst⁻¹, _∙_}
 use mathlib.Core.Bool.{true, _&&_}
-use mathlib.Core.List.{List, [], _∷_}
-use borrow.Author.Tests.{le-leb, eq-eqb, lt-ltb, le-ltb}
+use mathlib.Core.List.{List}
+use borrow.Author.Tests.{le-leb, eq-eqb}
 use lib.Dec.{eqb}
 use lib.ListN.{length, getD}
 use Rattle.words.specs.Word.{word}
 use Rattle.region.specs.Answer.{done}
 use Rattle.region.specs.Frame.{frameOf}
-use Rattle.region.specs.Pick.{pick}
 use Rattle.region.specs.Shape.{shapeFits, nodeCount, regionWords}
 use Rattle.region.specs.Inner.{InRange}
 use Rattle.region.specs.declared.shape.Shape.{Shape}
 use Rattle.region.proofs.Shapes.{and-both, is-between, fits-in-range, sizes}
-use Rattle.layout.specs.Layout.{layoutRefusal, cellWord, threadWord, laidWord, layoutBytes}
-use Rattle.layout.proofs.Laws.{cellWord-most, threadWord-most, threadWord-rest, laid-shape, laid-permissions, laid-length, laid-word}
+use Rattle.layout.specs.Layout.{layoutRefusal, cellWord, layoutBytes}
+use Rattle.layout.proofs.Laws.{cellWord-most, threadWord-most, threadWord-rest, laid-shape, laid-permissions, laid-length, header, node-word, cell-word, thread-word}
+use Rattle.layout.proofs.LayoutReads.{thread-part}
 use Rattle.readable.specs.Readable.{nodeMaxima, cellMaxima, threadMaxima, bounded, threadReadable, allRecords, treeReadable, fieldsReadable, shapeIn, readable}
 use Rattle.readable.proofs.Laws.{all-pass, bounded-all}
 use Rattle.queue.specs.Theorems.{LaidOutIsReadable}
@@ -29,36 +29,13 @@ module _ (s : Shape) (ps b : List ℕ) (e : layoutRefusal s ps (length b) ≡ do
   abbrev laid : List ℕ
   laid = layoutBytes s ps b
 
-  -- the words of each part
-  pub header : (k : ℕ) → k < 6 → word laid k ≡ getD (s .depth ∷ s .cells ∷ s .threads ∷ s .threshold ∷ 1 ∷ 1 ∷ []) k 0
-  unfolding laidWord pick regionWords
-  header k h = laid-word s ps b e k (omega arith) ∙ rw (lt-ltb k 6 h) refl
-
-  pub node-word : (k : ℕ) → 6 ≤ k → k < frameOf s .cells → word laid k ≡ 0
-  unfolding laidWord pick regionWords frameOf
-  node-word k l u = laid-word s ps b e k (omega arith) ∙ rw (le-ltb k 6 l, lt-ltb k (frameOf s .cells) u) refl
-
-  pub cell-word : (k : ℕ) → frameOf s .cells ≤ k → k < frameOf s .threads → word laid k ≡ cellWord (s .cells) (k - frameOf s .cells)
-  unfolding laidWord pick regionWords frameOf
-  cell-word k l u =
-      laid-word s ps b e k (omega arith)
-      ∙ rw (le-ltb k 6 (omega arith), le-ltb k (frameOf s .cells) l, lt-ltb k (frameOf s .threads) u) refl
-
-  pub thread-word : (k : ℕ) → frameOf s .threads ≤ k → k < regionWords s → word laid k ≡ threadWord ps (k - frameOf s .threads)
-  unfolding laidWord pick frameOf
-  thread-word k l u =
-      laid-word s ps b e k u
-      ∙ rw
-      (le-ltb k 6 (omega arith), le-ltb k (frameOf s .cells) (omega arith), le-ltb k (frameOf s .threads) l)
-      refl
-
   -- the records of each part
   nodes-pass : allRecords (λ l at. bounded l at (nodeMaxima (s .cells))) 3 laid (frameOf s .nodes) (nodeCount s) ≡ true
   unfolding frameOf
   nodes-pass =
       all-pass (λ l at. bounded l at (nodeMaxima (s .cells))) 3 laid 6 (nodeCount s) λ i l.
       bounded-all laid (nodeMaxima (s .cells)) (6 + 3 * i) λ j h.
-      let z : word laid (6 + 3 * i + j) ≡ 0 = node-word (6 + 3 * i + j) (omega arith) (omega arith) in
+      let z : word laid (6 + 3 * i + j) ≡ 0 = node-word s ps b e (6 + 3 * i + j) (omega arith) (omega arith) in
       omega arith
 
   cells-pass : allRecords (λ l at. bounded l at (cellMaxima (s .cells))) 3 laid (frameOf s .cells) (s .cells) ≡ true
@@ -67,7 +44,7 @@ module _ (s : Shape) (ps b : List ℕ) (e : layoutRefusal s ps (length b) ≡ do
       all-pass (λ l at. bounded l at (cellMaxima (s .cells))) 3 laid (frameOf s .cells) (s .cells) λ i l.
       bounded-all laid (cellMaxima (s .cells)) (frameOf s .cells + 3 * i) λ j h.
       let k = frameOf s .cells + 3 * i + j in
-      let z : word laid k ≡ cellWord (s .cells) (k - frameOf s .cells) = cell-word k (omega arith) (omega arith) in
+      let z : word laid k ≡ cellWord (s .cells) (k - frameOf s .cells) = cell-word s ps b e k (omega arith) (omega arith) in
       let m : word laid k ≤ s .cells = omega (arith, z, cellWord-most (s .cells) (k - frameOf s .cells)) in
       cell-bound (word laid k) j h m
     where
@@ -85,14 +62,15 @@ module _ (s : Shape) (ps b : List ℕ) (e : layoutRefusal s ps (length b) ≡ do
     permission-word : word laid at ≤ 3
     unfolding at frameOf regionWords
     permission-word =
-        omega
-        (arith, thread-word at (omega arith) (omega arith), threadWord-most ps (at - frameOf s .threads) (laid-permissions s ps b e))
+        omega (
+          arith,
+          thread-word s ps b e at (omega arith) (omega arith),
+          threadWord-most ps (at - frameOf s .threads) (laid-permissions s ps b e),
+        )
 
     zero-word : (j : ℕ) → 0 < j → j < 33 → word laid (at + j) ≡ 0
-    unfolding at frameOf regionWords
-    zero-word j p u =
-        let k : frameOf s .threads + 33 * i + j - frameOf s .threads ≡ 33 * i + j = omega arith in
-        thread-word (at + j) (omega arith) (omega arith) ∙ ap (threadWord ps) k ∙ threadWord-rest ps i j p u
+    unfolding at
+    zero-word j p u = thread-part s ps b e i j (at + j) l u refl ∙ threadWord-rest ps i j p u
 
     thread-pass : threadReadable s laid at ≡ true
     unfolding threadReadable
@@ -118,18 +96,18 @@ module _ (s : Shape) (ps b : List ℕ) (e : layoutRefusal s ps (length b) ≡ do
       and-both
       (and-both
       (and-both
-      (is-between 1 (word laid 4) (s .depth) (omega (arith, header 4 (omega arith)))
-      (omega (arith, header 4 (omega arith), r .depth-least)))
-      (le-leb (word laid 5) (s .cells) (omega (arith, header 5 (omega arith), r .cells-least))))
+      (is-between 1 (word laid 4) (s .depth) (omega (arith, header s ps b e 4 (omega arith)))
+      (omega (arith, header s ps b e 4 (omega arith), r .depth-least)))
+      (le-leb (word laid 5) (s .cells) (omega (arith, header s ps b e 5 (omega arith), r .cells-least))))
       nodes-pass)
       cells-pass
 
   pub same-shape : shapeIn laid ≡ s
   same-shape = λ i. record {
-    depth = header 0 (omega arith) i;
-    cells = header 1 (omega arith) i;
-    threads = header 2 (omega arith) i;
-    threshold = header 3 (omega arith) i;
+    depth = header s ps b e 0 (omega arith) i;
+    cells = header s ps b e 1 (omega arith) i;
+    threads = header s ps b e 2 (omega arith) i;
+    threshold = header s ps b e 3 (omega arith) i;
   }
 
   laid-readable : readable laid ≡ true
