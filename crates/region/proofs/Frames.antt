@@ -2,8 +2,8 @@
 use Prim.Native.Nat.{ℕ, _*_}
 use native.Mathlib.Omega.{arith}
 use mathlib.Core.Path.{_≡_}
-use Rattle.region.specs.Frame.{before, frameOf}
-use Rattle.region.specs.Inner.{Parted, Within, InRange}
+use Rattle.region.specs.Frame.{frameOf}
+use Rattle.region.specs.Inner.{before, Parted, Within, InRange}
 use Rattle.region.specs.Shape.{regionWords}
 use Rattle.region.specs.declared.shape.Shape.{Shape}
 
