@@ -47,8 +47,8 @@ returns c =
       s .store-thread .ensures,
     )
 
-pub put-begun-spec : {M : Type 1} → statement M
-put-begun-spec =
+pub accept-put-spec : {M : Type 1} → statement M
+accept-put-spec =
     tie.close
     (tie.spec
     load-free-requires

@@ -10,8 +10,8 @@ put-refusal-requires c κs = search needs
 frame-of-requires : tie.Need-frame-of-requires
 frame-of-requires c κs = search put-readable
 
-put-begun-requires : tie.Need-put-begun-requires
-put-begun-requires c κs = search put-within
+accept-put-requires : tie.Need-accept-put-requires
+accept-put-requires c κs = search put-within
 
 same-length : tie.Need-same-length
 same-length c = search needs
@@ -31,7 +31,7 @@ begin-put-spec =
     (tie.spec
     put-refusal-requires
     frame-of-requires
-    put-begun-requires
+    accept-put-requires
     same-length
     returns
     same-length-2
