@@ -77,11 +77,11 @@ module _ (f : Frame) (b : List ℕ) (u : ℕ) where
         either _ (refused-says _ _) (either _ (either _ (refused-says _ _) (plan-says _ _ _ inserted)) (onTo-says _ _))
     at-place-says ReadRoot = either _ (moved-says _) (either _ (plan-says _ _ _ empty) (onTo-says _ _))
     at-place-says RemoveHead =
-        either _ (refused-says _ _) (either _ (either _ (refused-says _ _) (plan-says _ _ _ removed)) (onTo-says _ _))
+        either _ (either _ (refused-says _ _) (either _ (refused-says _ _) (plan-says _ _ _ removed))) (onTo-says _ _)
     at-place-says (MendReadNode w) = either _ (refused-says _ _) (onTo-says _ _)
     at-place-says (MendReadDepth w) =
-        either _ (refused-says _ _)
-        (either _ (either _ (onTo-says _ _) (onTo-says _ _)) (returning-says Nothing (withDepth t (m .depth)) w (λ a. refl)))
+        either _ (either _ (refused-says _ _) (either _ (onTo-says _ _) (onTo-says _ _)))
+        (returning-says Nothing (withDepth t (m .depth)) w (λ a. refl))
     at-place-says (MendReadLeft w) = either _ (onTo-says _ _) (refused-says _ _)
     at-place-says (MendReadRight w) =
         either _ (either _ (moved-says _) (either _ (moved-says _) (either _ (onTo-says _ _) (onTo-says _ _)))) (refused-says _ _)

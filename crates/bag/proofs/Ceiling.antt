@@ -368,7 +368,7 @@ module _ (s : Shape) (t : ℕ) where
           known : (c : ℕ) → decide s m u c ≡ pick (eqb (level (u .node)) (m .depth)) (moved (v (MendClean 0)))
               (moved (v (MendReadLeft 0)))
           known c =
-              ap (decideAt s m u c) (h .place) ∙ rw (ne-eqb (u .node) 0 (λ e. omega (arith, h .some)), still-dirty first (h .dirty)) refl
+              ap (decideAt s m u c) (h .place) ∙ rw (still-dirty first (h .dirty), ne-eqb (u .node) 0 (λ e. omega (arith, h .some))) refl
 
           go : Dec (l ≡ d) → RestsFrom (5 * l + 1) m u
           go (yes e) =
@@ -409,7 +409,7 @@ module _ (s : Shape) (t : ℕ) where
           let w = mending (withAfter (withResult u (q .head .item)) 1) 1 0 in
           moves 4 m u (omega arith) (isSpent (q .node)) (plan (Pop v (q .node .first)) w Moved)
           (λ c. ap (decideAt s m u c) place
-          ∙ rw (ne-eqb (q .node .first) 0 (λ z. full (ap (λ n. n .first) (sym first) ∙ z)), same-copy first) refl)
+          ∙ rw (same-copy first, ne-eqb (q .node .first) 0 (λ z. full (ap (λ n. n .first) (sym first) ∙ z))) refl)
           refl 5 refl
           (mending-rests r deep (d - 1) 1 (omega arith) (omega arith) (effectShared m (Pop v (q .node .first))) w
           (record {

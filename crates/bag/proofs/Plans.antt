@@ -376,9 +376,9 @@ module _ (s : Shape) (r : InRange s) (m : Shared) (own : ℕ → ℕ) (g : Mound
   unfolding removeHead headRemoved plan mending atPlace withNode withAfter withResult pick
   head-planned h a =
       let q = th .copies .first in
-      pick-good Fits (eqb (q .node .first) 0) (λ e. absurd (let z = eqb-true (q .node .first) 0 e in omega (arith, z, a .some)))
-      (λ e. pick-good Fits (sameNode (m .node 1) (q .node))
-      (λ y. pick-good Fits (isSpent (q .node)) (λ z. is-refused th)
+      pick-good Fits (sameNode (m .node 1) (q .node))
+      (λ y. pick-good Fits (eqb (q .node .first) 0) (λ e. absurd (let z = eqb-true (q .node .first) 0 e in omega (arith, z, a .some)))
+      (λ e. pick-good Fits (isSpent (q .node)) (λ z. is-refused th)
       (λ z. let f = found 1 q (a .sound) y in
       let fn = found-node 1 q f in
       let fh = found-head 1 q f in
@@ -390,8 +390,8 @@ module _ (s : Shape) (r : InRange s) (m : Shared) (own : ℕ → ℕ) (g : Mound
         value = ap (λ x. updated x (q .head .next) 1) (sym fn) ∙ ap (λ c. updated (m .node 1) (c .next) 1) (sym fh);
       })
       (removes (h .operation) (ap (λ c. holding (c .item)) (sym fh))) refl
-      (record { operation = refl; permitted = h .permitted; none = h .none }, root-in-tree)))
-      (λ y. goes-on th ReadRoot refl h))
+      (record { operation = refl; permitted = h .permitted; none = h .none }, root-in-tree))))
+      (λ y. goes-on th ReadRoot refl h)
 
   -- Mending, with the waiting levels w above the node's.
   module _ (w : ℕ) (hw : WaitsAbove (th .node) w) where
@@ -455,9 +455,9 @@ module _ (s : Shape) (r : InRange s) (m : Shared) (own : ℕ → ℕ) (g : Mound
         let q = th .copies .first in
         let u = withDepth th (m .depth) in
         let few = few-nodes n (h .1 .1) in
-        pick-good Fits (eqb n 0) (λ e. absurd (let z = eqb-true n 0 e in omega (arith, z, h .1 .0)))
-        (λ e. pick-good Fits (isDirty (q .node))
-        (λ d. let di : Dirty m n q = record { sound = a; dirty = is-dirty (q .node) d } in
+        pick-good Fits (isDirty (q .node))
+        (λ d. pick-good Fits (eqb n 0) (λ e. absurd (let z = eqb-true n 0 e in omega (arith, z, h .1 .0)))
+        (λ e. let di : Dirty m n q = record { sound = a; dirty = is-dirty (q .node) d } in
         pick-good Fits (eqb (level n) (m .depth))
         (λ y. let deep = children-deeper n (m .depth) (h .1 .0) few (eqb-true (level n) (m .depth) y) in
         goes-on u (MendClean w) refl (
@@ -466,8 +466,8 @@ module _ (s : Shape) (r : InRange s) (m : Shared) (own : ℕ → ℕ) (g : Mound
           record { left = deep-child (2 * n) deep (h .1 .0); right = deep-child (2 * n + 1) (omega (arith, deep)) (h .1 .0) },
         ))
         (λ y. goes-on u (MendReadLeft w) refl
-        (h, (di, children-inside n (m .depth) (h .1 .0) few (h .1 .1) (eqb-false (level n) (m .depth) y)))))
-        (λ d. return-planned Nothing u refl refl h tt (λ o z. z) (λ o z. reads z) (λ i z. answers z refl)))
+        (h, (di, children-inside n (m .depth) (h .1 .0) few (h .1 .1) (eqb-false (level n) (m .depth) y))))))
+        (λ d. return-planned Nothing u refl refl h tt (λ o z. z) (λ o z. reads z) (λ i z. answers z refl))
 
     -- M3
     child-in-tree : (c : ℕ) → 1 ≤ c → c ≤ 2 * th .node + 1 → Inner m (th .node) (th .copies .first) → isNode s c ≡ true

@@ -100,7 +100,8 @@ module _ (f : Frame) (l : ℕ) (within : Within f l) (m : Shared) (t : Thread) (
 
     pub keeps-mend-read-depth : p ≡ mendReadDepth m t w → EndAsked f l 0 p
     unfolding mendReadDepth depthRead plan moved onTo refused
-    keeps-mend-read-depth e = asked e (or _ stops (or _ (or _ goes goes) (back Nothing (withDepth t (m .depth)) w tt)))
+    keeps-mend-read-depth e =
+        asked e (or _ (or _ stops (or _ goes goes)) (back Nothing (withDepth t (m .depth)) w tt))
 
     pub keeps-mend-read-left : (s : Shape) → p ≡ mendReadLeft s m t w → EndAsked f l 0 p
     unfolding mendReadLeft plan moved onTo refused
@@ -126,7 +127,7 @@ module _ (f : Frame) (l : ℕ) (within : Within f l) (m : Shared) (t : Thread) (
 
   pub pops : p ≡ removeHead m t → EndAsked f l 3 p
   unfolding removeHead headRemoved plan moved onTo refused
-  pops e = asked e (or _ stops (or _ (or _ stops (on refl refl)) goes))
+  pops e = asked e (or _ (or _ stops (or _ stops (on refl refl))) goes)
 
   module _ (w : ℕ) where
     pub exchanges : (s : Shape) → p ≡ mendSwap s m t w → EndAsked f l 4 p

@@ -72,23 +72,30 @@ module _ (t u : Thread) (d w : ℕ) (eu : u ≡ withDepth t d) (q : Bool) (eq : 
   unfolding depthRead pick
   clean-already h er = rw (← eq, not-true q h) (er ∙ ap (λ y. returning Nothing y w) eu)
 
-  module _ (h : not q ≡ false) (l : ℕ) (el : l ≡ level (t .node)) where
-    pub at-last-level : l ≡ d → r ≡ onTo u (MendClean w) → r ≡ depthRead t d w
+  module _ (h : not q ≡ false) where
+    pub dirty-without-node : t .node ≡ 0 → r ≡ refused t unreadable → r ≡ depthRead t d w
     unfolding depthRead pick
-    at-last-level e er = rw (← eq, not-false q h, ← el, eq-eqb l d e) (er ∙ ap (λ y. onTo y (MendClean w)) eu)
+    dirty-without-node z er = rw (← eq, not-false q h, eq-eqb (t .node) 0 z) er
 
-    pub above-last-level : (l ≡ d → ⊥) → r ≡ onTo u (MendReadLeft w) → r ≡ depthRead t d w
-    unfolding depthRead pick
-    above-last-level n er = rw (← eq, not-false q h, ← el, ne-eqb l d n) (er ∙ ap (λ y. onTo y (MendReadLeft w)) eu)
+    module _ (nz : t .node ≡ 0 → ⊥) (l : ℕ) (el : l ≡ level (t .node)) where
+      pub at-last-level : l ≡ d → r ≡ onTo u (MendClean w) → r ≡ depthRead t d w
+      unfolding depthRead pick
+      at-last-level e er =
+          rw
+          (← eq, not-false q h, ne-eqb (t .node) 0 nz, ← el, eq-eqb l d e)
+          (er ∙ ap (λ y. onTo y (MendClean w)) eu)
 
-module _ (f : Frame) (b : List ℕ) (t : Thread) (w : ℕ) (r : Plan) where
-  pub depth-without-node : t .node ≡ 0 → r ≡ refused t unreadable → r ≡ mendReadDepth (sharedIn f b) t w
-  unfolding mendReadDepth pick
-  depth-without-node z er = rw (eq-eqb (t .node) 0 z) er
+      pub above-last-level : (l ≡ d → ⊥) → r ≡ onTo u (MendReadLeft w) → r ≡ depthRead t d w
+      unfolding depthRead pick
+      above-last-level n er =
+          rw
+          (← eq, not-false q h, ne-eqb (t .node) 0 nz, ← el, ne-eqb l d n)
+          (er ∙ ap (λ y. onTo y (MendReadLeft w)) eu)
 
-  pub depth-seen : (t .node ≡ 0 → ⊥) → (d : ℕ) → d ≡ word b (f .depth) → r ≡ depthRead t d w → r ≡ mendReadDepth (sharedIn f b) t w
-  unfolding mendReadDepth sharedIn pick
-  depth-seen n d ed er = rw (ne-eqb (t .node) 0 n) (er ∙ ap (λ x. depthRead t x w) ed)
+pub depth-seen : (f : Frame) (b : List ℕ) (t : Thread) (w : ℕ) (r : Plan) (d : ℕ) → d ≡ word b (f .depth) → r ≡ depthRead t d w
+    → r ≡ mendReadDepth (sharedIn f b) t w
+unfolding mendReadDepth sharedIn
+depth-seen f b t w r d ed er = er ∙ ap (λ x. depthRead t x w) ed
 
 -- M3.
 pub node-fits : (f : Frame) (l : ℕ) → Within f l → (n : ℕ) (q : Bool) → q ≡ isNode (f .shape) n → not q ≡ false → n < 2 ^ 32

@@ -50,13 +50,16 @@ pub fn mend_read_node(f: Frame, b: &[u8], t: Thread, w: u32) -> Plan
     access::on_to(t.with_first(q), Place::MendReadDepth(w))
 }
 
-// The depth was read: the node is clean, at the tree's last level, or above it.
+// The depth was read: the copy is clean, whatever the node, or its node is at the tree's last level, or above it.
 fn depth_read(t: Thread, d: u32, w: u32) -> Plan
     ensures { λ r. ⌜ r ≡ depthRead t d w ⌝ }
 {
     let kept = t.with_depth(d);
     if !access::is_dirty(t.copies.first.node) {
         return returning(Effect::Nothing, kept, w);
+    }
+    if t.node == 0 {
+        return access::refused(t, UNREADABLE);
     }
     if region::level_of(t.node) == d {
         return access::on_to(kept, Place::MendClean(w));
@@ -69,9 +72,6 @@ pub fn mend_read_depth(f: Frame, b: &[u8], t: Thread, w: u32) -> Plan
     requires { ⌜ Within f (length (now b)) ⌝ }
     ensures { λ r. ⌜ r ≡ mendReadDepth (sharedIn f (now (b .entry))) t w ⌝ }
 {
-    if t.node == 0 {
-        return access::refused(t, UNREADABLE);
-    }
     depth_read(t, f.load_depth(b), w)
 }
 

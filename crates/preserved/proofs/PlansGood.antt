@@ -351,14 +351,14 @@ module _ (s : Shape) (r : InRange s) (m : Shared) (sm : SharedGood s m) where
     removeHead-good =
         let q = t .copies .first in
         let f = fields-result s t g (q .head .item) (g .first .head .key) (g .first .head .tag) in
-        pick-good (PlanGood s) (eqb (q .node .first) 0) (λ h. refused-good s t gt unreadable)
-        (λ h. pick-good (PlanGood s) (sameNode (m .node 1) (q .node))
-        (λ k. pick-good (PlanGood s) (isSpent (q .node)) (λ e. refused-good s t gt counterSpent)
+        pick-good (PlanGood s) (sameNode (m .node 1) (q .node))
+        (λ k. pick-good (PlanGood s) (eqb (q .node .first) 0) (λ h. refused-good s t gt unreadable)
+        (λ h. pick-good (PlanGood s) (isSpent (q .node)) (λ e. refused-good s t gt counterSpent)
         (λ e. let ne = eqb-false (q .node .first) 0 h in
         plan-good s (Pop (updated (q .node) (q .head .next) 1) (q .node .first)) _ Moved
         ((omega arith, g .first .node .first), updated-good (q .node) (q .head .next) 1 (g .first .node) e (g .first .head .next) (omega arith))
-        (mending-good s _ (fields-after s _ f 1 (omega arith)) 1 0 some-nodes (omega arith))))
-        (λ k. onTo-good s t g ReadRoot tt))
+        (mending-good s _ (fields-after s _ f 1 (omega arith)) 1 0 some-nodes (omega arith)))))
+        (λ k. onTo-good s t g ReadRoot tt)
 
     -- Mending, with the waiting levels w above the node's.
     module _ (w : ℕ) (hw : WaitsAbove (t .node) w) where
@@ -392,11 +392,11 @@ module _ (s : Shape) (r : InRange s) (m : Shared) (sm : SharedGood s m) where
       mendReadDepth-good =
           let u = withDepth t (m .depth) in
           let f = fields-depth s t g (m .depth) (sm .depth-most) in
-          pick-good (PlanGood s) (eqb (t .node) 0) (λ h. refused-good s t gt unreadable)
-          (λ h. pick-good (PlanGood s) (isDirty (t .copies .first .node))
-          (λ k. pick-good (PlanGood s) (eqb (level (t .node)) (m .depth)) (λ e. onTo-good s u f (MendClean w) hw)
-          (λ e. onTo-good s u f (MendReadLeft w) hw))
-          (λ k. returning-good Nothing tt u f refl))
+          pick-good (PlanGood s) (isDirty (t .copies .first .node))
+          (λ k. pick-good (PlanGood s) (eqb (t .node) 0) (λ h. refused-good s t gt unreadable)
+          (λ h. pick-good (PlanGood s) (eqb (level (t .node)) (m .depth)) (λ e. onTo-good s u f (MendClean w) hw)
+          (λ e. onTo-good s u f (MendReadLeft w) hw)))
+          (λ k. returning-good Nothing tt u f refl)
 
       -- M3
       pub mendReadLeft-good : PlanGood s (mendReadLeft s m t w)
