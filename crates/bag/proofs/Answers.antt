@@ -67,7 +67,7 @@ module _ (f : Frame) (b : List ℕ) (u : ℕ) where
     at-place-says ReadLeaf =
         either _ (either _ (either _ (onTo-says _ _) (either _ (onTo-says _ _) (refused-says _ _))) (onTo-says _ _)) (refused-says _ _)
     at-place-says ReadAncestor =
-        either _ (refused-says _ _) (either _ (onTo-says _ _) (either _ (onTo-says _ _) (refused-says _ _)))
+        either _ (either _ (onTo-says _ _) (either _ (onTo-says _ _) (refused-says _ _))) (refused-says _ _)
     at-place-says GrowDepth = either _ (either _ (plan-says _ _ _ says-moved) (onTo-says _ _)) (refused-says _ _)
     at-place-says ReadTarget = either _ (refused-says _ _) (onTo-says _ _)
     at-place-says InsertAtRoot =

@@ -7,7 +7,7 @@ use native.Mathlib.Omega.{arith}
 use mathlib.Core.Path.{_≡_, refl, sym, ap, subst, _∙_}
 use mathlib.Core.Bool.{Bool, true, false, not, _&&_, _||_, true≢false}
 use mathlib.Core.Logic.{_⊎_, inl, inr}
-use borrow.Author.Tests.{ltb-true, eqb-true, eqb-false, ne-eqb, lt-ltb, le-ltb, le-leb}
+use borrow.Author.Tests.{ltb-true, eqb-true, eqb-false, ne-eqb, lt-ltb, le-ltb}
 use lib.Dec.{ltb, eqb}
 use lib.Pow.{pow-mono, pow-pos}
 use Rattle.region.specs.Answer.{counterSpent}
@@ -37,7 +37,7 @@ use Rattle.access.specs.declared.effect.Effect.the-variants.{Nothing, Grow, Pus
 use Rattle.access.specs.declared.plan.Plan.{Plan}
 use Rattle.access.proofs.OrderLaws.{item-not-less, item-refl, item-total, item-trans}
 use Rattle.access.proofs.ReadLaws.{is-clean, is-dirty, same-node}
-use Rattle.insert.specs.Insert.{searching, readDepth, searchOn, leafOf, nextTries, failedPlace, leafFailed, leafRead, readLeaf, ancestorRead, middleLevel, readAncestor, growDepth, targetPlace, readTarget, insertAt, insertAtRoot, readParent, nodeAndParentSame, insertBelow}
+use Rattle.insert.specs.Insert.{searching, readDepth, searchOn, leafOf, nextTries, failedPlace, leafFailed, leafRead, readLeaf, ancestorRead, middleLevel, hasMiddle, readAncestor, growDepth, targetPlace, readTarget, insertAt, insertAtRoot, readParent, nodeAndParentSame, insertBelow}
 use Rattle.insert.proofs.Laws.{node-same, parent-same}
 use Rattle.extract.specs.Extract.{rootRead, readRoot, headRemoved, removeHead}
 use Rattle.moundify.specs.Moundify.{returnAnswer, returning, mendReadNode, depthRead, mendReadDepth, mendReadLeft, marked, childLess, childrenRead, mendReadRight, exchangeAt, nodeAndChildSame, exchangeWith, mendSwap, cleanAt, mendClean}
@@ -187,7 +187,7 @@ module _ (s : Shape) (r : InRange s) (m : Shared) (own : ℕ → ℕ) (g : Mound
 
   -- the search goes on, or its end names the node
   search-planned : (u : Thread) → u .own ≡ th .own → Puts m u op → 1 ≤ u .search .lo → u .search .lo ≤ u .search .hi
-      → u .search .hi ≤ level (u .search .leaf) → InTree m (u .search .leaf) → Fits (searchOn th u)
+      → u .search .hi ≤ level (u .search .leaf) → InTree m (u .search .leaf) → Fits (searchOn u)
   unfolding searchOn withNode
   search-planned u e h l o v k =
       pick-good Fits (ltb (u .search .lo) (u .search .hi))
@@ -254,30 +254,26 @@ module _ (s : Shape) (r : InRange s) (m : Shared) (own : ℕ → ℕ) (g : Mound
 
   -- I3
   module _ (h : Puts m th op) (x : Searching m (th .search)) where
-    middle : ℕ
-    middle = (th .search .lo + th .search .hi) / 2
-
-    middle-is : middleLevel th ≡ middle
-    unfolding middleLevel pick middle
-    middle-is =
-        rw
-        (lt-ltb (th .search .lo) (th .search .hi) (x .below), le-leb middle (level (th .search .leaf)) (omega (arith, x .below, x .hi)))
-        refl
+    has-middle : hasMiddle th ≡ true
+    unfolding hasMiddle middleLevel
+    has-middle =
+        and-both (lt-ltb (th .search .lo) (th .search .hi) (x .below))
+        (is-between 1 (middleLevel th) (level (th .search .leaf)) (omega (arith, x .lo, x .below)) (omega (arith, x .below, x .hi)))
 
     ancestor-planned : Fits (readAncestor m th)
-    unfolding readAncestor ancestorRead withFirst withCopies withSearch middle
+    unfolding readAncestor ancestorRead middleLevel withFirst withCopies withSearch
     ancestor-planned =
-        pick-good Fits (eqb (middleLevel th) 0)
-        (λ e. absurd (let z = eqb-true (middleLevel th) 0 e in omega (arith, z, middle-is, x .lo, x .below)))
+        pick-good Fits (hasMiddle th)
         (λ e. let q = readNode m (ancestor (th .search .leaf) (middleLevel th)) in
         let leaf = th .search .leaf in
         let tries = th .search .tries in
-        pick-good (λ z. Fits (searchOn th (withFirst (withSearch th z) q))) (itemLe (th .item) (valueOf q))
+        pick-good (λ z. Fits (searchOn (withFirst (withSearch th z) q))) (itemLe (th .item) (valueOf q))
         (λ a. search-planned (withFirst (withSearch th (searching leaf tries (th .search .lo) (middleLevel th))) q) refl h (x .lo)
-        (omega (arith, middle-is, x .below)) (omega (arith, middle-is, x .below, x .hi)) (x .leaf))
+        (omega (arith, x .below)) (omega (arith, x .below, x .hi)) (x .leaf))
         (λ a. search-planned (withFirst (withSearch th (searching leaf tries (middleLevel th + 1) (th .search .hi))) q) refl h
         (omega arith)
-        (omega (arith, middle-is, x .below)) (x .hi) (x .leaf)))
+        (omega (arith, x .below)) (x .hi) (x .leaf)))
+        (λ e. absurd (true≢false (sym has-middle ∙ e)))
 
   -- I5
   target-planned : Puts m th op → InTree m (th .node) → Fits (readTarget m th)

@@ -79,7 +79,7 @@ module _ (f : Frame) (l : ℕ) (within : Within f l) (m : Shared) (t : Thread) (
 
   pub keeps-read-ancestor : p ≡ readAncestor m t → EndAsked f l 0 p
   unfolding readAncestor ancestorRead searchOn plan moved onTo refused
-  keeps-read-ancestor e = asked e (or _ stops (or _ goes (or _ goes stops)))
+  keeps-read-ancestor e = asked e (or _ (or _ goes (or _ goes stops)) stops)
 
   pub keeps-read-target : p ≡ readTarget m t → EndAsked f l 0 p
   unfolding readTarget plan moved onTo refused
