@@ -1,12 +1,12 @@
 -- What a turn tells says what it answers, place by place over the plans. Assumes nothing.
 use Prim.Native.Nat.{ℕ, _+_, _*_}
 use mathlib.Core.Path.{_≡_, refl, sym, subst}
-use mathlib.Core.Bool.{Bool, not, _&&_}
+use mathlib.Core.Bool.{Bool, _&&_}
 use mathlib.Core.List.{List}
 use lib.Dec.{eqb}
 use Rattle.region.specs.Pick.{pick}
 use Rattle.region.specs.Shared.{Shared, sharedIn, threadIn}
-use Rattle.region.specs.Thread.{atPlace, withDepth}
+use Rattle.region.specs.Thread.{atPlace, returnAnswer, withDepth}
 use Rattle.region.specs.declared.answer.Answer.{Answer}
 use Rattle.region.specs.declared.answer.Answer.the-variants.{Moved, Refused}
 use Rattle.region.specs.declared.frame.Frame.{Frame}
@@ -22,7 +22,7 @@ use Rattle.access.specs.declared.effect.Effect.the-variants.{Nothing, Clean}
 use Rattle.access.specs.declared.plan.Plan.{Plan}
 use Rattle.insert.specs.Insert.{readDepth, readLeaf, readAncestor, growDepth, readTarget, insertAtRoot, readParent, insertBelow}
 use Rattle.extract.specs.Extract.{readRoot, removeHead}
-use Rattle.moundify.specs.Moundify.{returnAnswer, returning, mendReadNode, mendReadDepth, mendReadLeft, mendReadRight, exchangeWith, mendSwap, mendClean}
+use Rattle.moundify.specs.Moundify.{returning, mendReadNode, mendReadDepth, mendReadLeft, mendReadRight, exchangeWith, mendSwap, mendClean}
 use Rattle.machine.specs.Turn.{decide, decideAt, turnAnswer, turnPlan}
 use Rattle.bag.specs.History.{answerTells, effectTells, turnTells}
 use Rattle.bag.specs.Operations.{Says, TurnSaysItsAnswer, moved as says-moved, idle, refused as says-refused, inserted, empty, took, removed}
@@ -56,7 +56,7 @@ module _ (f : Frame) (b : List ℕ) (u : ℕ) where
   returning-says e t w h =
       plan-says e _ _
       (subst (Says u (returnAnswer t w)) (sym (h (returnAnswer t w)))
-      (pick-good (λ a. Says u a (answerTells u a)) (eqb w 0 && not (eqb (t .after) 0)) (λ k. took) (λ k. says-moved)))
+      (pick-good (λ a. Says u a (answerTells u a)) (eqb w 0 && eqb (t .after) 1) (λ k. took) (λ k. says-moved)))
 
   -- every place
   module _ (s : Shape) (m : Shared) (t : Thread) (c : ℕ) where

@@ -20,7 +20,7 @@ use Rattle.region.specs.Record.{emptyNode}
 use Rattle.region.specs.Shape.{between, nodeCount}
 use Rattle.region.specs.Inner.{InRange}
 use Rattle.region.specs.Shared.{Shared, loadEntry, nodeIn, setThreadIn, sharedIn, threadIn}
-use Rattle.region.specs.Thread.{atPlace, begunTake, goneIdle, mending, withAfter, withCopies, withDepth, withFirst, withNode, withResult, withSecond, withThird}
+use Rattle.region.specs.Thread.{atPlace, begunTake, goneIdle, mending, returnAnswer, withAfter, withCopies, withDepth, withFirst, withNode, withResult, withSecond, withThird}
 use Rattle.region.specs.declared.answer.Answer.the-variants.{Moved, Took, Empty}
 use Rattle.region.specs.declared.place.Place.{Place}
 use Rattle.region.specs.declared.place.Place.the-variants.{ReadRoot, RemoveHead, MendReadNode, MendReadDepth, MendReadLeft, MendReadRight, MendSwap, MendClean}
@@ -43,7 +43,7 @@ use Rattle.readable.specs.Readable.{readable, shapeIn}
 use Rattle.readable.proofs.Laws.{Good, good}
 use Rattle.readable.proofs.Stores.{good-shared, good-thread, good-within, thread-fit}
 use Rattle.extract.specs.Extract.{rootRead, readRoot, headRemoved, removeHead}
-use Rattle.moundify.specs.Moundify.{returnAnswer, returning, mendReadNode, depthRead, mendReadDepth, mendReadLeft, childLess, childrenRead, mendReadRight, exchangeAt, nodeAndChildSame, exchangeWith, mendSwap, cleanAt, mendClean}
+use Rattle.moundify.specs.Moundify.{returning, mendReadNode, depthRead, mendReadDepth, mendReadLeft, childLess, childrenRead, mendReadRight, exchangeAt, nodeAndChildSame, exchangeWith, mendSwap, cleanAt, mendClean}
 use Rattle.machine.specs.Begin.{frameIn, takeBytes, takeRefusal}
 use Rattle.machine.specs.Turn.{decide, decideAt, staysPut, turnAnswer, turnBytes, turnPlan}
 use Rattle.preserved.proofs.Proved.{begun-take-good, take-good, take-thread, turn-good}
@@ -249,7 +249,7 @@ module _ (s : Shape) (t : ℕ) where
           item = u .result;
           cleans = refl;
           at-level = h .at-level;
-          answers = rw (ne-eqb (u .after) 0 (λ z. omega (arith, h .after))) refl;
+          answers = rw (eq-eqb (u .after) 1 (h .after)) refl;
         })
         least (h .above) exact
 

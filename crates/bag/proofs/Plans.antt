@@ -16,7 +16,7 @@ use Rattle.region.specs.Pick.{pick}
 use Rattle.region.specs.Shape.{between, nodeCount}
 use Rattle.region.specs.Inner.{InRange}
 use Rattle.region.specs.Shared.{Shared}
-use Rattle.region.specs.Thread.{goneIdle, mending, returned, atPlace, withDepth, withSearch, withNode, withAfter, withResult, withCopies, withFirst, withSecond, withThird}
+use Rattle.region.specs.Thread.{goneIdle, mending, returned, returnAnswer, atPlace, withDepth, withSearch, withNode, withAfter, withResult, withCopies, withFirst, withSecond, withThird}
 use Rattle.region.specs.declared.answer.Answer.{Answer}
 use Rattle.region.specs.declared.answer.Answer.the-variants.{Moved, Idle as AnswersIdle, Inserted, Took, Empty, Refused}
 use Rattle.region.specs.declared.place.Place.{Place}
@@ -40,7 +40,7 @@ use Rattle.access.proofs.ReadLaws.{is-clean, is-dirty, same-node}
 use Rattle.insert.specs.Insert.{searching, readDepth, searchOn, leafOf, nextTries, failedPlace, leafFailed, leafRead, readLeaf, ancestorRead, middleLevel, hasMiddle, readAncestor, growDepth, targetPlace, readTarget, insertAt, insertAtRoot, readParent, nodeAndParentSame, insertBelow}
 use Rattle.insert.proofs.Laws.{node-same, parent-same}
 use Rattle.extract.specs.Extract.{rootRead, readRoot, headRemoved, removeHead}
-use Rattle.moundify.specs.Moundify.{returnAnswer, returning, mendReadNode, depthRead, mendReadDepth, mendReadLeft, marked, childLess, childrenRead, mendReadRight, exchangeAt, nodeAndChildSame, exchangeWith, mendSwap, cleanAt, mendClean}
+use Rattle.moundify.specs.Moundify.{returning, mendReadNode, depthRead, mendReadDepth, mendReadLeft, marked, childLess, childrenRead, mendReadRight, exchangeAt, nodeAndChildSame, exchangeWith, mendSwap, cleanAt, mendClean}
 use Rattle.machine.specs.Turn.{decide, decideAt}
 use Rattle.readable.proofs.Stores.{PlaceGood, ThreadGood, WaitsAbove}
 use Rattle.preserved.proofs.TreeLevels.{fits, level-unique, twice}
@@ -396,7 +396,7 @@ module _ (s : Shape) (r : InRange s) (m : Shared) (own : ℕ → ℕ) (g : Mound
         → ((o : ℕ) → o ≡ th .own → OwnAfter e (th .own) o) → ((o : Operation) → o ≡ op → Speaks m op o e Moved)
         → ((i : Item) → op ≡ holding i → Speaks m op none e (Took i)) → Fits (returning e u w)
     unfolding returning returned returnAnswer plan mending atPlace withNode goneIdle pick
-    return-planned e u eo en h al ow quiet tell = go (eqb w 0) refl (eqb (u .after) 0) refl
+    return-planned e u eo en h al ow quiet tell = go (eqb w 0) refl (eqb (u .after) 1) refl
       where
         waits : WaitsAbove (u .node) w
         waits = subst (λ k. WaitsAbove k w) (sym en) hw
@@ -404,17 +404,17 @@ module _ (s : Shape) (r : InRange s) (m : Shared) (own : ℕ → ℕ) (g : Mound
         few : u .node < 2 ^ 32
         few = few-nodes (u .node) (h .1 .1)
 
-        for : (a : Bool) → eqb (u .after) 0 ≡ a → op ≡ pick a taking (holding (u .result))
-        for a ea = h .0 .operation ∙ ap (λ x. pick x taking (holding (u .result))) ea
+        for : (a : Bool) → eqb (u .after) 1 ≡ a → op ≡ pick a (holding (u .result)) taking
+        for a ea = h .0 .operation ∙ ap (λ x. pick x (holding (u .result)) taking) ea
 
-        go : (q : Bool) → eqb w 0 ≡ q → (a : Bool) → eqb (u .after) 0 ≡ a
-            → Fits (plan e (pick q (pick a (atPlace u ReadRoot) (goneIdle u))
+        go : (q : Bool) → eqb w 0 ≡ q → (a : Bool) → eqb (u .after) 1 ≡ a
+            → Fits (plan e (pick q (pick a (goneIdle u) (atPlace u ReadRoot))
             (mending u (ancestor (u .node) (level w)) (w - mark (level w))))
-            (pick (q && not a) (Took (u .result)) Moved))
-        go true eq true ea =
+            (pick (q && a) (Took (u .result)) Moved))
+        go true eq true ea = moves none al (tell (u .result) (for true ea)) (ow 0 (sym (sym eo ∙ h .0 .none))) (refl, refl)
+        go true eq false ea =
             moves op al (quiet op refl) (ow (u .own) eo)
-            (record { operation = for true ea; permitted = h .0 .permitted; none = h .0 .none })
-        go true eq false ea = moves none al (tell (u .result) (for false ea)) (ow 0 (sym (sym eo ∙ h .0 .none))) (refl, refl)
+            (record { operation = for false ea; permitted = h .0 .permitted; none = h .0 .none })
         go false eq a ea =
             let nw = eqb-false w 0 eq in
             let l = level-holds w (omega arith) (fits (u .node) w few nw waits) .some in

@@ -7,9 +7,8 @@ use Rattle.region.specs.Answer.{unreadable, counterSpent}
 use Rattle.region.specs.Level.{level, mark}
 use Rattle.region.specs.Pick.{pick}
 use Rattle.region.specs.Shared.{Shared}
-use Rattle.region.specs.Thread.{mending, returned, withDepth, withFirst, withSecond, withThird}
-use Rattle.region.specs.declared.answer.Answer.{Answer}
-use Rattle.region.specs.declared.answer.Answer.the-variants.{Moved, Took}
+use Rattle.region.specs.Thread.{mending, returned, returnAnswer, withDepth, withFirst, withSecond, withThird}
+use Rattle.region.specs.declared.answer.Answer.the-variants.{Moved}
 use Rattle.region.specs.declared.place.Place.the-variants.{MendReadNode, MendReadDepth, MendReadLeft, MendReadRight, MendSwap, MendClean}
 use Rattle.region.specs.declared.record.Node.{Node}
 use Rattle.region.specs.declared.shape.Shape.{Shape}
@@ -21,12 +20,8 @@ use Rattle.access.specs.declared.effect.Effect.{Effect}
 use Rattle.access.specs.declared.effect.Effect.the-variants.{Nothing, Exchange, Clean}
 use Rattle.access.specs.declared.plan.Plan.{Plan}
 
--- "Return: .. if none waits, by after": what the turn that returns answers
-unfoldable pub returnAnswer : Thread → ℕ → Answer
-returnAnswer t w = pick (eqb w 0 && not (eqb (t .after) 0)) (Took (t .result)) Moved
-
+-- "Return", after an effect: the record afterwards and the answer
 unfoldable pub returning : Effect → Thread → ℕ → Plan
-unfolding returnAnswer
 returning e t w = plan e (returned t w) (returnAnswer t w)
 
 -- M1 "READ n." (line 33); node 0 is refused 7

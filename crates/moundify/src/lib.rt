@@ -5,7 +5,7 @@ ghost use lib.ListN.{length};
 ghost use Rattle.region.specs.Inner.{Within};
 ghost use Rattle.region.specs.Pick.{pick};
 ghost use Rattle.region.specs.Shared.{sharedIn};
-ghost use Rattle.moundify.specs.Moundify.{nodeAndChildSame, childLess, childrenRead, cleanAt, depthRead, exchangeAt, exchangeWith, marked, mendClean, mendReadDepth, mendReadLeft, mendReadNode, mendReadRight, mendSwap, returnAnswer, returning};
+ghost use Rattle.moundify.specs.Moundify.{nodeAndChildSame, childLess, childrenRead, cleanAt, depthRead, exchangeAt, exchangeWith, marked, mendClean, mendReadDepth, mendReadLeft, mendReadNode, mendReadRight, mendSwap, returning};
 ghost use Rattle.moundify.specs.Inner.{ChildrenAsked};
 use access::Effect;
 use access::Plan;
@@ -17,25 +17,11 @@ use region::Place;
 use region::Thread;
 use region::UNREADABLE;
 
-// What the turn that returns from mending answers.
-fn return_answer(t: Thread, w: u32) -> Answer
-    ensures { λ r. ⌜ r ≡ returnAnswer t w ⌝ }
-{
-    if w != 0 {
-        return Answer::Moved;
-    }
-    if t.after == 0 {
-        return Answer::Moved;
-    }
-    let result = t.result;
-    Answer::Took(result)
-}
-
 // The return from mending, after an effect.
 fn returning(effect: Effect, t: Thread, w: u32) -> Plan
     ensures { λ r. ⌜ r ≡ returning effect t w ⌝ }
 {
-    access::plan_of(effect, t.returned(w), return_answer(t, w))
+    access::plan_of(effect, t.returned(w), t.return_answer(w))
 }
 
 // M1
