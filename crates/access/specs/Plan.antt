@@ -22,7 +22,7 @@ unfoldable pub onTo : Thread → Place → Plan
 unfolding moved
 onTo t p = moved (atPlace t p)
 
--- a refused turn: "the thread keeps its place"
+-- a refused turn: "the thread keeps its place", since a refused turn stores nothing, whatever record its plan has
 unfoldable pub refused : Thread → ℕ → Plan
 unfolding plan
 refused t n = plan Nothing t (Refused n)

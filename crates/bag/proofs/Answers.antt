@@ -1,13 +1,13 @@
 -- What a turn tells goes by its plan's effect and answer, and its answer says what it told: place by place over the plans. Assumes nothing.
 use Prim.Native.Nat.{ℕ, _+_, _*_}
 use mathlib.Core.Path.{_≡_, refl, sym, ap, subst, _∙_}
-use mathlib.Core.Bool.{Bool, true, false, not, _&&_, _||_}
+use mathlib.Core.Bool.{Bool, true, false, _&&_, _||_}
 use mathlib.Core.List.{List}
 use lib.Dec.{eqb}
 use Rattle.region.specs.Frame.{frameOf}
 use Rattle.region.specs.Pick.{pick}
 use Rattle.region.specs.Shared.{Shared, sharedIn, threadIn}
-use Rattle.region.specs.Thread.{atPlace, goneIdle, mending, returned, withDepth}
+use Rattle.region.specs.Thread.{atPlace, goneIdle, mending, returned, returnAnswer, withDepth}
 use Rattle.region.specs.declared.answer.Answer.{Answer}
 use Rattle.region.specs.declared.answer.Answer.the-variants.{Moved, Idle as AnswersIdle, Inserted, Took, Empty, Refused}
 use Rattle.region.specs.declared.frame.Frame.{Frame}
@@ -24,7 +24,7 @@ use Rattle.access.specs.declared.effect.Effect.the-variants.{Nothing, Grow, Pus
 use Rattle.access.specs.declared.plan.Plan.{Plan}
 use Rattle.insert.specs.Insert.{readDepth, readLeaf, readAncestor, growDepth, readTarget, insertAt, insertAtRoot, readParent, insertBelow}
 use Rattle.extract.specs.Extract.{readRoot, removeHead}
-use Rattle.moundify.specs.Moundify.{returnAnswer, returning, mendReadNode, mendReadDepth, mendReadLeft, mendReadRight, exchangeWith, mendSwap, mendClean}
+use Rattle.moundify.specs.Moundify.{returning, mendReadNode, mendReadDepth, mendReadLeft, mendReadRight, exchangeWith, mendSwap, mendClean}
 use Rattle.readable.proofs.Laws.{Good}
 use Rattle.machine.specs.Run.{Turn}
 use Rattle.machine.specs.Turn.{decide, decideAt, staysPut, turnAnswer, turnPlan}
@@ -102,7 +102,7 @@ module _ (i : Item) (u : ℕ) where
     returning-says : (e : Effect) (t : Thread) (w : ℕ) → ((a : Answer) → effectTells i u a e ≡ quietTells u a) → Spoken p (returning e t w)
     unfolding returning returnAnswer
     returning-says e t w h =
-        pick-good (λ a. Spoken p (plan e (returned t w) a)) (eqb w 0 && not (eqb (t .after) 0))
+        pick-good (λ a. Spoken p (plan e (returned t w) a)) (eqb w 0 && eqb (t .after) 1)
         (λ k. plan-says p e _ _ (sym (h (Took (t .result)))) (subst (Says u (Took (t .result))) (sym (h (Took (t .result)))) took))
         (λ k. moves-on e _ (h Moved))
 
@@ -141,7 +141,7 @@ module _ (i : Item) (u : ℕ) where
         either _ _ (either _ _ (either _ _ (onTo-says _ refl _ _) (either _ _ (onTo-says _ refl _ _) (refused-says _ _ _))) (onTo-says _ refl _ _))
         (refused-says _ _ _)
     at-place-says ReadAncestor =
-        either _ _ (refused-says _ _ _) (either _ _ (onTo-says _ refl _ _) (either _ _ (onTo-says _ refl _ _) (refused-says _ _ _)))
+        either _ _ (either _ _ (onTo-says _ refl _ _) (either _ _ (onTo-says _ refl _ _) (refused-says _ _ _))) (refused-says _ _ _)
     at-place-says GrowDepth = either _ _ (either _ _ (moves-on _ refl _ _ refl) (onTo-says _ refl _ _)) (refused-says _ _ _)
     at-place-says ReadTarget = either _ _ (refused-says _ _ _) (onTo-says _ refl _ _)
     at-place-says InsertAtRoot = either _ _ (refused-says _ _ _) (inserts-says _ _ _ refl refl)
@@ -149,13 +149,11 @@ module _ (i : Item) (u : ℕ) where
     at-place-says InsertBelow = either _ _ (refused-says _ _ _) (inserts-says _ _ _ refl refl)
     at-place-says ReadRoot = either _ _ (moved-says _ refl _) (either _ _ empty-says (onTo-says _ refl _ _))
     at-place-says RemoveHead =
-        either _ _ (refused-says _ _ _)
-        (either _ _ (either _ _ (refused-says _ _ _) (pop-says _ _ _ _ _)) failed-says)
+        either _ _ (either _ _ (refused-says _ _ _) (either _ _ (refused-says _ _ _) (pop-says _ _ _ _ _))) failed-says
     at-place-says (MendReadNode w) = either _ _ (refused-says _ _ _) (onTo-says _ refl _ _)
     at-place-says (MendReadDepth w) =
-        either _ _ (refused-says _ _ _)
-        (either _ _ (either _ _ (onTo-says _ refl _ _) (onTo-says _ refl _ _))
-        (returning-says _ refl Nothing (withDepth t (m .depth)) w (λ a. refl)))
+        either _ _ (either _ _ (refused-says _ _ _) (either _ _ (onTo-says _ refl _ _) (onTo-says _ refl _ _)))
+        (returning-says _ refl Nothing (withDepth t (m .depth)) w (λ a. refl))
     at-place-says (MendReadLeft w) = either _ _ (onTo-says _ refl _ _) (refused-says _ _ _)
     at-place-says (MendReadRight w) =
         either _ _

@@ -20,7 +20,7 @@ use Rattle.region.specs.Record.{emptyNode}
 use Rattle.region.specs.Shape.{between, nodeCount}
 use Rattle.region.specs.Inner.{InRange}
 use Rattle.region.specs.Shared.{Shared, loadEntry, nodeIn, setThreadIn, sharedIn, threadIn}
-use Rattle.region.specs.Thread.{atPlace, begunTake, goneIdle, mending, withAfter, withCopies, withDepth, withFirst, withNode, withResult, withSecond, withThird}
+use Rattle.region.specs.Thread.{atPlace, begunTake, goneIdle, mending, returnAnswer, withAfter, withCopies, withDepth, withFirst, withNode, withResult, withSecond, withThird}
 use Rattle.region.specs.declared.answer.Answer.{Answer}
 use Rattle.region.specs.declared.answer.Answer.the-variants.{Moved, Idle, Inserted, Took, Empty, Refused}
 use Rattle.region.specs.declared.frame.Frame.{Frame}
@@ -45,7 +45,7 @@ use Rattle.readable.specs.Readable.{readable, shapeIn}
 use Rattle.readable.proofs.Laws.{Good, good}
 use Rattle.readable.proofs.Stores.{good-shared, good-thread, good-within, thread-fit}
 use Rattle.extract.specs.Extract.{rootRead, readRoot, headRemoved, removeHead}
-use Rattle.moundify.specs.Moundify.{returnAnswer, returning, mendReadNode, depthRead, mendReadDepth, mendReadLeft, childLess, childrenRead, mendReadRight, exchangeAt, nodeAndChildSame, exchangeWith, mendSwap, cleanAt, mendClean}
+use Rattle.moundify.specs.Moundify.{returning, mendReadNode, depthRead, mendReadDepth, mendReadLeft, childLess, childrenRead, mendReadRight, exchangeAt, nodeAndChildSame, exchangeWith, mendSwap, cleanAt, mendClean}
 use Rattle.machine.specs.Begin.{frameIn, takeBytes, takeRefusal}
 use Rattle.machine.specs.Run.{Turn, accessesOf}
 use Rattle.machine.specs.Turn.{decide, decideAt, staysPut, turnAnswer, turnBytes, turnPlan}
@@ -301,7 +301,7 @@ module _ (s : Shape) (t : ℕ) where
           item = u .result;
           cleans = refl;
           at-level = h .at-level;
-          answers = rw (ne-eqb (u .after) 0 (λ z. omega (arith, h .after))) refl;
+          answers = rw (eq-eqb (u .after) 1 (h .after)) refl;
         })
         least (h .above) exact
 
@@ -420,7 +420,7 @@ module _ (s : Shape) (t : ℕ) where
           known : (c : ℕ) → decide s m u c ≡ pick (eqb (level (u .node)) (m .depth)) (moved (v (MendClean 0)))
               (moved (v (MendReadLeft 0)))
           known c =
-              ap (decideAt s m u c) (h .place) ∙ rw (ne-eqb (u .node) 0 (λ e. omega (arith, h .some)), still-dirty first (h .dirty)) refl
+              ap (decideAt s m u c) (h .place) ∙ rw (still-dirty first (h .dirty), ne-eqb (u .node) 0 (λ e. omega (arith, h .some))) refl
 
           go : Dec (l ≡ d) → RestsFrom (5 * l + 1) m u
           go (yes e) =
@@ -461,7 +461,7 @@ module _ (s : Shape) (t : ℕ) where
           let w = mending (withAfter (withResult u (q .head .item)) 1) 1 0 in
           moves 4 m u (omega arith) (isSpent (q .node)) (plan (Pop v (q .node .first)) w Moved)
           (λ c. ap (decideAt s m u c) place
-          ∙ rw (ne-eqb (q .node .first) 0 (λ z. full (ap (λ n. n .first) (sym first) ∙ z)), same-copy first) refl)
+          ∙ rw (same-copy first, ne-eqb (q .node .first) 0 (λ z. full (ap (λ n. n .first) (sym first) ∙ z))) refl)
           refl 5 refl
           (mending-rests r deep (d - 1) 1 (omega arith) (omega arith) (effectShared m (Pop v (q .node .first))) w
           (record {

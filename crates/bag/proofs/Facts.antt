@@ -60,7 +60,7 @@ pub record Taking (permission own : ℕ) (at op : Operation) : Type 0 where
 
 -- the operation of a thread that mends: by after
 abbrev pub mendingFor : ℕ → Item → Operation
-mendingFor after result = pick (eqb after 0) taking (holding result)
+mendingFor after result = pick (eqb after 1) (holding result) taking
 
 -- node n exists and is no deeper than the present depth
 abbrev pub InTree : Shared → ℕ → Type 0

@@ -7,7 +7,7 @@ use native.Mathlib.Omega.{arith}
 use mathlib.Core.Path.{_≡_, refl, sym, ap, subst, _∙_}
 use mathlib.Core.Bool.{Bool, true, false, not, _&&_, _||_, true≢false}
 use mathlib.Core.Logic.{_⊎_, inl, inr}
-use borrow.Author.Tests.{ltb-true, eqb-true, eqb-false, ne-eqb, lt-ltb, le-ltb, le-leb}
+use borrow.Author.Tests.{ltb-true, eqb-true, eqb-false, ne-eqb, lt-ltb, le-ltb}
 use lib.Dec.{ltb, eqb}
 use lib.Pow.{pow-mono, pow-pos}
 use Rattle.region.specs.Answer.{counterSpent}
@@ -16,7 +16,7 @@ use Rattle.region.specs.Pick.{pick}
 use Rattle.region.specs.Shape.{between, nodeCount}
 use Rattle.region.specs.Inner.{InRange}
 use Rattle.region.specs.Shared.{Shared}
-use Rattle.region.specs.Thread.{goneIdle, mending, returned, atPlace, withDepth, withSearch, withNode, withAfter, withResult, withCopies, withFirst, withSecond, withThird}
+use Rattle.region.specs.Thread.{goneIdle, mending, returned, returnAnswer, atPlace, withDepth, withSearch, withNode, withAfter, withResult, withCopies, withFirst, withSecond, withThird}
 use Rattle.region.specs.declared.answer.Answer.{Answer}
 use Rattle.region.specs.declared.answer.Answer.the-variants.{Moved, Idle as AnswersIdle, Inserted, Took, Empty, Refused}
 use Rattle.region.specs.declared.place.Place.{Place}
@@ -37,10 +37,10 @@ use Rattle.access.specs.declared.effect.Effect.the-variants.{Nothing, Grow, Pus
 use Rattle.access.specs.declared.plan.Plan.{Plan}
 use Rattle.access.proofs.OrderLaws.{item-not-less, item-refl, item-total, item-trans}
 use Rattle.access.proofs.ReadLaws.{is-clean, is-dirty, same-node}
-use Rattle.insert.specs.Insert.{searching, readDepth, searchOn, leafOf, nextTries, failedPlace, leafFailed, leafRead, readLeaf, ancestorRead, middleLevel, readAncestor, growDepth, targetPlace, readTarget, insertAt, insertAtRoot, readParent, nodeAndParentSame, insertBelow}
+use Rattle.insert.specs.Insert.{searching, readDepth, searchOn, leafOf, nextTries, failedPlace, leafFailed, leafRead, readLeaf, ancestorRead, middleLevel, hasMiddle, readAncestor, growDepth, targetPlace, readTarget, insertAt, insertAtRoot, readParent, nodeAndParentSame, insertBelow}
 use Rattle.insert.proofs.Laws.{node-same, parent-same}
 use Rattle.extract.specs.Extract.{rootRead, readRoot, headRemoved, removeHead}
-use Rattle.moundify.specs.Moundify.{returnAnswer, returning, mendReadNode, depthRead, mendReadDepth, mendReadLeft, marked, childLess, childrenRead, mendReadRight, exchangeAt, nodeAndChildSame, exchangeWith, mendSwap, cleanAt, mendClean}
+use Rattle.moundify.specs.Moundify.{returning, mendReadNode, depthRead, mendReadDepth, mendReadLeft, marked, childLess, childrenRead, mendReadRight, exchangeAt, nodeAndChildSame, exchangeWith, mendSwap, cleanAt, mendClean}
 use Rattle.machine.specs.Turn.{decide, decideAt}
 use Rattle.readable.proofs.Stores.{PlaceGood, ThreadGood, WaitsAbove}
 use Rattle.preserved.proofs.TreeLevels.{fits, level-unique, twice}
@@ -187,7 +187,7 @@ module _ (s : Shape) (r : InRange s) (m : Shared) (own : ℕ → ℕ) (g : Mound
 
   -- the search goes on, or its end names the node
   search-planned : (u : Thread) → u .own ≡ th .own → Puts m u op → 1 ≤ u .search .lo → u .search .lo ≤ u .search .hi
-      → u .search .hi ≤ level (u .search .leaf) → InTree m (u .search .leaf) → Fits (searchOn th u)
+      → u .search .hi ≤ level (u .search .leaf) → InTree m (u .search .leaf) → Fits (searchOn u)
   unfolding searchOn withNode
   search-planned u e h l o v k =
       pick-good Fits (ltb (u .search .lo) (u .search .hi))
@@ -254,30 +254,26 @@ module _ (s : Shape) (r : InRange s) (m : Shared) (own : ℕ → ℕ) (g : Mound
 
   -- I3
   module _ (h : Puts m th op) (x : Searching m (th .search)) where
-    middle : ℕ
-    middle = (th .search .lo + th .search .hi) / 2
-
-    middle-is : middleLevel th ≡ middle
-    unfolding middleLevel pick middle
-    middle-is =
-        rw
-        (lt-ltb (th .search .lo) (th .search .hi) (x .below), le-leb middle (level (th .search .leaf)) (omega (arith, x .below, x .hi)))
-        refl
+    has-middle : hasMiddle th ≡ true
+    unfolding hasMiddle middleLevel
+    has-middle =
+        and-both (lt-ltb (th .search .lo) (th .search .hi) (x .below))
+        (is-between 1 (middleLevel th) (level (th .search .leaf)) (omega (arith, x .lo, x .below)) (omega (arith, x .below, x .hi)))
 
     ancestor-planned : Fits (readAncestor m th)
-    unfolding readAncestor ancestorRead withFirst withCopies withSearch middle
+    unfolding readAncestor ancestorRead middleLevel withFirst withCopies withSearch
     ancestor-planned =
-        pick-good Fits (eqb (middleLevel th) 0)
-        (λ e. absurd (let z = eqb-true (middleLevel th) 0 e in omega (arith, z, middle-is, x .lo, x .below)))
+        pick-good Fits (hasMiddle th)
         (λ e. let q = readNode m (ancestor (th .search .leaf) (middleLevel th)) in
         let leaf = th .search .leaf in
         let tries = th .search .tries in
-        pick-good (λ z. Fits (searchOn th (withFirst (withSearch th z) q))) (itemLe (th .item) (valueOf q))
+        pick-good (λ z. Fits (searchOn (withFirst (withSearch th z) q))) (itemLe (th .item) (valueOf q))
         (λ a. search-planned (withFirst (withSearch th (searching leaf tries (th .search .lo) (middleLevel th))) q) refl h (x .lo)
-        (omega (arith, middle-is, x .below)) (omega (arith, middle-is, x .below, x .hi)) (x .leaf))
+        (omega (arith, x .below)) (omega (arith, x .below, x .hi)) (x .leaf))
         (λ a. search-planned (withFirst (withSearch th (searching leaf tries (middleLevel th + 1) (th .search .hi))) q) refl h
         (omega arith)
-        (omega (arith, middle-is, x .below)) (x .hi) (x .leaf)))
+        (omega (arith, x .below)) (x .hi) (x .leaf)))
+        (λ e. absurd (true≢false (sym has-middle ∙ e)))
 
   -- I5
   target-planned : Puts m th op → InTree m (th .node) → Fits (readTarget m th)
@@ -376,9 +372,9 @@ module _ (s : Shape) (r : InRange s) (m : Shared) (own : ℕ → ℕ) (g : Mound
   unfolding removeHead headRemoved plan mending atPlace withNode withAfter withResult pick
   head-planned h a =
       let q = th .copies .first in
-      pick-good Fits (eqb (q .node .first) 0) (λ e. absurd (let z = eqb-true (q .node .first) 0 e in omega (arith, z, a .some)))
-      (λ e. pick-good Fits (sameNode (m .node 1) (q .node))
-      (λ y. pick-good Fits (isSpent (q .node)) (λ z. is-refused th)
+      pick-good Fits (sameNode (m .node 1) (q .node))
+      (λ y. pick-good Fits (eqb (q .node .first) 0) (λ e. absurd (let z = eqb-true (q .node .first) 0 e in omega (arith, z, a .some)))
+      (λ e. pick-good Fits (isSpent (q .node)) (λ z. is-refused th)
       (λ z. let f = found 1 q (a .sound) y in
       let fn = found-node 1 q f in
       let fh = found-head 1 q f in
@@ -390,8 +386,8 @@ module _ (s : Shape) (r : InRange s) (m : Shared) (own : ℕ → ℕ) (g : Mound
         value = ap (λ x. updated x (q .head .next) 1) (sym fn) ∙ ap (λ c. updated (m .node 1) (c .next) 1) (sym fh);
       })
       (removes (h .operation) (ap (λ c. holding (c .item)) (sym fh))) refl
-      (record { operation = refl; permitted = h .permitted; none = h .none }, root-in-tree)))
-      (λ y. goes-on th ReadRoot refl h))
+      (record { operation = refl; permitted = h .permitted; none = h .none }, root-in-tree))))
+      (λ y. goes-on th ReadRoot refl h)
 
   -- Mending, with the waiting levels w above the node's.
   module _ (w : ℕ) (hw : WaitsAbove (th .node) w) where
@@ -400,7 +396,7 @@ module _ (s : Shape) (r : InRange s) (m : Shared) (own : ℕ → ℕ) (g : Mound
         → ((o : ℕ) → o ≡ th .own → OwnAfter e (th .own) o) → ((o : Operation) → o ≡ op → Speaks m op o e Moved)
         → ((i : Item) → op ≡ holding i → Speaks m op none e (Took i)) → Fits (returning e u w)
     unfolding returning returned returnAnswer plan mending atPlace withNode goneIdle pick
-    return-planned e u eo en h al ow quiet tell = go (eqb w 0) refl (eqb (u .after) 0) refl
+    return-planned e u eo en h al ow quiet tell = go (eqb w 0) refl (eqb (u .after) 1) refl
       where
         waits : WaitsAbove (u .node) w
         waits = subst (λ k. WaitsAbove k w) (sym en) hw
@@ -408,17 +404,17 @@ module _ (s : Shape) (r : InRange s) (m : Shared) (own : ℕ → ℕ) (g : Mound
         few : u .node < 2 ^ 32
         few = few-nodes (u .node) (h .1 .1)
 
-        for : (a : Bool) → eqb (u .after) 0 ≡ a → op ≡ pick a taking (holding (u .result))
-        for a ea = h .0 .operation ∙ ap (λ x. pick x taking (holding (u .result))) ea
+        for : (a : Bool) → eqb (u .after) 1 ≡ a → op ≡ pick a (holding (u .result)) taking
+        for a ea = h .0 .operation ∙ ap (λ x. pick x (holding (u .result)) taking) ea
 
-        go : (q : Bool) → eqb w 0 ≡ q → (a : Bool) → eqb (u .after) 0 ≡ a
-            → Fits (plan e (pick q (pick a (atPlace u ReadRoot) (goneIdle u))
+        go : (q : Bool) → eqb w 0 ≡ q → (a : Bool) → eqb (u .after) 1 ≡ a
+            → Fits (plan e (pick q (pick a (goneIdle u) (atPlace u ReadRoot))
             (mending u (ancestor (u .node) (level w)) (w - mark (level w))))
-            (pick (q && not a) (Took (u .result)) Moved))
-        go true eq true ea =
+            (pick (q && a) (Took (u .result)) Moved))
+        go true eq true ea = moves none al (tell (u .result) (for true ea)) (ow 0 (sym (sym eo ∙ h .0 .none))) (refl, refl)
+        go true eq false ea =
             moves op al (quiet op refl) (ow (u .own) eo)
-            (record { operation = for true ea; permitted = h .0 .permitted; none = h .0 .none })
-        go true eq false ea = moves none al (tell (u .result) (for false ea)) (ow 0 (sym (sym eo ∙ h .0 .none))) (refl, refl)
+            (record { operation = for false ea; permitted = h .0 .permitted; none = h .0 .none })
         go false eq a ea =
             let nw = eqb-false w 0 eq in
             let l = level-holds w (omega arith) (fits (u .node) w few nw waits) .some in
@@ -455,9 +451,9 @@ module _ (s : Shape) (r : InRange s) (m : Shared) (own : ℕ → ℕ) (g : Mound
         let q = th .copies .first in
         let u = withDepth th (m .depth) in
         let few = few-nodes n (h .1 .1) in
-        pick-good Fits (eqb n 0) (λ e. absurd (let z = eqb-true n 0 e in omega (arith, z, h .1 .0)))
-        (λ e. pick-good Fits (isDirty (q .node))
-        (λ d. let di : Dirty m n q = record { sound = a; dirty = is-dirty (q .node) d } in
+        pick-good Fits (isDirty (q .node))
+        (λ d. pick-good Fits (eqb n 0) (λ e. absurd (let z = eqb-true n 0 e in omega (arith, z, h .1 .0)))
+        (λ e. let di : Dirty m n q = record { sound = a; dirty = is-dirty (q .node) d } in
         pick-good Fits (eqb (level n) (m .depth))
         (λ y. let deep = children-deeper n (m .depth) (h .1 .0) few (eqb-true (level n) (m .depth) y) in
         goes-on u (MendClean w) refl (
@@ -466,8 +462,8 @@ module _ (s : Shape) (r : InRange s) (m : Shared) (own : ℕ → ℕ) (g : Mound
           record { left = deep-child (2 * n) deep (h .1 .0); right = deep-child (2 * n + 1) (omega (arith, deep)) (h .1 .0) },
         ))
         (λ y. goes-on u (MendReadLeft w) refl
-        (h, (di, children-inside n (m .depth) (h .1 .0) few (h .1 .1) (eqb-false (level n) (m .depth) y)))))
-        (λ d. return-planned Nothing u refl refl h tt (λ o z. z) (λ o z. reads z) (λ i z. answers z refl)))
+        (h, (di, children-inside n (m .depth) (h .1 .0) few (h .1 .1) (eqb-false (level n) (m .depth) y))))))
+        (λ d. return-planned Nothing u refl refl h tt (λ o z. z) (λ o z. reads z) (λ i z. answers z refl))
 
     -- M3
     child-in-tree : (c : ℕ) → 1 ≤ c → c ≤ 2 * th .node + 1 → Inner m (th .node) (th .copies .first) → isNode s c ≡ true

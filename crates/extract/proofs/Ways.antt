@@ -55,28 +55,28 @@ head-leaves t q n u v x r en eu ev ex er =
     er
     ∙ (λ i. plan (Pop (en i) (q .node .first)) ((ex ∙ ap (λ y. mending y 1 0) (ev ∙ ap (λ y. withAfter y 1) eu)) i) Moved)
 
-module _ (f : Frame) (b : List ℕ) (t : Thread) (r : Plan) where
-  pub no-head : t .copies .first .node .first ≡ 0 → r ≡ refused t unreadable → r ≡ removeHead (sharedIn f b) t
+module _ (f : Frame) (b : List ℕ) (t : Thread) (r : Plan) (x : Node) (ex : x ≡ nodeIn f b 1) (s : Bool)
+    (es : s ≡ sameNode x (t .copies .first .node)) where
+  root-test : s ≡ sameNode (sharedIn f b .node 1) (t .copies .first .node)
+  unfolding sharedIn
+  root-test = es ∙ ap (λ y. sameNode y (t .copies .first .node)) ex
+
+  pub root-changed : not s ≡ true → r ≡ onTo t ReadRoot → r ≡ removeHead (sharedIn f b) t
   unfolding removeHead pick
-  no-head z er = rw (eq-eqb (t .copies .first .node .first) 0 z) er
+  root-changed h er = rw (← root-test, not-true s h) er
 
-  module _ (nz : t .copies .first .node .first ≡ 0 → ⊥) (x : Node) (ex : x ≡ nodeIn f b 1) (s : Bool)
-      (es : s ≡ sameNode x (t .copies .first .node)) where
-    root-test : s ≡ sameNode (sharedIn f b .node 1) (t .copies .first .node)
-    unfolding sharedIn
-    root-test = es ∙ ap (λ y. sameNode y (t .copies .first .node)) ex
-
-    pub root-changed : not s ≡ true → r ≡ onTo t ReadRoot → r ≡ removeHead (sharedIn f b) t
+  module _ (h : not s ≡ false) where
+    pub no-head : t .copies .first .node .first ≡ 0 → r ≡ refused t unreadable → r ≡ removeHead (sharedIn f b) t
     unfolding removeHead pick
-    root-changed h er = rw (ne-eqb (t .copies .first .node .first) 0 nz, ← root-test, not-true s h) er
+    no-head z er = rw (← root-test, not-false s h, eq-eqb (t .copies .first .node .first) 0 z) er
 
-    module _ (h : not s ≡ false) (p : Bool) (ep : p ≡ isSpent (t .copies .first .node)) where
+    module _ (nz : t .copies .first .node .first ≡ 0 → ⊥) (p : Bool) (ep : p ≡ isSpent (t .copies .first .node)) where
       pub root-spent : p ≡ true → r ≡ refused t counterSpent → r ≡ removeHead (sharedIn f b) t
       unfolding removeHead pick
       root-spent g er =
-          rw (ne-eqb (t .copies .first .node .first) 0 nz, ← root-test, not-false s h, ← ep, g) er
+          rw (← root-test, not-false s h, ne-eqb (t .copies .first .node .first) 0 nz, ← ep, g) er
 
       pub head-removes : p ≡ false → r ≡ headRemoved t (t .copies .first) → r ≡ removeHead (sharedIn f b) t
       unfolding removeHead pick
       head-removes g er =
-          rw (ne-eqb (t .copies .first .node .first) 0 nz, ← root-test, not-false s h, ← ep, g) er
+          rw (← root-test, not-false s h, ne-eqb (t .copies .first .node .first) 0 nz, ← ep, g) er

@@ -34,14 +34,15 @@ headRemoved t q =
     (mending (withAfter (withResult t (q .head .item)) 1) 1 0)
     Moved
 
--- E2 "CAS root to the copied next cell, dirty. .. Failure: E1." (line 27); no copied first cell is refused 7
+-- E2 "CAS root to the copied next cell, dirty. .. Failure: E1." (line 27). The copied first cell is named by a success alone, which frees
+-- it; so cell 0 is refused 7 only where the comparison holds
 unfoldable pub removeHead : Shared → Thread → Plan
 unfolding headRemoved
 removeHead m t =
     pick
+    (sameNode (m .node 1) (t .copies .first .node))
+    (pick
     (eqb (t .copies .first .node .first) 0)
     (refused t unreadable)
-    (pick
-    (sameNode (m .node 1) (t .copies .first .node))
-    (pick (isSpent (t .copies .first .node)) (refused t counterSpent) (headRemoved t (t .copies .first)))
-    (onTo t ReadRoot))
+    (pick (isSpent (t .copies .first .node)) (refused t counterSpent) (headRemoved t (t .copies .first))))
+    (onTo t ReadRoot)

@@ -60,11 +60,11 @@ pub fn remove_head(f: Frame, b: &[u8], t: Thread) -> Plan
     ensures { λ r. ⌜ r ≡ removeHead (sharedIn f (now (b .entry))) t ⌝ }
 {
     let q = t.copies.first;
-    if q.node.first == 0 {
-        return access::refused(t, UNREADABLE);
-    }
     if !access::same_node(f.load_node(b, 1), q.node) {
         return access::on_to(t, Place::ReadRoot);
+    }
+    if q.node.first == 0 {
+        return access::refused(t, UNREADABLE);
     }
     if access::is_spent(q.node) {
         return access::refused(t, COUNTER_SPENT);

@@ -5,8 +5,8 @@ use native.Mathlib.Omega.{arith}
 use mathlib.Core.Path.{_≡_, refl, sym, ap, _∙_}
 use mathlib.Core.Bool.{Bool, true, false, not}
 use mathlib.Core.List.{List}
-use borrow.Author.Tests.{leb-true, lt-ltb, le-ltb, le-leb, lt-leb, eq-eqb, ne-eqb, not-true, not-false}
-use lib.Dec.{leb, ltb}
+use borrow.Author.Tests.{lt-ltb, le-ltb, eq-eqb, ne-eqb, not-true, not-false}
+use lib.Dec.{ltb}
 use lib.Pow.{pow-mono, pow-pos}
 use Rattle.words.specs.Word.{word}
 use Rattle.region.specs.Answer.{unreadable, counterSpent}
@@ -25,13 +25,13 @@ use Rattle.region.specs.declared.record.NodeCopy.{NodeCopy}
 use Rattle.region.specs.declared.shape.Shape.{Shape}
 use Rattle.region.specs.declared.thread.Thread.{Thread}
 use Rattle.region.proofs.Levels.{level-most}
-use Rattle.region.proofs.Shapes.{between-least, between-most}
+use Rattle.region.proofs.Shapes.{and-right, between-least, between-most}
 use Rattle.access.specs.Order.{itemLe, itemLt, valueOf}
 use Rattle.access.specs.Plan.{plan, onTo, refused}
 use Rattle.access.specs.Read.{isLevel, isSpent, readNode, sameNode, updated}
 use Rattle.access.specs.declared.effect.Effect.the-variants.{Grow, Push}
 use Rattle.access.specs.declared.plan.Plan.{Plan}
-use Rattle.insert.specs.Insert.{searching, ancestorRead, nodeAndParentSame, failedPlace, growDepth, insertAt, insertAtRoot, insertBelow, leafFailed, leafOf, leafRead, middleLevel, nextTries, readAncestor, readDepth, readLeaf, readParent, readTarget, searchOn, targetPlace}
+use Rattle.insert.specs.Insert.{searching, ancestorRead, nodeAndParentSame, failedPlace, growDepth, hasMiddle, insertAt, insertAtRoot, insertBelow, leafFailed, leafOf, leafRead, middleLevel, nextTries, readAncestor, readDepth, readLeaf, readParent, readTarget, searchOn, targetPlace}
 
 -- I1, and the search.
 pub depth-read : (f : Frame) (b : List ℕ) (t t₁ t₂ : Thread) (d : ℕ) (r : Plan) → d ≡ word b (f .depth) → t₁ ≡ withDepth t d
@@ -40,8 +40,8 @@ pub depth-read : (f : Frame) (b : List ℕ) (t t₁ t₂ : Thread) (d : ℕ) (r 
 unfolding readDepth sharedIn
 depth-read f b t t₁ t₂ d r ed e₁ e₂ e = cc
 
-module _ (t₀ t : Thread) (r : Plan) where
-  pub searches-on : t .search .lo < t .search .hi → r ≡ onTo t ReadAncestor → r ≡ searchOn t₀ t
+module _ (t : Thread) (r : Plan) where
+  pub searches-on : t .search .lo < t .search .hi → r ≡ onTo t ReadAncestor → r ≡ searchOn t
   unfolding searchOn pick
   searches-on h e = rw (lt-ltb (t .search .lo) (t .search .hi) h) e
 
@@ -50,12 +50,12 @@ module _ (t₀ t : Thread) (r : Plan) where
     level-test : q ≡ between 1 (t .search .hi) (level (t .search .leaf))
     level-test = eq ∙ ap (between 1 (t .search .hi)) el
 
-    pub no-level : not q ≡ true → r ≡ refused t₀ unreadable → r ≡ searchOn t₀ t
+    pub no-level : not q ≡ true → r ≡ refused t unreadable → r ≡ searchOn t
     unfolding searchOn pick
     no-level n e = rw (le-ltb (t .search .lo) (t .search .hi) h, ← level-test, not-true q n) e
 
     pub point-found : not q ≡ false → (a : ℕ) (t₁ : Thread) → a ≡ ancestor (t .search .leaf) (t .search .hi) → t₁ ≡ withNode t a
-        → r ≡ onTo t₁ ReadTarget → r ≡ searchOn t₀ t
+        → r ≡ onTo t₁ ReadTarget → r ≡ searchOn t
     unfolding searchOn pick
     point-found n a t₁ ea e₁ e =
         rw
@@ -118,10 +118,10 @@ module _ (s : Shape) (t : Thread) where
       leaf-below n e = rw (← leaf-test, not-true b n) e
 
       pub search-begins : not b ≡ false → (t₁ t₂ : Thread) → t₁ ≡ withSearch t (searching leaf (t .search .tries) 1 (t .depth))
-          → t₂ ≡ withFirst t₁ q → r ≡ searchOn t t₂ → r ≡ leafRead s t leaf q
+          → t₂ ≡ withFirst t₁ q → r ≡ searchOn t₂ → r ≡ leafRead s t leaf q
       unfolding leafRead pick
       search-begins n t₁ t₂ e₁ e₂ e =
-          rw (← leaf-test, not-false b n) (e ∙ ap (searchOn t) (e₂ ∙ ap (λ x. withFirst x q) e₁))
+          rw (← leaf-test, not-false b n) (e ∙ ap searchOn (e₂ ∙ ap (λ x. withFirst x q) e₁))
 
 module _ (s : Shape) (j : ℕ) (q : Bool) (e : q ≡ isLevel s j) (n : not q ≡ false) where
   pub level-some : 1 ≤ j
@@ -148,64 +148,59 @@ module _ (s : Shape) (m : Shared) (t : Thread) (choice : ℕ) (r : Plan) (q : Bo
 
 -- I3.
 module _ (t : Thread) (middle : ℕ) (q : NodeCopy) (r : Plan) (v : Item) (ev : v ≡ valueOf q) (b : Bool) (eb : b ≡ itemLe (t .item) v)
-    (t₁ t₂ : Thread) (e₂ : t₂ ≡ withFirst t₁ q) (e : r ≡ searchOn t t₂) where
+    (t₁ t₂ : Thread) (e₂ : t₂ ≡ withFirst t₁ q) (e : r ≡ searchOn t₂) where
   ancestor-test : b ≡ itemLe (t .item) (valueOf q)
   ancestor-test = eb ∙ ap (itemLe (t .item)) ev
 
   pub hi-moves : b ≡ true → t₁ ≡ withSearch t (searching (t .search .leaf) (t .search .tries) (t .search .lo) middle)
       → r ≡ ancestorRead t middle q
   unfolding ancestorRead pick
-  hi-moves g e₁ = rw (← ancestor-test, g) (e ∙ ap (searchOn t) (e₂ ∙ ap (λ x. withFirst x q) e₁))
+  hi-moves g e₁ = rw (← ancestor-test, g) (e ∙ ap searchOn (e₂ ∙ ap (λ x. withFirst x q) e₁))
 
   pub lo-moves : b ≡ false → t₁ ≡ withSearch t (searching (t .search .leaf) (t .search .tries) (middle + 1) (t .search .hi))
       → r ≡ ancestorRead t middle q
   unfolding ancestorRead pick
-  lo-moves g e₁ = rw (← ancestor-test, g) (e ∙ ap (searchOn t) (e₂ ∙ ap (λ x. withFirst x q) e₁))
+  lo-moves g e₁ = rw (← ancestor-test, g) (e ∙ ap searchOn (e₂ ∙ ap (λ x. withFirst x q) e₁))
+
+pub middle-halves : (t : Thread) → (t .search .lo + t .search .hi) / 2 ≡ middleLevel t
+unfolding middleLevel
+middle-halves t = refl
 
 module _ (t : Thread) where
-  pub search-ended : t .search .hi ≤ t .search .lo → 0 ≡ middleLevel t
-  unfolding middleLevel pick
+  pub search-ended : t .search .hi ≤ t .search .lo → false ≡ hasMiddle t
+  unfolding hasMiddle
   search-ended h = rw (le-ltb (t .search .lo) (t .search .hi) h) refl
 
-  module _ (h : t .search .lo < t .search .hi) (l : ℕ) (el : l ≡ level (t .search .leaf)) where
-    pub leaf-above : l < (t .search .lo + t .search .hi) / 2 → 0 ≡ middleLevel t
-    unfolding middleLevel pick
-    leaf-above g =
-        rw (lt-ltb (t .search .lo) (t .search .hi) h, ← el, lt-leb ((t .search .lo + t .search .hi) / 2) l g) refl
+  pub middle-tested : t .search .lo < t .search .hi → (k l : ℕ) (q : Bool) → k ≡ middleLevel t → l ≡ level (t .search .leaf)
+      → q ≡ between 1 k l → q ≡ hasMiddle t
+  unfolding hasMiddle
+  middle-tested h k l q ek el eq =
+      rw (lt-ltb (t .search .lo) (t .search .hi) h) (eq ∙ (λ i. between 1 (ek i) (el i)))
 
-    pub middle-there : (t .search .lo + t .search .hi) / 2 ≤ l → (t .search .lo + t .search .hi) / 2 ≡ middleLevel t
-    unfolding middleLevel pick
-    middle-there g =
-        rw (lt-ltb (t .search .lo) (t .search .hi) h, ← el, le-leb ((t .search .lo + t .search .hi) / 2) l g) refl
-
-picked-most : (p q : Bool) (x l : ℕ) → leb x l ≡ q → l ≤ 32 → pick p (pick q x 0) 0 ≤ 32
-unfolding pick
-picked-most true true x l e h = omega (arith, leb-true x l e)
-picked-most true false x l e h = omega arith
-picked-most false q x l e h = omega arith
-
-pub middle-most : (t : Thread) (k : ℕ) → k ≡ middleLevel t → k ≤ 32
-unfolding middleLevel
-middle-most t k e =
-    rw e
-    (picked-most
-    (ltb (t .search .lo) (t .search .hi))
-    (leb ((t .search .lo + t .search .hi) / 2) (level (t .search .leaf)))
-    ((t .search .lo + t .search .hi) / 2)
-    (level (t .search .leaf))
-    refl
-    (level-most (t .search .leaf)))
-
-module _ (m : Shared) (t : Thread) (r : Plan) (k : ℕ) (ek : k ≡ middleLevel t) where
-  pub no-middle : k ≡ 0 → r ≡ refused t unreadable → r ≡ readAncestor m t
+module _ (t : Thread) (h : Bool) (eh : h ≡ hasMiddle t) where
+  pub no-middle : (m : Shared) (r : Plan) → not h ≡ true → r ≡ refused t unreadable → r ≡ readAncestor m t
   unfolding readAncestor pick
-  no-middle z e = rw (← ek, eq-eqb k 0 z) e
+  no-middle m r n e = rw (← eh, not-true h n) e
 
-  pub middle-read : (k ≡ 0 → ⊥) → (a : ℕ) (q : NodeCopy) → a ≡ ancestor (t .search .leaf) k → q ≡ readNode m a
-      → r ≡ ancestorRead t k q → r ≡ readAncestor m t
-  unfolding readAncestor pick
-  middle-read n a q ea eq e =
-      rw (← ek, ne-eqb k 0 n) (e ∙ ap (ancestorRead t k) (eq ∙ ap (readNode m) ea))
+  module _ (n : not h ≡ false) (k : ℕ) (ek : k ≡ middleLevel t) where
+    middle-between : between 1 k (level (t .search .leaf)) ≡ true
+    unfolding hasMiddle
+    middle-between =
+        ap (λ x. between 1 x (level (t .search .leaf))) ek
+        ∙ and-right (ltb (t .search .lo) (t .search .hi)) _ (sym eh ∙ not-false h n)
+
+    pub middle-some : 1 ≤ k
+    middle-some = between-least 1 k (level (t .search .leaf)) middle-between
+
+    pub middle-most : k ≤ 32
+    middle-most =
+        omega (arith, between-most 1 k (level (t .search .leaf)) middle-between, level-most (t .search .leaf))
+
+    pub middle-read : (m : Shared) (r : Plan) (a : ℕ) (q : NodeCopy) → a ≡ ancestor (t .search .leaf) k → q ≡ readNode m a
+        → r ≡ ancestorRead t k q → r ≡ readAncestor m t
+    unfolding readAncestor pick
+    middle-read m r a q ea eq e =
+        rw (← eh, not-false h n, ← ek) (e ∙ ap (ancestorRead t k) (eq ∙ ap (readNode m) ea))
 
 -- I4.
 module _ (f : Frame) (b : List ℕ) (t : Thread) (r : Plan) (p : Bool) (ep : p ≡ isLevel (f .shape) (t .depth)) where

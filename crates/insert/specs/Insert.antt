@@ -2,7 +2,7 @@
 -- thread's item. Each answers a plan from the shape, shared memory and the thread's record.
 use Prim.Native.Nat.{ℕ, _+_, _-_, _/_, _%_, _^_, min}
 use mathlib.Core.Bool.{Bool, _&&_, _||_}
-use lib.Dec.{leb, ltb, eqb}
+use lib.Dec.{ltb, eqb}
 use Rattle.region.specs.Answer.{unreadable, counterSpent}
 use Rattle.region.specs.Level.{ancestor, level}
 use Rattle.region.specs.Pick.{pick}
@@ -31,16 +31,16 @@ readDepth m t =
     onTo (withSearch (withDepth t (m .depth)) (searching (t .search .leaf) 0 (t .search .lo) (t .search .hi))) ReadLeaf
 
 -- "Search: while lo < hi, I3 .. Then node = ancestor at hi; to I5." t has lo and hi put anew; a level that the leaf does not have is
--- refused 7, and the thread stays t₀. (line 18)
-unfoldable pub searchOn : Thread → Thread → Plan
-searchOn t₀ t =
+-- refused 7 (line 18)
+unfoldable pub searchOn : Thread → Plan
+searchOn t =
     pick
     (ltb (t .search .lo) (t .search .hi))
     (onTo t ReadAncestor)
     (pick
     (between 1 (t .search .hi) (level (t .search .leaf)))
     (onTo (withNode t (ancestor (t .search .leaf) (t .search .hi))) ReadTarget)
-    (refused t₀ unreadable))
+    (refused t unreadable))
 
 -- "leaf = 2^(d−1) + (choice mod 2^(d−1))" (lines 17 and 20)
 unfoldable pub leafOf : ℕ → ℕ → ℕ
@@ -66,7 +66,7 @@ unfolding searchOn leafFailed
 leafRead s t leaf q =
     pick
     (itemLe (t .item) (valueOf q))
-    (searchOn t (withFirst (withSearch t (searching leaf (t .search .tries) 1 (t .depth))) q))
+    (searchOn (withFirst (withSearch t (searching leaf (t .search .tries) 1 (t .depth))) q))
     (leafFailed s t leaf q)
 
 -- I2 (lines 16 to 20); d outside 1..D is refused 7
@@ -82,7 +82,7 @@ readLeaf s m t choice =
 unfoldable pub ancestorRead : Thread → ℕ → NodeCopy → Plan
 unfolding searchOn
 ancestorRead t middle q =
-    searchOn t
+    searchOn
     (withFirst
     (withSearch t
     (pick
@@ -91,25 +91,23 @@ ancestorRead t middle q =
     (searching (t .search .leaf) (t .search .tries) (middle + 1) (t .search .hi))))
     q)
 
--- "level floor((lo+hi)/2)"; 0, no level, where lo is not below hi or the leaf lies above that level
+-- "level floor((lo+hi)/2)"
 unfoldable pub middleLevel : Thread → ℕ
-middleLevel t =
-    pick
-    (ltb (t .search .lo) (t .search .hi))
-    (pick
-    (leb ((t .search .lo + t .search .hi) / 2) (level (t .search .leaf)))
-    ((t .search .lo + t .search .hi) / 2)
-    0)
-    0
+middleLevel t = (t .search .lo + t .search .hi) / 2
+
+-- lo is below hi, and the level in their middle is one of the leaf's, 1 to its own; a leaf 0 has none
+unfoldable pub hasMiddle : Thread → Bool
+unfolding middleLevel
+hasMiddle t = ltb (t .search .lo) (t .search .hi) && between 1 (middleLevel t) (level (t .search .leaf))
 
 -- I3 "READs the leaf's ancestor at level floor((lo+hi)/2)" (line 18); lo not below hi, no leaf, or no such level is refused 7
 unfoldable pub readAncestor : Shared → Thread → Plan
-unfolding middleLevel ancestorRead
+unfolding middleLevel hasMiddle ancestorRead
 readAncestor m t =
     pick
-    (eqb (middleLevel t) 0)
-    (refused t unreadable)
+    (hasMiddle t)
     (ancestorRead t (middleLevel t) (readNode m (ancestor (t .search .leaf) (middleLevel t))))
+    (refused t unreadable)
 
 -- I4 "CAS depth from d to d + 1; to I1 either way." (line 19); d or d + 1 no level is refused 7
 unfoldable pub growDepth : Shape → Shared → Thread → Plan

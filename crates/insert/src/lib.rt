@@ -4,7 +4,7 @@ ghost use Prim.Native.Nat.{_≤_};
 ghost use lib.ListN.{length};
 ghost use Rattle.region.specs.Inner.{Within};
 ghost use Rattle.region.specs.Shared.{sharedIn};
-ghost use Rattle.insert.specs.Insert.{ancestorRead, nodeAndParentSame, failedPlace, growDepth, insertAt, insertAtRoot, insertBelow, leafFailed, leafOf, leafRead, middleLevel, nextTries, readAncestor, readDepth, readLeaf, readParent, readTarget, searchOn, targetPlace};
+ghost use Rattle.insert.specs.Insert.{ancestorRead, nodeAndParentSame, failedPlace, growDepth, hasMiddle, insertAt, insertAtRoot, insertBelow, leafFailed, leafOf, leafRead, middleLevel, nextTries, readAncestor, readDepth, readLeaf, readParent, readTarget, searchOn, targetPlace};
 use access::Effect;
 use access::Plan;
 use region::Answer;
@@ -28,9 +28,9 @@ pub fn read_depth(f: Frame, b: &[u8], t: Thread) -> Plan
     access::on_to(t.with_depth(depth).with_search(search), Place::ReadLeaf)
 }
 
-// The search goes on, or the insertion point is found; before is the thread's record to keep if refused.
-fn search_on(before: Thread, t: Thread) -> Plan
-    ensures { λ r. ⌜ r ≡ searchOn before t ⌝ }
+// The search goes on, or the insertion point is found.
+fn search_on(t: Thread) -> Plan
+    ensures { λ r. ⌜ r ≡ searchOn t ⌝ }
 {
     let leaf = t.search.leaf;
     let hi = t.search.hi;
@@ -38,7 +38,7 @@ fn search_on(before: Thread, t: Thread) -> Plan
         return access::on_to(t, Place::ReadAncestor);
     }
     if !region::is_between(1, hi, region::level_of(leaf)) {
-        return access::refused(before, UNREADABLE);
+        return access::refused(t, UNREADABLE);
     }
     access::on_to(
         t.with_node(region::ancestor_at(leaf, hi)),
@@ -106,7 +106,7 @@ fn leaf_read(shape: Shape, t: Thread, leaf: u32, q: NodeCopy) -> Plan
         lo: 1,
         hi: t.depth,
     };
-    search_on(t, t.with_search(search).with_first(q))
+    search_on(t.with_search(search).with_first(q))
 }
 
 // I2
@@ -130,29 +130,33 @@ fn ancestor_read(t: Thread, middle: u32, q: NodeCopy) -> Plan
     let old = t.search;
     if access::item_le(t.item, access::value_of(q)) {
         let search = Search { hi: middle, ..old };
-        return search_on(t, t.with_search(search).with_first(q));
+        return search_on(t.with_search(search).with_first(q));
     }
     let search = Search {
         lo: middle + 1,
         ..old
     };
-    search_on(t, t.with_search(search).with_first(q))
+    search_on(t.with_search(search).with_first(q))
 }
 
-// The level in the middle of the search, 0 where there is none.
+// The level in the middle of the search.
 fn middle_level(t: Thread) -> u32
     ensures { λ r. ⌜ r ≡ middleLevel t ⌝ }
 {
     let lo = t.search.lo as usize;
     let hi = t.search.hi as usize;
-    if hi <= lo {
-        return 0;
-    }
     let middle = (lo + hi) / 2;
-    if (region::level_of(t.search.leaf) as usize) < middle {
-        return 0;
-    }
     middle as u32
+}
+
+// Whether the search goes on, with a level in its middle that the leaf has.
+fn has_middle(t: Thread) -> bool
+    ensures { λ r. ⌜ r ≡ hasMiddle t ⌝ }
+{
+    if t.search.hi <= t.search.lo {
+        return false;
+    }
+    region::is_between(1, middle_level(t), region::level_of(t.search.leaf))
 }
 
 // I3
@@ -160,10 +164,10 @@ pub fn read_ancestor(f: Frame, b: &[u8], t: Thread) -> Plan
     requires { ⌜ Within f (length (now b)) ⌝ }
     ensures { λ r. ⌜ r ≡ readAncestor (sharedIn f (now (b .entry))) t ⌝ }
 {
-    let middle = middle_level(t);
-    if middle == 0 {
+    if !has_middle(t) {
         return access::refused(t, UNREADABLE);
     }
+    let middle = middle_level(t);
     let node = region::ancestor_at(t.search.leaf, middle);
     ancestor_read(t, middle, access::read_node(f, b, node))
 }

@@ -2,12 +2,12 @@
 -- is idle where the operation ends. Assumes nothing.
 use Prim.Native.Nat.{ℕ}
 use mathlib.Core.Path.{_≡_, refl, sym, subst, _∙_}
-use mathlib.Core.Bool.{Bool, true, false, not, _&&_, true≢false}
+use mathlib.Core.Bool.{Bool, true, false, _&&_, true≢false}
 use lib.Dec.{eqb}
 use Rattle.region.specs.Inner.{Within}
 use Rattle.region.specs.Pick.{pick}
 use Rattle.region.specs.Shared.{Shared}
-use Rattle.region.specs.Thread.{goneIdle, returned, withDepth}
+use Rattle.region.specs.Thread.{goneIdle, returned, returnAnswer, withDepth}
 use Rattle.region.specs.declared.answer.Answer.{Answer}
 use Rattle.region.specs.declared.answer.Answer.the-variants.{Moved, Took, Refused}
 use Rattle.region.specs.declared.frame.Frame.{Frame}
@@ -20,7 +20,7 @@ use Rattle.access.specs.declared.effect.Effect.the-variants.{Nothing, Clean}
 use Rattle.access.specs.declared.plan.Plan.{Plan}
 use Rattle.insert.specs.Insert.{ancestorRead, growDepth, insertAt, insertAtRoot, insertBelow, leafFailed, leafRead, readAncestor, readDepth, readLeaf, readParent, readTarget, searchOn}
 use Rattle.extract.specs.Extract.{headRemoved, readRoot, removeHead, rootRead}
-use Rattle.moundify.specs.Moundify.{childrenRead, cleanAt, depthRead, exchangeAt, exchangeWith, mendClean, mendSwap, mendReadDepth, mendReadLeft, mendReadNode, mendReadRight, returnAnswer, returning}
+use Rattle.moundify.specs.Moundify.{childrenRead, cleanAt, depthRead, exchangeAt, exchangeWith, mendClean, mendSwap, mendReadDepth, mendReadLeft, mendReadNode, mendReadRight, returning}
 use Rattle.machine.specs.Turn.{ends}
 use Rattle.machine.specs.Inner.{EndAsked, IdleAtEnd}
 
@@ -51,12 +51,12 @@ or false h g = g
 
 back : {k : ℕ} (e : Effect) (t : Thread) (w : ℕ) → Only k e → Ends k (returning e t w)
 unfolding returning returnAnswer returned plan pick goneIdle
-back e t w h = record { only = h; idle = go (eqb w 0) (eqb (t .after) 0) _ _ }
+back e t w h = record { only = h; idle = go (eqb w 0) (eqb (t .after) 1) _ _ }
   where
     go : (p q : Bool) (x y : Thread)
-        → IdleAtEnd (pick (p && not q) (Took (t .result)) Moved) (pick p (pick q x (goneIdle t)) y)
-    go true true x y e = absurd (true≢false (sym e))
-    go true false x y e = refl
+        → IdleAtEnd (pick (p && q) (Took (t .result)) Moved) (pick p (pick q (goneIdle t) x) y)
+    go true true x y e = refl
+    go true false x y e = absurd (true≢false (sym e))
     go false q x y e = absurd (true≢false (sym e))
 
 module _ (f : Frame) (l : ℕ) (within : Within f l) (m : Shared) (t : Thread) (p : Plan) where
@@ -79,7 +79,7 @@ module _ (f : Frame) (l : ℕ) (within : Within f l) (m : Shared) (t : Thread) (
 
   pub keeps-read-ancestor : p ≡ readAncestor m t → EndAsked f l 0 p
   unfolding readAncestor ancestorRead searchOn plan moved onTo refused
-  keeps-read-ancestor e = asked e (or _ stops (or _ goes (or _ goes stops)))
+  keeps-read-ancestor e = asked e (or _ (or _ goes (or _ goes stops)) stops)
 
   pub keeps-read-target : p ≡ readTarget m t → EndAsked f l 0 p
   unfolding readTarget plan moved onTo refused
@@ -100,7 +100,8 @@ module _ (f : Frame) (l : ℕ) (within : Within f l) (m : Shared) (t : Thread) (
 
     pub keeps-mend-read-depth : p ≡ mendReadDepth m t w → EndAsked f l 0 p
     unfolding mendReadDepth depthRead plan moved onTo refused
-    keeps-mend-read-depth e = asked e (or _ stops (or _ (or _ goes goes) (back Nothing (withDepth t (m .depth)) w tt)))
+    keeps-mend-read-depth e =
+        asked e (or _ (or _ stops (or _ goes goes)) (back Nothing (withDepth t (m .depth)) w tt))
 
     pub keeps-mend-read-left : (s : Shape) → p ≡ mendReadLeft s m t w → EndAsked f l 0 p
     unfolding mendReadLeft plan moved onTo refused
@@ -126,7 +127,7 @@ module _ (f : Frame) (l : ℕ) (within : Within f l) (m : Shared) (t : Thread) (
 
   pub pops : p ≡ removeHead m t → EndAsked f l 3 p
   unfolding removeHead headRemoved plan moved onTo refused
-  pops e = asked e (or _ stops (or _ (or _ stops (on refl refl)) goes))
+  pops e = asked e (or _ (or _ stops (or _ stops (on refl refl))) goes)
 
   module _ (w : ℕ) where
     pub exchanges : (s : Shape) → p ≡ mendSwap s m t w → EndAsked f l 4 p

@@ -13,9 +13,9 @@ use Rattle.region.specs.Level.{level, mark}
 use Rattle.region.specs.Pick.{pick}
 use Rattle.region.specs.Shape.{nodeCount}
 use Rattle.region.specs.Shared.{Shared, sharedIn, nodeIn}
-use Rattle.region.specs.Thread.{mending, returned, withDepth, withFirst, withSecond, withThird}
+use Rattle.region.specs.Thread.{mending, returned, returnAnswer, withDepth, withFirst, withSecond, withThird}
 use Rattle.region.specs.declared.answer.Answer.{Answer}
-use Rattle.region.specs.declared.answer.Answer.the-variants.{Moved, Took}
+use Rattle.region.specs.declared.answer.Answer.the-variants.{Moved}
 use Rattle.region.specs.declared.frame.Frame.{Frame}
 use Rattle.region.specs.declared.place.Place.the-variants.{MendReadNode, MendReadDepth, MendReadLeft, MendReadRight, MendSwap, MendClean}
 use Rattle.region.specs.declared.record.Item.{Item}
@@ -31,28 +31,14 @@ use Rattle.access.specs.Read.{isDirty, isNode, isSpent, readNode, sameNode, upd
 use Rattle.access.specs.declared.effect.Effect.{Effect}
 use Rattle.access.specs.declared.effect.Effect.the-variants.{Nothing, Exchange, Clean}
 use Rattle.access.specs.declared.plan.Plan.{Plan}
-use Rattle.moundify.specs.Moundify.{nodeAndChildSame, childLess, childrenRead, cleanAt, depthRead, exchangeAt, exchangeWith, marked, mendClean, mendReadDepth, mendReadLeft, mendReadNode, mendReadRight, mendSwap, returnAnswer, returning}
+use Rattle.moundify.specs.Moundify.{nodeAndChildSame, childLess, childrenRead, cleanAt, depthRead, exchangeAt, exchangeWith, marked, mendClean, mendReadDepth, mendReadLeft, mendReadNode, mendReadRight, mendSwap, returning}
 use Rattle.moundify.specs.Inner.{ChildrenAsked}
 
 -- The return.
-module _ (t : Thread) (w : ℕ) where
-  pub others-wait : (w ≡ 0 → ⊥) → Moved ≡ returnAnswer t w
-  unfolding returnAnswer pick
-  others-wait n = rw (ne-eqb w 0 n) refl
-
-  module _ (e : w ≡ 0) where
-    pub back-to-root : t .after ≡ 0 → Moved ≡ returnAnswer t w
-    unfolding returnAnswer pick
-    back-to-root a = rw (eq-eqb w 0 e, eq-eqb (t .after) 0 a) refl
-
-    pub answered : (t .after ≡ 0 → ⊥) → Took (t .result) ≡ returnAnswer t w
-    unfolding returnAnswer pick
-    answered n = rw (eq-eqb w 0 e, ne-eqb (t .after) 0 n) refl
-
-  pub returns-so : (x : Effect) (u : Thread) (a : Answer) (r : Plan) → u ≡ returned t w → a ≡ returnAnswer t w → r ≡ plan x u a
-      → r ≡ returning x t w
-  unfolding returning
-  returns-so x u a r eu ea er = er ∙ (λ i. plan x (eu i) (ea i))
+pub returns-so : (t : Thread) (w : ℕ) (x : Effect) (u : Thread) (a : Answer) (r : Plan) → u ≡ returned t w → a ≡ returnAnswer t w
+    → r ≡ plan x u a → r ≡ returning x t w
+unfolding returning
+returns-so t w x u a r eu ea er = er ∙ (λ i. plan x (eu i) (ea i))
 
 -- M1.
 module _ (m : Shared) (t : Thread) (w : ℕ) (r : Plan) where
@@ -72,23 +58,30 @@ module _ (t u : Thread) (d w : ℕ) (eu : u ≡ withDepth t d) (q : Bool) (eq : 
   unfolding depthRead pick
   clean-already h er = rw (← eq, not-true q h) (er ∙ ap (λ y. returning Nothing y w) eu)
 
-  module _ (h : not q ≡ false) (l : ℕ) (el : l ≡ level (t .node)) where
-    pub at-last-level : l ≡ d → r ≡ onTo u (MendClean w) → r ≡ depthRead t d w
+  module _ (h : not q ≡ false) where
+    pub dirty-without-node : t .node ≡ 0 → r ≡ refused t unreadable → r ≡ depthRead t d w
     unfolding depthRead pick
-    at-last-level e er = rw (← eq, not-false q h, ← el, eq-eqb l d e) (er ∙ ap (λ y. onTo y (MendClean w)) eu)
+    dirty-without-node z er = rw (← eq, not-false q h, eq-eqb (t .node) 0 z) er
 
-    pub above-last-level : (l ≡ d → ⊥) → r ≡ onTo u (MendReadLeft w) → r ≡ depthRead t d w
-    unfolding depthRead pick
-    above-last-level n er = rw (← eq, not-false q h, ← el, ne-eqb l d n) (er ∙ ap (λ y. onTo y (MendReadLeft w)) eu)
+    module _ (nz : t .node ≡ 0 → ⊥) (l : ℕ) (el : l ≡ level (t .node)) where
+      pub at-last-level : l ≡ d → r ≡ onTo u (MendClean w) → r ≡ depthRead t d w
+      unfolding depthRead pick
+      at-last-level e er =
+          rw
+          (← eq, not-false q h, ne-eqb (t .node) 0 nz, ← el, eq-eqb l d e)
+          (er ∙ ap (λ y. onTo y (MendClean w)) eu)
 
-module _ (f : Frame) (b : List ℕ) (t : Thread) (w : ℕ) (r : Plan) where
-  pub depth-without-node : t .node ≡ 0 → r ≡ refused t unreadable → r ≡ mendReadDepth (sharedIn f b) t w
-  unfolding mendReadDepth pick
-  depth-without-node z er = rw (eq-eqb (t .node) 0 z) er
+      pub above-last-level : (l ≡ d → ⊥) → r ≡ onTo u (MendReadLeft w) → r ≡ depthRead t d w
+      unfolding depthRead pick
+      above-last-level n er =
+          rw
+          (← eq, not-false q h, ne-eqb (t .node) 0 nz, ← el, ne-eqb l d n)
+          (er ∙ ap (λ y. onTo y (MendReadLeft w)) eu)
 
-  pub depth-seen : (t .node ≡ 0 → ⊥) → (d : ℕ) → d ≡ word b (f .depth) → r ≡ depthRead t d w → r ≡ mendReadDepth (sharedIn f b) t w
-  unfolding mendReadDepth sharedIn pick
-  depth-seen n d ed er = rw (ne-eqb (t .node) 0 n) (er ∙ ap (λ x. depthRead t x w) ed)
+pub depth-seen : (f : Frame) (b : List ℕ) (t : Thread) (w : ℕ) (r : Plan) (d : ℕ) → d ≡ word b (f .depth) → r ≡ depthRead t d w
+    → r ≡ mendReadDepth (sharedIn f b) t w
+unfolding mendReadDepth sharedIn
+depth-seen f b t w r d ed er = er ∙ ap (λ x. depthRead t x w) ed
 
 -- M3.
 pub node-fits : (f : Frame) (l : ℕ) → Within f l → (n : ℕ) (q : Bool) → q ≡ isNode (f .shape) n → not q ≡ false → n < 2 ^ 32

@@ -7,9 +7,8 @@ use Rattle.region.specs.Answer.{unreadable, counterSpent}
 use Rattle.region.specs.Level.{level, mark}
 use Rattle.region.specs.Pick.{pick}
 use Rattle.region.specs.Shared.{Shared}
-use Rattle.region.specs.Thread.{mending, returned, withDepth, withFirst, withSecond, withThird}
-use Rattle.region.specs.declared.answer.Answer.{Answer}
-use Rattle.region.specs.declared.answer.Answer.the-variants.{Moved, Took}
+use Rattle.region.specs.Thread.{mending, returned, returnAnswer, withDepth, withFirst, withSecond, withThird}
+use Rattle.region.specs.declared.answer.Answer.the-variants.{Moved}
 use Rattle.region.specs.declared.place.Place.the-variants.{MendReadNode, MendReadDepth, MendReadLeft, MendReadRight, MendSwap, MendClean}
 use Rattle.region.specs.declared.record.Node.{Node}
 use Rattle.region.specs.declared.shape.Shape.{Shape}
@@ -21,34 +20,34 @@ use Rattle.access.specs.declared.effect.Effect.{Effect}
 use Rattle.access.specs.declared.effect.Effect.the-variants.{Nothing, Exchange, Clean}
 use Rattle.access.specs.declared.plan.Plan.{Plan}
 
--- "Return: .. if none waits, by after": what the turn that returns answers
-unfoldable pub returnAnswer : Thread → ℕ → Answer
-returnAnswer t w = pick (eqb w 0 && not (eqb (t .after) 0)) (Took (t .result)) Moved
-
+-- "Return", after an effect: the record afterwards and the answer
 unfoldable pub returning : Effect → Thread → ℕ → Plan
-unfolding returnAnswer
 returning e t w = plan e (returned t w) (returnAnswer t w)
 
--- M1 "READ n." (line 33); node 0 is refused 7, here and below
+-- M1 "READ n." (line 33); node 0 is refused 7
 unfoldable pub mendReadNode : Shared → Thread → ℕ → Plan
 mendReadNode m t w =
     pick (eqb (t .node) 0) (refused t unreadable) (onTo (withFirst t (readNode m (t .node))) (MendReadDepth w))
 
--- "clean returns; level d goes to M6; else M3" (lines 35 and 36)
+-- "clean returns; level d goes to M6; else M3" (lines 35 and 36). A clean copy returns whatever the node; only a dirty one asks for the
+-- node's level, and node 0 has none: refused 7
 unfoldable pub depthRead : Thread → ℕ → ℕ → Plan
 unfolding returning
 depthRead t d w =
     pick
     (isDirty (t .copies .first .node))
-    (pick (eqb (level (t .node)) d) (onTo (withDepth t d) (MendClean w)) (onTo (withDepth t d) (MendReadLeft w)))
+    (pick
+    (eqb (t .node) 0)
+    (refused t unreadable)
+    (pick (eqb (level (t .node)) d) (onTo (withDepth t d) (MendClean w)) (onTo (withDepth t d) (MendReadLeft w))))
     (returning Nothing (withDepth t d) w)
 
--- M2 "READ depth into d" (line 34)
+-- M2 "READ depth into d" (line 34): its access names no node
 unfoldable pub mendReadDepth : Shared → Thread → ℕ → Plan
 unfolding depthRead
-mendReadDepth m t w = pick (eqb (t .node) 0) (refused t unreadable) (depthRead t (m .depth) w)
+mendReadDepth m t w = depthRead t (m .depth) w
 
--- M3 "READ 2n." (line 37); a child not in the tree is refused 7, here and below
+-- M3 "READ 2n." (line 37); node 0 and a child not in the tree are refused 7, here and below
 unfoldable pub mendReadLeft : Shape → Shared → Thread → ℕ → Plan
 mendReadLeft s m t w =
     pick

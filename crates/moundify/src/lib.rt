@@ -5,7 +5,7 @@ ghost use lib.ListN.{length};
 ghost use Rattle.region.specs.Inner.{Within};
 ghost use Rattle.region.specs.Pick.{pick};
 ghost use Rattle.region.specs.Shared.{sharedIn};
-ghost use Rattle.moundify.specs.Moundify.{nodeAndChildSame, childLess, childrenRead, cleanAt, depthRead, exchangeAt, exchangeWith, marked, mendClean, mendReadDepth, mendReadLeft, mendReadNode, mendReadRight, mendSwap, returnAnswer, returning};
+ghost use Rattle.moundify.specs.Moundify.{nodeAndChildSame, childLess, childrenRead, cleanAt, depthRead, exchangeAt, exchangeWith, marked, mendClean, mendReadDepth, mendReadLeft, mendReadNode, mendReadRight, mendSwap, returning};
 ghost use Rattle.moundify.specs.Inner.{ChildrenAsked};
 use access::Effect;
 use access::Plan;
@@ -17,25 +17,11 @@ use region::Place;
 use region::Thread;
 use region::UNREADABLE;
 
-// What the turn that returns from mending answers.
-fn return_answer(t: Thread, w: u32) -> Answer
-    ensures { λ r. ⌜ r ≡ returnAnswer t w ⌝ }
-{
-    if w != 0 {
-        return Answer::Moved;
-    }
-    if t.after == 0 {
-        return Answer::Moved;
-    }
-    let result = t.result;
-    Answer::Took(result)
-}
-
 // The return from mending, after an effect.
 fn returning(effect: Effect, t: Thread, w: u32) -> Plan
     ensures { λ r. ⌜ r ≡ returning effect t w ⌝ }
 {
-    access::plan_of(effect, t.returned(w), return_answer(t, w))
+    access::plan_of(effect, t.returned(w), t.return_answer(w))
 }
 
 // M1
@@ -50,13 +36,16 @@ pub fn mend_read_node(f: Frame, b: &[u8], t: Thread, w: u32) -> Plan
     access::on_to(t.with_first(q), Place::MendReadDepth(w))
 }
 
-// The depth was read: the node is clean, at the tree's last level, or above it.
+// The depth was read: the copy is clean, whatever the node, or its node is at the tree's last level, or above it.
 fn depth_read(t: Thread, d: u32, w: u32) -> Plan
     ensures { λ r. ⌜ r ≡ depthRead t d w ⌝ }
 {
     let kept = t.with_depth(d);
     if !access::is_dirty(t.copies.first.node) {
         return returning(Effect::Nothing, kept, w);
+    }
+    if t.node == 0 {
+        return access::refused(t, UNREADABLE);
     }
     if region::level_of(t.node) == d {
         return access::on_to(kept, Place::MendClean(w));
@@ -69,9 +58,6 @@ pub fn mend_read_depth(f: Frame, b: &[u8], t: Thread, w: u32) -> Plan
     requires { ⌜ Within f (length (now b)) ⌝ }
     ensures { λ r. ⌜ r ≡ mendReadDepth (sharedIn f (now (b .entry))) t w ⌝ }
 {
-    if t.node == 0 {
-        return access::refused(t, UNREADABLE);
-    }
     depth_read(t, f.load_depth(b), w)
 }
 

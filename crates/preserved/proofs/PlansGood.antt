@@ -5,7 +5,7 @@ use native.Mathlib.Omega.{arith}
 use mathlib.Core.Path.{_≡_, refl, sym, subst}
 use mathlib.Core.Bool.{Bool, true, false, not, _&&_, _||_, true≢false}
 use borrow.Author.Tests.{ltb-true, ltb-false, eqb-false, not-true}
-use lib.Dec.{leb, ltb, eqb}
+use lib.Dec.{ltb, eqb}
 use lib.Pow.{pow-mono, pow-pos}
 use Rattle.region.specs.Answer.{unreadable, counterSpent}
 use Rattle.region.specs.Level.{ancestor, level}
@@ -13,7 +13,7 @@ use Rattle.region.specs.Pick.{pick}
 use Rattle.region.specs.Shape.{between, nodeCount}
 use Rattle.region.specs.Inner.{InRange}
 use Rattle.region.specs.Shared.{Shared}
-use Rattle.region.specs.Thread.{goneIdle, mending, returned, atPlace, withItem, withOwn, withDepth, withSearch, withNode, withAfter, withResult, withFirst, withSecond, withThird}
+use Rattle.region.specs.Thread.{goneIdle, mending, returned, returnAnswer, atPlace, withItem, withOwn, withDepth, withSearch, withNode, withAfter, withResult, withFirst, withSecond, withThird}
 use Rattle.region.specs.declared.answer.Answer.{Answer}
 use Rattle.region.specs.declared.answer.Answer.the-variants.{Moved}
 use Rattle.region.specs.declared.place.Place.{Place}
@@ -32,9 +32,9 @@ use Rattle.access.specs.Read.{isDirty, isLevel, isNode, isSpent, readNode, same
 use Rattle.access.specs.declared.effect.Effect.{Effect}
 use Rattle.access.specs.declared.effect.Effect.the-variants.{Nothing, Grow, Push, Pop, Exchange, Clean}
 use Rattle.access.specs.declared.plan.Plan.{Plan}
-use Rattle.insert.specs.Insert.{searching, readDepth, searchOn, leafOf, nextTries, failedPlace, leafFailed, leafRead, readLeaf, ancestorRead, middleLevel, readAncestor, growDepth, targetPlace, readTarget, insertAt, insertAtRoot, readParent, insertBelow}
+use Rattle.insert.specs.Insert.{searching, readDepth, searchOn, leafOf, nextTries, failedPlace, leafFailed, leafRead, readLeaf, ancestorRead, middleLevel, hasMiddle, readAncestor, growDepth, targetPlace, readTarget, insertAt, insertAtRoot, readParent, insertBelow}
 use Rattle.extract.specs.Extract.{rootRead, readRoot, headRemoved, removeHead}
-use Rattle.moundify.specs.Moundify.{returnAnswer, returning, mendReadNode, depthRead, mendReadDepth, mendReadLeft, marked, childLess, childrenRead, mendReadRight, exchangeAt, nodeAndChildSame, exchangeWith, mendSwap, cleanAt, mendClean}
+use Rattle.moundify.specs.Moundify.{returning, mendReadNode, depthRead, mendReadDepth, mendReadLeft, marked, childLess, childrenRead, mendReadRight, exchangeAt, nodeAndChildSame, exchangeWith, mendSwap, cleanAt, mendClean}
 use Rattle.readable.proofs.Stores.{NodeGood, CopyGood, FieldsGood, WaitsAbove, PlaceGood, ThreadGood, SharedGood, idle-good}
 use Rattle.preserved.proofs.TreeLevels.{twice, waits-at-child, waits-marked, waits-returned}
 
@@ -193,18 +193,30 @@ module _ (s : Shape) (r : InRange s) (m : Shared) (sm : SharedGood s m) where
         ReadLeaf
         (omega (arith, r .threshold-least))
 
-    -- the search goes on from a record u in range
+    -- the search goes on from a record in range: what it puts anew leaves the place as it was
     ancestor-few : (n j : ℕ) → n ≤ nodeCount s → ancestor n j ≤ nodeCount s
     unfolding ancestor
     ancestor-few n j h = omega (arith, h, div-le-self n (2 ^ (level n - j)))
 
-    pub searchOn-good : (u : Thread) → FieldsGood s u → PlanGood s (searchOn t u)
+    searched-good : (leaf lo hi : ℕ) → leaf ≤ nodeCount s → lo ≤ s .depth → hi ≤ s .depth → (q : NodeCopy) → CopyGood (s .cells) q
+        → ThreadGood s (withFirst (withSearch t (searching leaf (t .search .tries) lo hi)) q)
+    unfolding withFirst withSearch
+    searched-good leaf lo hi hl hlo hhi q hq =
+        let x = searching leaf (t .search .tries) lo hi in
+        let u = withFirst (withSearch t x) q in
+        record {
+          fields = fields-first s (withSearch t x) (fields-search s t g x hl (g .tries) hlo hhi) q hq;
+          place = place-same s t u (t .place) refl refl (gt .place);
+        }
+
+    pub searchOn-good : (u : Thread) → ThreadGood s u → PlanGood s (searchOn u)
     unfolding searchOn
     searchOn-good u gu =
-        pick-good (PlanGood s) (ltb (u .search .lo) (u .search .hi)) (λ h. onTo-good s u gu ReadAncestor tt)
+        let f = gu .fields in
+        pick-good (PlanGood s) (ltb (u .search .lo) (u .search .hi)) (λ h. onTo-good s u f ReadAncestor tt)
         (λ h. pick-good (PlanGood s) (between 1 (u .search .hi) (level (u .search .leaf)))
-        (λ k. onTo-good s _ (fields-node s u gu _ (ancestor-few (u .search .leaf) (u .search .hi) (gu .leaf))) ReadTarget tt)
-        (λ k. refused-good s t gt unreadable))
+        (λ k. onTo-good s _ (fields-node s u f _ (ancestor-few (u .search .leaf) (u .search .hi) (f .leaf))) ReadTarget tt)
+        (λ k. refused-good s u gu unreadable))
 
     -- I2
     leaf-few : (d c : ℕ) → isLevel s d ≡ true → leafOf d c ≤ nodeCount s
@@ -229,10 +241,7 @@ module _ (s : Shape) (r : InRange s) (m : Shared) (sm : SharedGood s m) where
     unfolding leafRead
     leafRead-good leaf hl q hq =
         pick-good (PlanGood s) (itemLe (t .item) (valueOf q))
-        (λ h. searchOn-good _
-        (fields-first s _
-        (fields-search s t g (searching leaf (t .search .tries) 1 (t .depth)) hl (g .tries) (r .depth-least) (g .depth))
-        q hq))
+        (λ h. searchOn-good _ (searched-good leaf 1 (t .depth) hl (r .depth-least) (g .depth) q hq))
         (λ h. leafFailed-good leaf hl q hq)
 
     pub readLeaf-good : (c : ℕ) → PlanGood s (readLeaf s m t c)
@@ -243,34 +252,25 @@ module _ (s : Shape) (r : InRange s) (m : Shared) (sm : SharedGood s m) where
         (λ h. refused-good s t gt unreadable)
 
     -- I3: the middle lies below hi
-    middle-few : (middleLevel t ≡ 0 → ⊥) → middleLevel t + 1 ≤ s .depth
-    unfolding middleLevel pick
-    middle-few n = go (ltb (t .search .lo) (t .search .hi)) (leb ((t .search .lo + t .search .hi) / 2) (level (t .search .leaf))) refl n
-      where
-        go : (q p : Bool) → ltb (t .search .lo) (t .search .hi) ≡ q
-            → (pick q (pick p ((t .search .lo + t .search .hi) / 2) 0) 0 ≡ 0 → ⊥)
-            → pick q (pick p ((t .search .lo + t .search .hi) / 2) 0) 0 + 1 ≤ s .depth
-        go true true e k = omega (arith, ltb-true (t .search .lo) (t .search .hi) e, g .hi)
-        go true false e k = absurd (k refl)
-        go false p e k = absurd (k refl)
+    middle-few : hasMiddle t ≡ true → middleLevel t + 1 ≤ s .depth
+    unfolding hasMiddle middleLevel
+    middle-few h =
+        let below = ltb-true (t .search .lo) (t .search .hi) (and-left (ltb (t .search .lo) (t .search .hi)) _ h) in
+        omega (arith, below, g .hi)
 
     pub ancestorRead-good : (j : ℕ) → j + 1 ≤ s .depth → (q : NodeCopy) → CopyGood (s .cells) q → PlanGood s (ancestorRead t j q)
     unfolding ancestorRead
     ancestorRead-good j hj q hq =
-        let x = searching (t .search .leaf) (t .search .tries) (t .search .lo) j in
-        let y = searching (t .search .leaf) (t .search .tries) (j + 1) (t .search .hi) in
         searchOn-good _
-        (fields-first s _
-        (pick-good (λ z. FieldsGood s (withSearch t z)) (itemLe (t .item) (valueOf q))
-        (λ h. fields-search s t g x (g .leaf) (g .tries) (g .lo) (omega arith))
-        (λ h. fields-search s t g y (g .leaf) (g .tries) hj (g .hi)))
-        q hq)
+        (pick-good (λ z. ThreadGood s (withFirst (withSearch t z) q)) (itemLe (t .item) (valueOf q))
+        (λ h. searched-good (t .search .leaf) (t .search .lo) j (g .leaf) (g .lo) (omega arith) q hq)
+        (λ h. searched-good (t .search .leaf) (j + 1) (t .search .hi) (g .leaf) hj (g .hi) q hq))
 
     pub readAncestor-good : PlanGood s (readAncestor m t)
     unfolding readAncestor
     readAncestor-good =
-        pick-good (PlanGood s) (eqb (middleLevel t) 0) (λ h. refused-good s t gt unreadable)
-        (λ h. ancestorRead-good (middleLevel t) (middle-few (eqb-false (middleLevel t) 0 h)) _ (read-good _))
+        pick-good (PlanGood s) (hasMiddle t) (λ h. ancestorRead-good (middleLevel t) (middle-few h) _ (read-good _))
+        (λ h. refused-good s t gt unreadable)
 
     -- I4
     pub growDepth-good : PlanGood s (growDepth s m t)
@@ -351,14 +351,14 @@ module _ (s : Shape) (r : InRange s) (m : Shared) (sm : SharedGood s m) where
     removeHead-good =
         let q = t .copies .first in
         let f = fields-result s t g (q .head .item) (g .first .head .key) (g .first .head .tag) in
-        pick-good (PlanGood s) (eqb (q .node .first) 0) (λ h. refused-good s t gt unreadable)
-        (λ h. pick-good (PlanGood s) (sameNode (m .node 1) (q .node))
-        (λ k. pick-good (PlanGood s) (isSpent (q .node)) (λ e. refused-good s t gt counterSpent)
+        pick-good (PlanGood s) (sameNode (m .node 1) (q .node))
+        (λ k. pick-good (PlanGood s) (eqb (q .node .first) 0) (λ h. refused-good s t gt unreadable)
+        (λ h. pick-good (PlanGood s) (isSpent (q .node)) (λ e. refused-good s t gt counterSpent)
         (λ e. let ne = eqb-false (q .node .first) 0 h in
         plan-good s (Pop (updated (q .node) (q .head .next) 1) (q .node .first)) _ Moved
         ((omega arith, g .first .node .first), updated-good (q .node) (q .head .next) 1 (g .first .node) e (g .first .head .next) (omega arith))
-        (mending-good s _ (fields-after s _ f 1 (omega arith)) 1 0 some-nodes (omega arith))))
-        (λ k. onTo-good s t g ReadRoot tt))
+        (mending-good s _ (fields-after s _ f 1 (omega arith)) 1 0 some-nodes (omega arith)))))
+        (λ k. onTo-good s t g ReadRoot tt)
 
     -- Mending, with the waiting levels w above the node's.
     module _ (w : ℕ) (hw : WaitsAbove (t .node) w) where
@@ -369,7 +369,7 @@ module _ (s : Shape) (r : InRange s) (m : Shared) (sm : SharedGood s m) where
       unfolding returned
       returned-good u gu en =
           pick-good (ThreadGood s) (eqb w 0)
-          (λ h. pick-good (ThreadGood s) (eqb (u .after) 0) (λ k. at-good s u gu ReadRoot tt) (λ k. gone-good s u gu))
+          (λ h. pick-good (ThreadGood s) (eqb (u .after) 1) (λ k. gone-good s u gu) (λ k. at-good s u gu ReadRoot tt))
           (λ h. mending-good s u gu _ _ (ancestor-few (u .node) (level w) (gu .node))
           (waits-returned (u .node) w (omega (arith, gu .node, few-nodes)) (eqb-false w 0 h) (subst (λ n. WaitsAbove n w) (sym en) hw)))
 
@@ -392,11 +392,11 @@ module _ (s : Shape) (r : InRange s) (m : Shared) (sm : SharedGood s m) where
       mendReadDepth-good =
           let u = withDepth t (m .depth) in
           let f = fields-depth s t g (m .depth) (sm .depth-most) in
-          pick-good (PlanGood s) (eqb (t .node) 0) (λ h. refused-good s t gt unreadable)
-          (λ h. pick-good (PlanGood s) (isDirty (t .copies .first .node))
-          (λ k. pick-good (PlanGood s) (eqb (level (t .node)) (m .depth)) (λ e. onTo-good s u f (MendClean w) hw)
-          (λ e. onTo-good s u f (MendReadLeft w) hw))
-          (λ k. returning-good Nothing tt u f refl))
+          pick-good (PlanGood s) (isDirty (t .copies .first .node))
+          (λ k. pick-good (PlanGood s) (eqb (t .node) 0) (λ h. refused-good s t gt unreadable)
+          (λ h. pick-good (PlanGood s) (eqb (level (t .node)) (m .depth)) (λ e. onTo-good s u f (MendClean w) hw)
+          (λ e. onTo-good s u f (MendReadLeft w) hw)))
+          (λ k. returning-good Nothing tt u f refl)
 
       -- M3
       pub mendReadLeft-good : PlanGood s (mendReadLeft s m t w)

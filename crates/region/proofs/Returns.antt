@@ -1,23 +1,24 @@
--- The ways out of the return from mending, over plain variables. Assumes nothing.
+-- The ways out of the return from mending, over plain variables: the record afterwards, and the answer. Assumes nothing.
 use Prim.Native.Nat.{ℕ, _-_, _≤_, _<_, _^_}
 use native.Mathlib.Omega.{arith}
-use mathlib.Core.Path.{_≡_, ap, _∙_}
+use mathlib.Core.Path.{_≡_, refl, ap, _∙_}
 use borrow.Author.Tests.{eq-eqb, ne-eqb}
 use Rattle.region.specs.Level.{ancestor, level, mark}
 use Rattle.region.specs.Pick.{pick}
-use Rattle.region.specs.Thread.{atPlace, goneIdle, mending, returned}
+use Rattle.region.specs.Thread.{atPlace, goneIdle, mending, returned, returnAnswer}
+use Rattle.region.specs.declared.answer.Answer.the-variants.{Moved, Took}
 use Rattle.region.specs.declared.place.Place.the-variants.{ReadRoot}
 use Rattle.region.specs.declared.thread.Thread.{Thread}
 use Rattle.region.proofs.Levels.{level-holds, level-most}
 
 module _ (t r : Thread) (w : ℕ) where
-  pub back-to-root : w ≡ 0 → t .after ≡ 0 → r ≡ atPlace t ReadRoot → r ≡ returned t w
+  pub goes-idle : w ≡ 0 → t .after ≡ 1 → r ≡ goneIdle t → r ≡ returned t w
   unfolding returned pick
-  back-to-root ew ea e = rw (eq-eqb w 0 ew, eq-eqb (t .after) 0 ea) e
+  goes-idle ew ea e = rw (eq-eqb w 0 ew, eq-eqb (t .after) 1 ea) e
 
-  pub answered : w ≡ 0 → (t .after ≡ 0 → ⊥) → r ≡ goneIdle t → r ≡ returned t w
+  pub back-to-root : w ≡ 0 → (t .after ≡ 1 → ⊥) → r ≡ atPlace t ReadRoot → r ≡ returned t w
   unfolding returned pick
-  answered ew na e = rw (eq-eqb w 0 ew, ne-eqb (t .after) 0 na) e
+  back-to-root ew na e = rw (eq-eqb w 0 ew, ne-eqb (t .after) 1 na) e
 
   module _ (nw : w ≡ 0 → ⊥) (fits : w < 2 ^ 32) (l : ℕ) (el : l ≡ level w) where
     pub some-level : 1 ≤ l
@@ -37,3 +38,16 @@ module _ (t r : Thread) (w : ℕ) where
         rw
         (ne-eqb w 0 nw)
         (e ∙ (λ i. mending t ((ea ∙ ap (ancestor (t .node)) el) i) (w - (em ∙ ap mark el) i)))
+
+module _ (t : Thread) (w : ℕ) where
+  pub others-wait : (w ≡ 0 → ⊥) → Moved ≡ returnAnswer t w
+  unfolding returnAnswer pick
+  others-wait n = rw (ne-eqb w 0 n) refl
+
+  pub moves-back : w ≡ 0 → (t .after ≡ 1 → ⊥) → Moved ≡ returnAnswer t w
+  unfolding returnAnswer pick
+  moves-back e n = rw (eq-eqb w 0 e, ne-eqb (t .after) 1 n) refl
+
+  pub answers-took : w ≡ 0 → t .after ≡ 1 → Took (t .result) ≡ returnAnswer t w
+  unfolding returnAnswer pick
+  answers-took e a = rw (eq-eqb w 0 e, eq-eqb (t .after) 1 a) refl

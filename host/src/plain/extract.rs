@@ -3,11 +3,11 @@
 use super::fields::{Field, Place, ROOT};
 use super::memory::{NodeCopy, Update};
 use super::record::Copied;
-use super::turn::{existing, Outcome, Turn};
-use crate::Answer;
+use super::turn::{Outcome, Turn};
+use crate::{Answer, Refusal};
 
 /// What follows the mending of the root: the take starts again, or it answers its result.
-pub(super) const AFTER_AGAIN: u32 = 0;
+const AFTER_AGAIN: u32 = 0;
 pub(super) const AFTER_ANSWER: u32 = 1;
 
 impl Turn<'_, '_> {
@@ -27,15 +27,18 @@ impl Turn<'_, '_> {
     }
 
     /// E2, lines 27 to 30: CAS the root to the rest of its list, dirty. The head that was copied is
-    /// the result, and its cell is free at once.
+    /// the result, and its cell is free at once. Only a success names that cell, so a copy without
+    /// one is refused only where the comparison holds.
     pub(super) fn pop_root(&mut self) -> Outcome {
         let NodeCopy { node, head } = self.thread.copy(Copied::First);
-        let head_cell = existing(node.first_cell)?;
+        if node.first_cell == 0 && self.memory.equals(ROOT, node)? {
+            return Err(Refusal::Unreadable);
+        }
         let pop = Update { at: ROOT, old: node, first_cell: head.next, dirty: true };
         if !self.memory.cas(&pop)? {
             return self.moved_to(Place::E1);
         }
-        self.memory.free_cell(head_cell);
+        self.memory.free_cell(node.first_cell);
         self.thread.set(Field::ResultKey, head.key);
         self.thread.set(Field::ResultTag, head.tag);
         self.thread.set(Field::After, AFTER_ANSWER);

@@ -167,7 +167,7 @@ impl Memory<'_> {
     }
 
     /// Whether a node equals its copy: cell, dirty and counter together.
-    fn equals(&self, at: u32, copied: Node) -> Result<bool, Refusal> {
+    pub fn equals(&self, at: u32, copied: Node) -> Result<bool, Refusal> {
         Ok(self.node(at)? == copied)
     }
 

@@ -1,7 +1,7 @@
 //! The places of mending, which Listing 1 calls moundify: lines 32 to 56, as document 01 corrects
 //! them.
 
-use super::extract::AFTER_AGAIN;
+use super::extract::AFTER_ANSWER;
 use super::fields::{Field, Place};
 use super::memory::Update;
 use super::record::Copied;
@@ -22,14 +22,16 @@ impl Turn<'_, '_> {
         self.moved_to(Place::M2)
     }
 
-    /// M2, lines 34 to 36: READ depth. A dirty leaf is cleaned, not left as it is.
+    /// M2, lines 34 to 36: READ depth. A dirty leaf is cleaned, not left as it is. Only a dirty copy
+    /// asks for the node's level, so a clean one returns whatever the node.
     pub(super) fn read_depth_mending(&mut self) -> Outcome {
-        let node = existing(self.thread.get(Field::Node))?;
         let d = self.memory.read_depth();
-        self.thread.set(Field::D, d);
         if !self.thread.copy(Copied::First).node.dirty {
+            self.thread.set(Field::D, d);
             return self.end_mending();
         }
+        let node = existing(self.thread.get(Field::Node))?;
+        self.thread.set(Field::D, d);
         self.moved_to(if level_of(node) == d { Place::M6 } else { Place::M3 })
     }
 
@@ -102,7 +104,7 @@ impl Turn<'_, '_> {
             let node = self.thread.get(Field::Node);
             return self.mend(node >> (node.ilog2() - deepest));
         }
-        if self.thread.get(Field::After) == AFTER_AGAIN {
+        if self.thread.get(Field::After) != AFTER_ANSWER {
             return self.moved_to(Place::E1);
         }
         let key = self.thread.get(Field::ResultKey);

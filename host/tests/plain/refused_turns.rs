@@ -4,7 +4,7 @@
 use mound::{plain, Answer, Refusal};
 
 use crate::fields::place::{E1, E2, I1, I2, I3, I4, I5, I6, I7, I8, IDLE, M1, M2, M3, M4, M5, M6};
-use crate::fields::{COPIES, D, HI, KEY, LEAF, LO, NODE, OWN_CELL, PLACE};
+use crate::fields::{AFTER, COPIES, D, HI, KEY, LEAF, LO, NODE, OWN_CELL, PLACE, RESULT_KEY};
 use crate::queue::{Queue, EMPTY};
 
 /// Thread 1 at a place with these fields; the root and node 2 hold keys 5 and 6.
@@ -57,9 +57,7 @@ fn a_node_a_cell_or_a_level_that_does_not_exist() {
         at(I8, &[(NODE, 2), (OWN_CELL, 0)]),
         at(I8, &[(NODE, 0)]),
         at(I8, &[(NODE, 1)]),
-        at(E2, &[(COPIES[0], 0)]),
         at(M1, &[(NODE, 0)]),
-        at(M2, &[(NODE, 0)]),
         at(M6, &[(NODE, 0)]),
         at(M3, &[(NODE, 0)]),
         at(M3, &[(NODE, 4)]),
@@ -68,7 +66,31 @@ fn a_node_a_cell_or_a_level_that_does_not_exist() {
         at(M5, &[(NODE, 0)]),
         at(M5, &[(NODE, 4)]),
     ];
-    assert_eq!(refusals, [Refusal::Unreadable; 20]);
+    assert_eq!(refusals, [Refusal::Unreadable; 18]);
+}
+
+/// E2 names the copied cell only where its comparison holds.
+#[test]
+fn a_copied_head_that_does_not_exist() {
+    assert_eq!(queue_with_thread_at(E2, &[(COPIES[0], 0)]).moved([PLACE]), [E1]);
+    // An empty root, copied as empty and equal; 7 comes before 11.
+    for counter in [0, u32::MAX] {
+        let mut queue = Queue::with_thread_at(E2, &[], [EMPTY; 3]);
+        queue.set_word(queue.node_at(1) + 2, counter);
+        queue.match_copies(1);
+        assert_eq!(refused(&queue), Refusal::Unreadable);
+    }
+}
+
+/// M2 names its node only where the copy is dirty.
+#[test]
+fn a_mended_node_that_does_not_exist() {
+    let at = |fields: &[(usize, u32)]| {
+        queue_with_thread_at(M2, &[&[(NODE, 0), (RESULT_KEY, 8)], fields].concat())
+    };
+    assert_eq!(at(&[]).moved([PLACE, D, NODE, RESULT_KEY]), [E1, 3, 0, 8]);
+    assert_eq!(at(&[(AFTER, 1)]).turn(1, 0), Answer::Took { key: 8, tag: 0 });
+    assert_eq!(refused(&at(&[(COPIES[0] + 1, 1)])), Refusal::Unreadable);
 }
 
 #[test]

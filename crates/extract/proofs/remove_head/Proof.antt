@@ -2,14 +2,8 @@
 use borrow.Author.Needs.{needs}
 use Rattle.extract.proofs.remove_head.Statement.{statement}
 use Rattle.access.proofs.ReadLaws.{not-spent}
-use Rattle.extract.proofs.Ways.{no-head, root-changed, root-spent, head-removes}
+use Rattle.extract.proofs.Ways.{root-changed, no-head, root-spent, head-removes}
 use Rattle.extract.proofs.remove_head.Tie as tie
-
-refused-requires : tie.Need-refused-requires
-refused-requires c κs = search needs
-
-returns : tie.Need-returns
-returns c = search no-head
 
 load-node-requires : tie.Need-load-node-requires
 load-node-requires c κs = search needs
@@ -20,8 +14,14 @@ same-node-requires c κs = search needs
 on-to-requires : tie.Need-on-to-requires
 on-to-requires c κs = search needs
 
+returns : tie.Need-returns
+returns c = search root-changed
+
+refused-requires : tie.Need-refused-requires
+refused-requires c κs = search needs
+
 returns-2 : tie.Need-returns-2
-returns-2 c = search root-changed
+returns-2 c = search no-head
 
 is-spent-requires : tie.Need-is-spent-requires
 is-spent-requires c κs = search needs
@@ -42,11 +42,11 @@ pub remove-head-spec : {M : Type 1} → statement M
 remove-head-spec =
     tie.close
     (tie.spec
-    refused-requires
-    returns
     load-node-requires
     same-node-requires
     on-to-requires
+    returns
+    refused-requires
     returns-2
     is-spent-requires
     refused-requires-2

@@ -1,11 +1,11 @@
 -- `insert::read_ancestor` meets its contract: there is a middle level, or the turn is refused. Assumes nothing.
 use borrow.Author.Needs.{needs}
 use Rattle.insert.proofs.read_ancestor.Statement.{statement}
-use Rattle.insert.proofs.Ways.{no-middle, middle-most, middle-read}
+use Rattle.insert.proofs.Ways.{no-middle, middle-some, middle-most, middle-read}
 use Rattle.insert.proofs.read_ancestor.Tie as tie
 
-middle-level-requires : tie.Need-middle-level-requires
-middle-level-requires c κs = search needs
+has-middle-requires : tie.Need-has-middle-requires
+has-middle-requires c κs = search needs
 
 refused-requires : tie.Need-refused-requires
 refused-requires c κs = search needs
@@ -13,8 +13,11 @@ refused-requires c κs = search needs
 returns : tie.Need-returns
 returns c = search no-middle
 
+middle-level-requires : tie.Need-middle-level-requires
+middle-level-requires c κs = search needs
+
 ancestor-at-requires : tie.Need-ancestor-at-requires
-ancestor-at-requires c κs = search needs
+ancestor-at-requires c κs = search middle-some
 
 read-node-requires : tie.Need-read-node-requires
 read-node-requires c κs = search needs
@@ -29,9 +32,10 @@ pub read-ancestor-spec : {M : Type 1} → statement M
 read-ancestor-spec =
     tie.close
     (tie.spec
-    middle-level-requires
+    has-middle-requires
     refused-requires
     returns
+    middle-level-requires
     ancestor-at-requires
     read-node-requires
     ancestor-read-requires

@@ -1,20 +1,20 @@
 -- `region::thread::Thread::returned` meets its contract: none waits, or the deepest level's ancestor is next. Assumes nothing.
 use borrow.Author.Needs.{needs}
 use Rattle.region.proofs.thread.Thread.returned.Statement.{statement}
-use Rattle.region.proofs.Returns.{back-to-root, answered, some-level, few-levels, mark-within, to-ancestor}
+use Rattle.region.proofs.Returns.{goes-idle, back-to-root, some-level, few-levels, mark-within, to-ancestor}
 use Rattle.region.proofs.thread.Thread.returned.Tie as tie
-
-at-place-requires : tie.Need-at-place-requires
-at-place-requires c κs = search needs
-
-returns : tie.Need-returns
-returns c = search back-to-root
 
 gone-idle-requires : tie.Need-gone-idle-requires
 gone-idle-requires c κs = search needs
 
+returns : tie.Need-returns
+returns c = search goes-idle
+
+at-place-requires : tie.Need-at-place-requires
+at-place-requires c κs = search needs
+
 returns-2 : tie.Need-returns-2
-returns-2 c = search answered
+returns-2 c = search back-to-root
 
 level-of-requires : tie.Need-level-of-requires
 level-of-requires c κs = search needs
@@ -38,9 +38,9 @@ pub returned-spec : {M : Type 1} → statement M
 returned-spec =
     tie.close
     (tie.spec
-    at-place-requires
-    returns
     gone-idle-requires
+    returns
+    at-place-requires
     returns-2
     level-of-requires
     ancestor-at-requires
