@@ -1,6 +1,6 @@
 -- What the exported functions promise is what the calls of a history do, and a run has a moment for each turn that it serves: the contracts
 -- and the calls are said by the same definitions. Assumes nothing.
-use Prim.Native.Nat.{ℕ, suc, _+_, _/_, _%_}
+use Prim.Native.Nat.{ℕ, _+_, _/_, _%_}
 use native.Mathlib.Omega.{arith}
 use mathlib.Core.Path.{_≡_, refl, ap, _∙_}
 use mathlib.Core.Bool.{Bool, true, false}

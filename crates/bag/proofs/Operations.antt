@@ -3,7 +3,7 @@
 use Prim.Native.Nat.{ℕ, _+_}
 use native.Mathlib.Omega.{arith}
 use mathlib.Core.Path.{_≡_, refl, sym, ap, subst, _∙_}
-use mathlib.Core.Bool.{Bool, true, false, _&&_, true≢false}
+use mathlib.Core.Bool.{Bool, true, false, true≢false}
 use mathlib.Core.List.{List, [], _∷_, _++_}
 use borrow.Author.Tests.{eqb-true}
 use lib.Dec.{eqb}
@@ -15,7 +15,7 @@ use Rattle.bag.specs.Demand3.{AnswerSays, Says, moved, removed, idle, in
 use Rattle.bag.specs.History.{Event, called, turned, Moment}
 use Rattle.bag.specs.Ledger.{Ledger, Operation, none, putting, taking, holding, Follows, still, put-begins, take-begins, put-decides, take-decides, empty-decides, take-answers}
 use Rattle.bag.specs.Operations.{AnsweredDecidesOnce, DecidesAtMostOnce, answered, beginning, begins, count, deciding, decides}
-use Rattle.bag.specs.Told.{Told, nothing, decidesPut, decidesTake, decidesEmpty, answersTook, tells}
+use Rattle.bag.specs.Told.{Told, tells}
 
 -- Counting one more at the end.
 count-last : (test : Event → Bool) (ms : List Moment) (m : Moment)

@@ -22,7 +22,7 @@ use Rattle.machine.proofs.Laws.{is-idle, may-put, may-take}
 use Rattle.preserved.proofs.Proved.{put-free, put-good, put-least, put-most, put-permitted, put-tag, take-good, take-permitted, take-thread}
 use Rattle.bag.specs.Calls.{Call, NoAcceptedLayout}
 use Rattle.bag.specs.Demand3.{Agrees, AnswerSays, HoldsTheSame, RegionIsABag}
-use Rattle.bag.specs.History.{Event, called, turned, Moment, history, servedOn}
+use Rattle.bag.specs.History.{Event, called, Moment, history, servedOn}
 use Rattle.bag.specs.Ledger.{Ledger, Follows, emptyLedger, still}
 use Rattle.bag.specs.Moments.{EachMoment, InEveryHistory}
 use Rattle.bag.specs.Told.{Told, nothing, beginsPut, beginsTake, callTells, tells}

@@ -10,7 +10,7 @@ use Rattle.region.specs.declared.answer.Answer.the-variants.{Moved, Idle, Inser
 use Rattle.region.specs.declared.record.Item.{Item}
 use Rattle.region.specs.declared.shape.Shape.{Shape}
 use Rattle.machine.specs.Begin.{frameIn}
-use Rattle.bag.specs.Calls.{Call, layout, put, take, run, check}
+use Rattle.bag.specs.Calls.{layout, put, take, run, check}
 use Rattle.bag.specs.History.{Event, called, turned, Moment}
 use Rattle.bag.specs.Ledger.{Ledger, Follows, emptyLedger}
 use Rattle.bag.specs.Moments.{InEveryHistory, EachMoment}
