@@ -8,8 +8,8 @@ use lib.ListN.{length}
 use Rattle.words.specs.Word.{word}
 use Rattle.words.specs.Inner.{Fit}
 use Rattle.words.proofs.Laws.{word-other, length-setWord}
-use Rattle.region.specs.Frame.{partSize, nodesOf, cellsOf}
-use Rattle.region.specs.Inner.{Parted, Within}
+use Rattle.region.specs.Frame.{nodesOf, cellsOf}
+use Rattle.region.specs.Inner.{Parted, Within, partSize}
 use Rattle.region.specs.Record.{nodeWords, cellWords, zeroItem}
 use Rattle.region.specs.Shape.{nodeCount}
 use Rattle.region.specs.Shared.{putNode, putCell, putFree, cellIn, sharedIn, setNodeIn, setCellIn}

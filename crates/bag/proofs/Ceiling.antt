@@ -49,7 +49,7 @@ use Rattle.moundify.specs.Moundify.{returning, mendReadNode, depthRead, mendRea
 use Rattle.machine.specs.Begin.{frameIn, takeBytes, takeRefusal}
 use Rattle.machine.specs.Run.{Turn, accessesOf}
 use Rattle.machine.specs.Turn.{decide, decideAt, staysPut, turnAnswer, turnBytes, turnPlan}
-use Rattle.preserved.proofs.Proved.{begun-take-good, take-good, take-thread, turn-good}
+use Rattle.preserved.proofs.Proved.{begun-take-good, take-good, take-passed, turn-good}
 use Rattle.preserved.proofs.TreeLevels.{level-child, twice}
 use Rattle.bag.specs.Ceiling.{AllClean, EndsAt, NoOtherMoves, NoneSpent, ReadableTakesEnd, answersOf, found-empty, took, moved-then}
 use Rattle.bag.proofs.Carried.{turn-decides, turn-shared, turn-stays, turn-threads}
@@ -487,10 +487,10 @@ module _ (s : Shape) (t : ℕ) where
 -- A take begun on a readable region.
 module _ (b : List ℕ) (t : ℕ) (choices : List ℕ) (r : readable b ≡ true) (e : takeRefusal b t ≡ done) where
   t-least : 1 ≤ t
-  t-least = between-least 1 t (shapeIn b .threads) (take-thread b t e)
+  t-least = between-least 1 t (shapeIn b .threads) (take-passed b t e .thread)
 
   t-most : t ≤ shapeIn b .threads
-  t-most = between-most 1 t (shapeIn b .threads) (take-thread b t e)
+  t-most = between-most 1 t (shapeIn b .threads) (take-passed b t e .thread)
 
   begun : takeBytes b t ≡ setThreadIn (frameIn b) b t (begunTake (threadIn (frameIn b) b t))
   unfolding takeBytes pick

@@ -25,7 +25,7 @@ use Rattle.readable.specs.Readable.{readable, shapeIn}
 use Rattle.readable.proofs.Laws.{good, readable-good}
 use Rattle.machine.specs.Begin.{frameIn, mayPut, mayTake, putBytes, putRefusal, takeBytes, takeRefusal}
 use Rattle.machine.specs.Turn.{carriedOut, decide, decideAt, turnBytes, turnPlan}
-use Rattle.preserved.proofs.Proved.{put-permitted, take-permitted, put-keeps-readable, put-keeps-shape, put-leaves-others, take-keeps-readable, take-keeps-shape, take-leaves-others, turn-keeps-readable, turn-keeps-shape, turn-leaves-others}
+use Rattle.preserved.proofs.Proved.{put-passed, take-passed, put-keeps-readable, put-keeps-shape, put-leaves-others, take-keeps-readable, take-keeps-shape, take-leaves-others, turn-keeps-readable, turn-keeps-shape, turn-leaves-others}
 use Rattle.bag.specs.Calls.{Call, NoAcceptedLayout}
 use Rattle.bag.specs.Demand3.{makes}
 use Rattle.bag.specs.History.{Event, Moment, history, servedOn}
@@ -56,14 +56,14 @@ module _ (s : Shape) (t : ℕ) (b : List ℕ) (h : Barred s t b) where
   unfolding putBytes mayPut
   put-stays i =
       pick-good (λ x. x ≡ b) (eqb (putRefusal b t i) done)
-      (λ e. absurd (true≢false (sym (put-permitted b t i (eqb-true (putRefusal b t i) done e)) ∙ ap mayPut here)))
+      (λ e. absurd (true≢false (sym (put-passed b t i (eqb-true (putRefusal b t i) done e) .permitted) ∙ ap mayPut here)))
       (λ e. refl)
 
   take-stays : takeBytes b t ≡ b
   unfolding takeBytes mayTake
   take-stays =
       pick-good (λ x. x ≡ b) (eqb (takeRefusal b t) done)
-      (λ e. absurd (true≢false (sym (take-permitted b t (eqb-true (takeRefusal b t) done e)) ∙ ap mayTake here)))
+      (λ e. absurd (true≢false (sym (take-passed b t (eqb-true (takeRefusal b t) done e) .permitted) ∙ ap mayTake here)))
       (λ e. refl)
 
   -- bytes b′ that are readable, of b's shape, and have t's record as it was

@@ -19,7 +19,7 @@ use Rattle.readable.specs.Readable.{shapeIn}
 use Rattle.readable.proofs.Laws.{Good}
 use Rattle.machine.specs.Begin.{frameIn, acceptedPut, putBytes, putRefusal, takeBytes, takeRefusal}
 use Rattle.machine.proofs.Laws.{is-idle, may-put, may-take}
-use Rattle.preserved.proofs.Proved.{put-free, put-good, put-least, put-most, put-permitted, put-tag, take-good, take-permitted, take-thread}
+use Rattle.preserved.proofs.Proved.{put-free, put-good, put-key, put-least, put-most, put-passed, put-tag, take-good, take-passed}
 use Rattle.bag.specs.Calls.{Call, NoAcceptedLayout}
 use Rattle.bag.specs.Demand3.{Agrees, AnswerSays, HoldsTheSame, RegionIsABag}
 use Rattle.bag.specs.History.{Event, called, Moment, history, servedOn}
@@ -31,7 +31,7 @@ use Rattle.bag.proofs.Answers.{turn-says}
 use Rattle.bag.proofs.EmptyList.{empty-list-changes-nothing}
 use Rattle.bag.proofs.Histories.{Kept, Next, calls-kept}
 use Rattle.bag.proofs.Operations.{Followed, at-most-once, exactly-once}
-use Rattle.bag.proofs.Regions.{Follow, Region, put-idle, put-key, put-next, take-idle, take-next, turn-next}
+use Rattle.bag.proofs.Regions.{Follow, Region, put-next, take-next, turn-next}
 use Rattle.bag.proofs.Start.{laid-region}
 
 -- the two beginnings, refused or not
@@ -51,7 +51,8 @@ module _ (b : List ℕ) (l : Ledger) (g : Region (shapeIn b) b l) where
       go true h good =
           let e = eqb-true (putRefusal b t i) done h in
           let x = threadIn (frameIn b) b t in
-          put-next s b l g t (put-least b t i e) (put-most b t i e) (is-idle x (put-idle b t i e)) (may-put x (put-permitted b t i e)) i
+          let p = put-passed b t i e in
+          put-next s b l g t (put-least b t i e) (put-most b t i e) (is-idle x (p .idle)) (may-put x (p .permitted)) i
           (put-key b t i e) (put-tag b t i e) (put-free b t i e) good
       go false h good = stays
 
@@ -65,8 +66,9 @@ module _ (b : List ℕ) (l : Ledger) (g : Region (shapeIn b) b l) where
       go true h good =
           let e = eqb-true (takeRefusal b t) done h in
           let x = threadIn (frameIn b) b t in
-          take-next s b l g t (between-least 1 t (s .threads) (take-thread b t e)) (between-most 1 t (s .threads) (take-thread b t e))
-          (is-idle x (take-idle b t e)) (may-take x (take-permitted b t e)) good
+          let p = take-passed b t e in
+          take-next s b l g t (between-least 1 t (s .threads) (p .thread)) (between-most 1 t (s .threads) (p .thread))
+          (is-idle x (p .idle)) (may-take x (p .permitted)) good
       go false h good = stays
 
 -- a region of shape s has its shape in its first words

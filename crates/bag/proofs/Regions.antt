@@ -5,12 +5,10 @@ use native.Mathlib.Omega.{arith}
 use mathlib.Core.Path.{_≡_, refl, sym, ap, subst, subst₂, fun-ext, _∙_}
 use mathlib.Core.Bool.{Bool, true, false}
 use mathlib.Core.List.{List}
-use borrow.Author.Tests.{leb-true}
-use lib.Dec.{leb}
 use lib.ListN.{length}
 use Rattle.words.specs.Word.{word, setWord}
 use Rattle.words.proofs.Laws.{length-setWord}
-use Rattle.region.specs.Answer.{done, badThread, counterSpent}
+use Rattle.region.specs.Answer.{badThread, counterSpent}
 use Rattle.region.specs.Frame.{frameOf}
 use Rattle.region.specs.Inner.{Within}
 use Rattle.region.specs.Pick.{pick, upd}
@@ -26,7 +24,7 @@ use Rattle.region.specs.declared.shape.Shape.{Shape}
 use Rattle.region.specs.declared.thread.Thread.{Thread}
 use Rattle.region.proofs.Frames.{frame-parted}
 use Rattle.region.proofs.Picks.{upd-same, upd-other}
-use Rattle.region.proofs.Shapes.{and-left, between-least, between-most, sizes}
+use Rattle.region.proofs.Shapes.{between-least, between-most, sizes}
 use Rattle.region.proofs.Views.{length-setCellIn, shared-setCell, shared-setFree, shared-setThread, threads-setCell, threads-setFree, threads-setThread}
 use Rattle.access.specs.Effect.{effectShared}
 use Rattle.access.specs.Plan.{plan, refused}
@@ -34,14 +32,13 @@ use Rattle.access.specs.declared.effect.Effect.{Effect}
 use Rattle.access.specs.declared.effect.Effect.the-variants.{Nothing}
 use Rattle.access.specs.declared.plan.Plan.{Plan}
 use Rattle.access.proofs.OrderLaws.{item-below-top}
-use Rattle.readable.specs.Readable.{readable, shapeIn}
 use Rattle.readable.proofs.Laws.{Good}
 use Rattle.readable.proofs.Stores.{good-thread, good-within, thread-fit}
-use Rattle.machine.specs.Begin.{frameIn, isIdle, isItem, mayTake, acceptedPut, putRefusal, takeRefusal}
+use Rattle.machine.specs.Begin.{acceptedPut}
 use Rattle.machine.specs.Run.{Turn}
 use Rattle.machine.specs.Turn.{staysPut, turnBytes, turnPlan}
 use Rattle.preserved.proofs.EffectsGood.{cell-fit}
-use Rattle.preserved.proofs.Proved.{begun-put-good, begun-take-good, free-few, in-order, next-few, put-item, put-passed, turn-good}
+use Rattle.preserved.proofs.Proved.{begun-put-good, begun-take-good, free-few, next-few, turn-good}
 use Rattle.bag.specs.History.{rootItem, servedOn, turned}
 use Rattle.bag.specs.Ledger.{Operation, none, putting, taking, Ledger, Follows, still, put-begins, take-begins}
 use Rattle.bag.specs.Told.{Told, nothing, beginsPut, beginsTake, tells}
@@ -163,27 +160,6 @@ module _ (s : Shape) (b : List ℕ) (l : Ledger) (g : Region s b l) where
   turn-next x =
       subst (λ y. Follow s l y (turnBytes (frameOf s) b (x .thread) (x .choice))) (sym (turn-tells s b (g .good) x))
       (turn-step (x .thread) (x .choice))
-
--- What is not refused.
-module _ (b : List ℕ) (t : ℕ) where
-  abbrev x : Thread
-  x = threadIn (frameIn b) b t
-
-  pub put-idle : (i : Item) → putRefusal b t i ≡ done → isIdle x ≡ true
-  put-idle i e = put-passed b t i e .idle
-
-  pub put-key : (i : Item) → putRefusal b t i ≡ done → i .key ≤ 4294967294
-  unfolding isItem
-  put-key i e = leb-true (i .key) 4294967294 (and-left (leb (i .key) 4294967294) (leb (i .tag) 65535) (put-item b t i e))
-
-  pub take-idle : takeRefusal b t ≡ done → isIdle x ≡ true
-  unfolding takeRefusal
-  take-idle e =
-      in-order (isIdle x) _ 9 (λ z. omega arith)
-      (in-order (mayTake x) _ 8 (λ z. omega arith)
-      (in-order (between 1 t (shapeIn b .threads)) _ 3 (λ z. omega arith) (in-order (readable b) _ 7 (λ z. omega arith) e .1) .1)
-      .1)
-      .0
 
 -- Beginnings, on a region of shape s.
 module _ (s : Shape) (b : List ℕ) (l : Ledger) (g : Region s b l) (t : ℕ) (lt : 1 ≤ t) (ut : t ≤ s .threads)

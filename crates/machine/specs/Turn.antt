@@ -75,7 +75,7 @@ turnAnswer f b t c = turnPlan f b t c .answer
 unfoldable pub carriedOut : Frame → List ℕ → ℕ → Plan → List ℕ
 carriedOut f b t p = pick (staysPut (p .answer)) b (effectBytes f (setThreadIn f b t (p .thread)) (p .effect))
 
--- the answers with which an operation ends
+-- the answers with which an operation ends: "inserted, took or empty"
 abbrev pub ends : Answer → Bool
 ends Moved = false
 ends Idle = false

@@ -110,31 +110,34 @@ pub begun-take-good : (s : Shape) (t : Thread) → ThreadGood s t → ThreadGood
 unfolding begunTake
 begun-take-good s t g = at-good s t (g .fields) ReadRoot tt
 
--- what is not refused was a thread's, and a put's an item
-pub in-order : (q : Bool) (a n : ℕ) → (n ≡ 0 → ⊥) → pick q a n ≡ 0 → (q ≡ true) × (a ≡ 0)
+-- the first test of an order of refusals passed, and what comes behind it
+in-order : (q : Bool) (a n : ℕ) → (n ≡ 0 → ⊥) → pick q a n ≡ 0 → (q ≡ true) × (a ≡ 0)
 unfolding pick
 in-order true a n h e = (refl, e)
 in-order false a n h e = absurd (h e)
 
-module _ (b : List ℕ) (t : ℕ) where
-  pub take-thread : takeRefusal b t ≡ done → between 1 t (shapeIn b .threads) ≡ true
-  unfolding takeRefusal
-  take-thread e =
-      in-order (between 1 t (shapeIn b .threads)) _ 3 (λ z. omega arith) (in-order (readable b) _ 7 (λ z. omega arith) e .1) .0
+-- what a take that is not refused passed
+pub record TakePassed (b : List ℕ) (t : ℕ) : Type 0 where
+  pub thread : between 1 t (shapeIn b .threads) ≡ true
+  pub permitted : mayTake (threadIn (frameIn b) b t) ≡ true
+  pub idle : isIdle (threadIn (frameIn b) b t) ≡ true
 
-  -- nor did its permission lack
-  pub take-permitted : takeRefusal b t ≡ done → mayTake (threadIn (frameIn b) b t) ≡ true
+module _ (b : List ℕ) (t : ℕ) where
+  pub take-passed : takeRefusal b t ≡ done → TakePassed b t
   unfolding takeRefusal
-  take-permitted e =
-      in-order (mayTake (threadIn (frameIn b) b t)) _ 8 (λ z. omega arith)
-      (in-order (between 1 t (shapeIn b .threads)) _ 3 (λ z. omega arith) (in-order (readable b) _ 7 (λ z. omega arith) e .1) .1)
-      .0
+  take-passed e =
+      let x = threadIn (frameIn b) b t in
+      let region = in-order (readable b) _ 7 (λ z. omega arith) e in
+      let thread = in-order (between 1 t (shapeIn b .threads)) _ 3 (λ z. omega arith) (region .1) in
+      let permitted = in-order (mayTake x) _ 8 (λ z. omega arith) (thread .1) in
+      let idle = in-order (isIdle x) _ 9 (λ z. omega arith) (permitted .1) in
+      record { thread = thread .0; permitted = permitted .0; idle = idle .0 }
 
   pub take-good : Good (shapeIn b) b → Good (shapeIn b) (takeBytes b t)
   unfolding takeBytes
   take-good g =
       pick-good (Good (shapeIn b)) (eqb (takeRefusal b t) done)
-      (λ h. let e = take-thread (eqb-true (takeRefusal b t) done h) in
+      (λ h. let e = take-passed (eqb-true (takeRefusal b t) done h) .thread in
       good-setThread (shapeIn b) b g t (between-least 1 t (shapeIn b .threads) e) (between-most 1 t (shapeIn b .threads) e) _
       (begun-take-good (shapeIn b) _ (good-thread (shapeIn b) b g t)))
       (λ h. g)
@@ -254,21 +257,16 @@ module _ (b : List ℕ) (t : ℕ) (i : Item) (e : putRefusal b t i ≡ done) whe
   pub put-most : t ≤ shapeIn b .threads
   put-most = between-most 1 t (shapeIn b .threads) (put-passed .thread)
 
-  pub put-item : isItem i ≡ true
-  put-item = put-passed .item
-
-  put-key : i .key < 2 ^ 32
+  pub put-key : i .key ≤ greatestKey
   unfolding isItem
-  put-key =
-      let k = leb-true (i .key) greatestKey (and-left (leb (i .key) greatestKey) (leb (i .tag) greatestTag) put-item) in
-      omega arith
+  put-key = leb-true (i .key) greatestKey (and-left (leb (i .key) greatestKey) (leb (i .tag) greatestTag) (put-passed .item))
+
+  put-key-fits : i .key < 2 ^ 32
+  put-key-fits = omega (arith, put-key)
 
   pub put-tag : i .tag ≤ greatestTag
   unfolding isItem
-  put-tag = leb-true (i .tag) greatestTag (and-right (leb (i .key) greatestKey) (leb (i .tag) greatestTag) put-item)
-
-  pub put-permitted : mayPut (threadIn (frameIn b) b t) ≡ true
-  put-permitted = put-passed .permitted
+  put-tag = leb-true (i .tag) greatestTag (and-right (leb (i .key) greatestKey) (leb (i .tag) greatestTag) (put-passed .item))
 
   pub put-free : word b (frameIn b .free) ≡ 0 → ⊥
   unfolding hasFreeCell
@@ -279,7 +277,7 @@ unfolding putBytes
 put-good b g t i =
     pick-good (Good (shapeIn b)) (eqb (putRefusal b t i) done)
     (λ h. let e = eqb-true (putRefusal b t i) done h in
-    put-begun-good (shapeIn b) b i g (put-key b t i e) (put-tag b t i e) (put-free b t i e) t (put-least b t i e) (put-most b t i e))
+    put-begun-good (shapeIn b) b i g (put-key-fits b t i e) (put-tag b t i e) (put-free b t i e) t (put-least b t i e) (put-most b t i e))
     (λ h. g)
 
 pub put-keeps-readable : PutKeepsReadable
@@ -332,7 +330,7 @@ take-leaves-others b e t u n =
     let s = shapeIn b in
     let g = good b e in
     pick-good (λ x. threadIn (frameIn b) x u ≡ threadIn (frameIn b) b u) (eqb (takeRefusal b t) done)
-    (λ h. let k = take-thread b t (eqb-true (takeRefusal b t) done h) in
+    (λ h. let k = take-passed b t (eqb-true (takeRefusal b t) done h) .thread in
     store-others s b (g .range) (good-within s b g) t (between-least 1 t (s .threads) k) (between-most 1 t (s .threads) k) _
     (begun-take-good s _ (good-thread s b g t)) u n)
     (λ h. refl)
@@ -345,9 +343,9 @@ put-leaves-others b e t i u n =
     pick-good (λ x. threadIn (frameIn b) x u ≡ threadIn (frameIn b) b u) (eqb (putRefusal b t i) done)
     (λ h. let k = eqb-true (putRefusal b t i) done h in
     let g₁ = moved-good s b g in
-    let g₂ = stored-good s b i g (put-key b t i k) (put-tag b t i k) (put-free b t i k) in
+    let g₂ = stored-good s b i g (put-key-fits b t i k) (put-tag b t i k) (put-free b t i k) in
     store-others s (ownStored s b i) (g .range) (good-within s (ownStored s b i) g₂) t (put-least b t i k) (put-most b t i k) _
-    (put-thread-good s b i g (put-key b t i k) (put-tag b t i k) (put-free b t i k) t) u n
+    (put-thread-good s b i g (put-key-fits b t i k) (put-tag b t i k) (put-free b t i k) t) u n
     ∙ ap (λ h. h u)
     (threads-setCell (frameIn b) (freeMoved s b) (good-within s (freeMoved s b) g₁) (frame-parted s) (own s b)
     (record { item = i; next = 0 })

@@ -14,8 +14,8 @@ use lib.ListN.{length, getD}
 use Rattle.words.specs.Word.{word, setWord}
 use Rattle.words.specs.Inner.{Fit}
 use Rattle.words.proofs.Laws.{word-stored, word-same, word-other, word-apart, wordsAt-same, wordsAt-reads, length-setWords}
-use Rattle.region.specs.Frame.{Part, partSize, nodesOf, cellsOf, threadsOf}
-use Rattle.region.specs.Inner.{Apart, before, behind, Parted, Within, depthOf, freeOf}
+use Rattle.region.specs.Frame.{Part, nodesOf, cellsOf, threadsOf}
+use Rattle.region.specs.Inner.{Apart, before, behind, Parted, Within, depthOf, freeOf, partSize}
 use Rattle.region.specs.Pick.{pick, upd}
 use Rattle.region.specs.Record.{nodeOf, nodeWords, emptyNode, nodeAt, setNodeAt, cellOf, cellWords, zeroCell, cellAt, setCellAt}
 use Rattle.region.specs.Shape.{between, nodeCount}

@@ -25,9 +25,6 @@ pub record Part : Type 0 where
   pub stride : ℕ
   pub count : ℕ
 
-abbrev pub partSize : Part → ℕ
-partSize p = p .stride * p .count
-
 abbrev pub nodesOf : Frame → Part
 nodesOf f = record { start = f .nodes; stride = 3; count = nodeCount (f .shape) }
 

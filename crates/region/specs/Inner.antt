@@ -4,7 +4,7 @@ use Rattle.region.specs.declared.shape.Shape.{Shape}
 use Rattle.region.specs.Shape.{nodeCount}
 use Rattle.region.specs.Thread.{threadSize}
 use Rattle.region.specs.declared.frame.Frame.{Frame}
-use Rattle.region.specs.Frame.{Part, cellsOf, nodesOf, partSize, threadsOf}
+use Rattle.region.specs.Frame.{Part, cellsOf, nodesOf, threadsOf}
 
 -- a shape that fits, as inequalities between numbers
 pub record InRange (s : Shape) : Type 0 where
@@ -16,6 +16,10 @@ pub record InRange (s : Shape) : Type 0 where
   pub threads-most : s .threads ≤ 64
   pub threshold-least : 1 ≤ s .threshold
   pub threshold-most : s .threshold ≤ 16
+
+-- the words of a part
+abbrev pub partSize : Part → ℕ
+partSize p = p .stride * p .count
 
 -- the present depth and the first free cell as parts of one word
 abbrev pub depthOf : Frame → Part

@@ -1,4 +1,4 @@
--- What the functions of a script answer and leave in the lent slices, by the definitions.
+-- What a run of a script answers and leaves in the lent buffers, by the definition of what it prints.
 use Prim.Native.Nat.{ℕ}
 use mathlib.Core.Path.{_≡_}
 use mathlib.Core.List.{List, _++_}
