@@ -21,6 +21,7 @@ use Rattle.region.proofs.Picks.{pick-good}
 use Rattle.access.specs.Plan.{plan, refused}
 use Rattle.layout.specs.Layout.{layoutRefusal, layoutBytes}
 use Rattle.layout.proofs.Laws.{laid-exact}
+use Rattle.layout.proofs.LayoutReads.{laid-thread}
 use Rattle.readable.specs.Readable.{readable, shapeIn}
 use Rattle.readable.proofs.Laws.{good, readable-good}
 use Rattle.machine.specs.Begin.{frameIn, mayPut, mayTake, putBytes, putRefusal, takeBytes, takeRefusal}
@@ -31,7 +32,7 @@ use Rattle.bag.specs.Demand3.{makes}
 use Rattle.bag.specs.History.{Event, Moment, history, servedOn}
 use Rattle.bag.specs.Moments.{EachMoment}
 use Rattle.bag.proofs.Histories.{Kept, Next, calls-kept}
-use Rattle.bag.proofs.LaidOut.{laid-good, laid-thread}
+use Rattle.bag.proofs.Start.{laid-good}
 
 -- the turn of an idle thread
 idle-turn : (f : Frame) (b : List ℕ) (t c : ℕ) → threadIn f b t ≡ idleThread 0 → turnBytes f b t c ≡ b

@@ -13,7 +13,6 @@ pub mod Exported
 pub mod Facts
 pub mod Held
 pub mod Histories
-pub mod LaidOut
 pub mod Operations
 pub mod Order
 pub mod Plans

@@ -25,6 +25,8 @@ use Rattle.access.specs.Read.{readNode}
 use Rattle.access.proofs.OrderLaws.{item-refl}
 use Rattle.layout.specs.Layout.{layoutRefusal, layoutBytes}
 use Rattle.layout.proofs.LayoutReads.{laid-cell, laid-depth, laid-free, laid-no-thread, laid-node, laid-thread, next-in-chain, next-past, nextFree}
+use Rattle.readable.proofs.Laws.{Good, good}
+use Rattle.queue.proofs.LaidOutIsReadable.{laid-out-is-readable, same-shape}
 use Rattle.bag.specs.Ledger.{emptyLedger, none}
 use Rattle.bag.specs.Tree.{sameItem}
 use Rattle.bag.proofs.Chains.{Chain, ends, link, among, items}
@@ -32,7 +34,6 @@ use Rattle.bag.proofs.Counts.{inChain}
 use Rattle.bag.proofs.Effects.{Mound}
 use Rattle.bag.proofs.Facts.{At}
 use Rattle.bag.proofs.Held.{Held, nodeLength, threadLength, counted, counts, head-free, heads, val}
-use Rattle.bag.proofs.LaidOut.{laid-good}
 use Rattle.bag.proofs.Regions.{Region}
 use Rattle.bag.proofs.Sorted.{AtMost, Sorted, valueAt}
 use Rattle.bag.proofs.Steps.{owns}
@@ -83,6 +84,10 @@ module _ (s : Shape) (ps b : List ℕ) (e : layoutRefusal s ps (length b) ≡ do
   abbrev laid : List ℕ
   laid = layoutBytes s ps b
 
+  -- it is readable, with the shape that layout was given
+  pub laid-good : Good s laid
+  laid-good = subst (λ x. Good x laid) (same-shape s ps b e) (good laid (laid-out-is-readable s ps b e))
+
   abbrev m : Shared
   m = sharedIn (frameOf s) laid
 
@@ -90,7 +95,7 @@ module _ (s : Shape) (ps b : List ℕ) (e : layoutRefusal s ps (length b) ≡ do
   th = threadIn (frameOf s) laid
 
   range : 1 ≤ s .cells
-  range = laid-good s ps b e .range .cells-least
+  range = laid-good .range .cells-least
 
   -- every thread is idle
   idle : (t : ℕ) → (p : ℕ) × (th t ≡ idleThread p)
@@ -160,7 +165,7 @@ module _ (s : Shape) (ps b : List ℕ) (e : layoutRefusal s ps (length b) ≡ do
         ordered = λ a x p h z. subst₂ (λ u w. AtMost u w) (sym (no-value a)) (sym (no-value x)) (item-refl topItem);
         deep = λ n h. (ap (λ x. x .first) (laid-node s ps b e n), ap (λ x. x .dirty) (laid-node s ps b e n));
         depth-least = omega (arith, laid-depth s ps b e);
-        depth-most = omega (arith, laid-depth s ps b e, laid-good s ps b e .range .depth-least);
+        depth-most = omega (arith, laid-depth s ps b e, laid-good .range .depth-least);
       }
 
   empty : (i : Item) → 0 ≡ counted s m i
@@ -174,7 +179,7 @@ module _ (s : Shape) (ps b : List ℕ) (e : layoutRefusal s ps (length b) ≡ do
   pub laid-region : Region s laid emptyLedger
   laid-region =
       record {
-        good = laid-good s ps b e;
+        good = laid-good;
         holds =
             record {
               mound = mound;
