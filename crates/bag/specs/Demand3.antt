@@ -27,7 +27,8 @@ abbrev pub Agrees : Ledger → List ℕ → List Moment → Type 0
 Agrees l b [] = HoldsTheSame l b
 Agrees l b (m ∷ ms) = HoldsTheSame l b × ((l′ : Ledger) × Follows (tells (m .event)) l l′ × Agrees l′ (m .region) ms)
 
--- a turn of thread t that answers so tells this: no other turn answers inserted, took or empty
+-- a turn of thread t that answers so tells this: inserted comes only from a put that decides, empty only from a take that decides so; what
+-- a took must be is the ledger's `take-answers`
 pub data Says (t : ℕ) : Answer → Told → Type 0 where
   moved : Says t Moved nothing
   removed : {i : Item} → Says t Moved (decidesTake t i)

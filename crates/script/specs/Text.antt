@@ -1,4 +1,4 @@
--- Text as bytes: quoted text, decimal numbers, text at a position, and what it is to write into a lent slice.
+-- Text as bytes: quoted text, decimal numbers, and text at a position.
 use Prim.Native.Nat.{ℕ, zero, suc, _+_, _/_, _%_}
 use Prim.Native.Char.{code}
 use Prim.Native.String.{String, [] as none, _∷_ as _then_}
