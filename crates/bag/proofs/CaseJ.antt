@@ -7,7 +7,7 @@ use mathlib.Core.List.{List, [], _∷_, _++_}
 use lib.ListN.{length, replicate}
 use Rattle.region.specs.declared.record.Item.{Item}
 use Rattle.layout.specs.Layout.{layoutBytes}
-use Rattle.cases.specs.Cases.{schedule}
+use Rattle.cases.specs.Row.{schedule}
 use Rattle.computes.specs.Computes.{computes}
 use Rattle.bag.specs.Calls.{Call, put, take, run, after, refusalOf}
 use Rattle.bag.specs.History.{Moment, servedOn, turnMoments, servedMoments, callMoments, history}

@@ -1,2 +1,4 @@
--- Document 01's starred cases as theorems, computed from the definitions.
+-- Cases worked out by hand from document 01, as theorems that compute them from the definitions.
 pub mod Cases
+pub mod Document01
+pub mod Row

@@ -1,0 +1,95 @@
+-- A case: a layout, calls on the region that it leaves, what they answer, and the present depth afterwards.
+use Prim.Native.Nat.{ℕ, _*_}
+use mathlib.Core.Path.{_≡_}
+use mathlib.Core.List.{List, [], _∷_, _++_}
+use lib.ListN.{length, replicate}
+use Rattle.words.specs.Word.{word, wordsAt}
+use Rattle.region.specs.Answer.{done, answerWords}
+use Rattle.region.specs.declared.answer.Answer.{Answer}
+use Rattle.region.specs.declared.record.Item.{Item}
+use Rattle.region.specs.declared.shape.Shape.{Shape}
+use Rattle.layout.specs.Layout.{layoutRefusal, layoutBytes}
+use Rattle.machine.specs.Begin.{putBytes, putRefusal, takeBytes, takeRefusal}
+use Rattle.machine.specs.Run.{runResult}
+
+-- what is called on a laid-out region: a put of a key by a thread, a take, a run of these threads' turns
+pub data Does : Type 0 where
+  puts : ℕ → ℕ → Does
+  takes : ℕ → Does
+  turns : List ℕ → Does
+
+-- what it answers: a call's number, or the words of a run's answers
+pub data Says : Type 0 where
+  answered : ℕ → Says
+  served : List ℕ → Says
+
+-- every tag is 9
+abbrev pub item : ℕ → Item
+item k = record { key = k; tag = 9 }
+
+-- a schedule of these threads' turns, each with choice 0
+abbrev pub schedule : List ℕ → List ℕ
+schedule [] = []
+schedule (t ∷ ts) = t ∷ 0 ∷ 0 ∷ 0 ∷ 0 ∷ 0 ∷ 0 ∷ 0 ∷ schedule ts
+
+abbrev saidOf : List ℕ → Does → Says
+saidOf b (puts t k) = answered (putRefusal b t (item k))
+saidOf b (takes t) = answered (takeRefusal b t)
+saidOf b (turns ts) = served (wordsAt (runResult b (schedule ts) 1000 (replicate (12 * length ts) 0) .answers) 0 (3 * length ts))
+
+abbrev leftBy : List ℕ → Does → List ℕ
+leftBy b (puts t k) = putBytes b t (item k)
+leftBy b (takes t) = takeBytes b t
+leftBy b (turns ts) = runResult b (schedule ts) 1000 (replicate (12 * length ts) 0) .region
+
+abbrev said : List ℕ → List Does → List Says
+said b [] = []
+said b (d ∷ ds) = saidOf b d ∷ said (leftBy b d) ds
+
+abbrev left : List ℕ → List Does → List ℕ
+left b [] = b
+left b (d ∷ ds) = left (leftBy b d) ds
+
+-- a layout of a slice of zero bytes, then these calls: layout's answer, theirs, and the depth afterwards
+pub record Row : Type 0 where
+  pub shape : Shape
+  pub permissions : List ℕ
+  pub bytes : ℕ
+  pub does : List Does
+  pub layout : ℕ
+  pub says : List Says
+  pub depth : ℕ
+
+-- the slice after the row's layout
+abbrev laid : Row → List ℕ
+laid r = layoutBytes (r .shape) (r .permissions) (replicate (r .bytes) 0)
+
+abbrev pub Holds : Row → Type 0
+Holds r =
+    (layoutRefusal (r .shape) (r .permissions) (r .bytes) ≡ r .layout)
+    × (said (laid r) (r .does) ≡ r .says)
+    × (word (left (laid r) (r .does)) 4 ≡ r .depth)
+
+abbrev pub AllHold : List Row → Type 0
+AllHold [] = Unit
+AllHold (r ∷ rs) = Holds r × AllHold rs
+
+-- D and C are said; two threads, threshold 1
+abbrev pub shaped : ℕ → ℕ → Shape
+shaped d c = record { depth = d; cells = c; threads = 2; threshold = 1 }
+
+abbrev pub both : List ℕ
+both = 3 ∷ 3 ∷ []
+
+-- calls on D 2, C 2, with these permissions
+abbrev pub callsRow : List ℕ → List Does → List Says → ℕ → Row
+callsRow ps ds ss depth =
+    record { shape = shaped 2 2; permissions = ps; bytes = 348; does = ds; layout = done; says = ss; depth = depth }
+
+-- the words of these answers
+abbrev wordsOf : List Answer → List ℕ
+wordsOf [] = []
+wordsOf (x ∷ xs) = answerWords x ++ wordsOf xs
+
+abbrev pub serves : List Answer → Says
+serves xs = served (wordsOf xs)
