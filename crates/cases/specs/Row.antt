@@ -3,20 +3,23 @@ use Prim.Native.Nat.{ℕ, _*_}
 use mathlib.Core.Path.{_≡_}
 use mathlib.Core.List.{List, [], _∷_, _++_}
 use lib.ListN.{length, replicate}
-use Rattle.words.specs.Word.{word, wordsAt}
+use Rattle.words.specs.Word.{word, wordsAt, setWords}
 use Rattle.region.specs.Answer.{done, answerWords}
 use Rattle.region.specs.declared.answer.Answer.{Answer}
 use Rattle.region.specs.declared.record.Item.{Item}
 use Rattle.region.specs.declared.shape.Shape.{Shape}
 use Rattle.layout.specs.Layout.{layoutRefusal, layoutBytes}
+use Rattle.readable.specs.Readable.{checkAnswer}
 use Rattle.machine.specs.Begin.{putBytes, putRefusal, takeBytes, takeRefusal}
 use Rattle.machine.specs.Run.{runResult}
 
--- what is called on a laid-out region: a put of a key by a thread, a take, a run of these threads' turns
+-- what is called on a laid-out region: a put of a key by a thread, a take, a run of these threads' turns, and a check of a copy with
+-- these words from a word on
 pub data Does : Type 0 where
   puts : ℕ → ℕ → Does
   takes : ℕ → Does
   turns : List ℕ → Does
+  checks : ℕ → List ℕ → Does
 
 -- what it answers: a call's number, or the words of a run's answers
 pub data Says : Type 0 where
@@ -36,11 +39,13 @@ abbrev saidOf : List ℕ → Does → Says
 saidOf b (puts t k) = answered (putRefusal b t (item k))
 saidOf b (takes t) = answered (takeRefusal b t)
 saidOf b (turns ts) = served (wordsAt (runResult b (schedule ts) 1000 (replicate (12 * length ts) 0) .answers) 0 (3 * length ts))
+saidOf b (checks at ws) = answered (checkAnswer (setWords b at ws))
 
 abbrev leftBy : List ℕ → Does → List ℕ
 leftBy b (puts t k) = putBytes b t (item k)
 leftBy b (takes t) = takeBytes b t
 leftBy b (turns ts) = runResult b (schedule ts) 1000 (replicate (12 * length ts) 0) .region
+leftBy b (checks at ws) = b
 
 abbrev said : List ℕ → List Does → List Says
 said b [] = []
