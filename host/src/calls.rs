@@ -122,8 +122,8 @@ pub fn run(region: &mut [u8], schedule: &[u8], limit: u32, answers: &mut [u8]) -
 /// Tells whether a region is readable: its length is that of its first words and every field is
 /// in its range.
 ///
-/// Refusal: 7 (not readable). Cost: each field is read at most once, up to the first that is out
-/// of its range.
+/// Refusal: 7 (not readable). Cost: the words that have a range are read in order, up to the first
+/// that is out of it.
 pub fn check(region: &[u8]) -> u32 {
     // SAFETY: the pointer goes with the slice's own length. The slice is lent for the call, in
     // which the library only reads it; it does not keep the pointer.

@@ -199,7 +199,7 @@ impl<'a> Region<'a> {
     /// Checks that the region is readable: its length is that of its first words, and every field
     /// is in its range.
     ///
-    /// Cost: each field is read at most once, up to the first that is out of its range.
+    /// Cost: the words that have a range are read in order, up to the first that is out of it.
     ///
     /// # Errors
     ///
