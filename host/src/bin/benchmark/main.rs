@@ -7,7 +7,7 @@ mod play;
 mod record;
 mod work;
 
-use measure::{measure, Times, ROUNDS};
+use measure::{measure, share, Times, ROUNDS};
 use mound::Shape;
 use work::{Work, PAIRS};
 
@@ -23,7 +23,8 @@ A put and a take by one thread, T 4, half of the cells in use: four calls, each 
 turns that it takes. Beside them a push and a pop of a Mutex<BinaryHeap> with as many items.";
 
 const CHECKS: &str = "
-A check at the largest shape, of 82,188 bytes.";
+A check at the largest shape, D 12, C 2,048, T 64, of 20,547 words: a yes, and refusals by the first
+word out of range. The share is that of the library's time for a yes.";
 
 const GROWTH: &str = "
 How cost grows with D, T 4: a check looks at the whole region, a turn at one place of it. The turn
@@ -87,17 +88,44 @@ fn pairs() {
     }
 }
 
-/// Checks at the largest shape.
+/// Checks at the largest shape: a yes, and refusals by where the first bad word stands.
 fn checks() {
     println!("{CHECKS}");
-    println!("{:<20}{:>10}{:>10}{:>8}", "", "library", "plain", "ratio");
-    let readable = Work::checks(Shape::LARGEST, 20);
-    let mut bad_first_word = Work::checks(Shape::LARGEST, 20_000);
-    bad_first_word.start[0] = 13;
-    for (name, work) in [("readable", readable), ("bad first word", bad_first_word)] {
-        let Times { library, plain, ratio } = measure(&work, work.calls.len() as u32);
-        println!("{name:<20}{library:>10.1}{plain:>10.1}{ratio:>8.2}");
+    println!(
+        "{:<42}{:>12}{:>9}{:>9}{:>8}{:>8}",
+        "", "words before", "library", "plain", "ratio", "share"
+    );
+    let shape = Shape::LARGEST;
+    let yes = Work::checks(shape, 20);
+    check_row("no bad word: a yes", yes.start.len() / 4, &yes, &yes);
+    for (name, words_before) in bad_words(shape) {
+        // The sooner a check ends, the more of them are timed together.
+        let checks = 400_000 / (words_before + 20);
+        let work = Work::checks(shape, checks).with_bad_word(words_before);
+        check_row(name, words_before, &work, &yes);
     }
+}
+
+/// The first word, and a word of the middle record of each part, with the number of words before it.
+fn bad_words(shape: Shape) -> [(&'static str, usize); 4] {
+    let [cells, threads] = [shape.cells, shape.threads].map(|count| count as usize);
+    let nodes = (1 << shape.depth) - 1;
+    let first_node = 6;
+    let first_cell = first_node + 3 * nodes;
+    let first_thread = first_cell + 3 * cells;
+    [
+        ("the first word", 0),
+        ("in the middle of the nodes", first_node + 3 * (nodes / 2)),
+        // A cell's tag: its first word, the key, has no range.
+        ("in the middle of the cells", first_cell + 3 * (cells / 2) + 1),
+        ("in the middle of the threads' records", first_thread + 33 * (threads / 2)),
+    ]
+}
+
+fn check_row(name: &str, words_before: usize, work: &Work, yes: &Work) {
+    let Times { library, plain, ratio } = measure(work, work.calls.len() as u32);
+    let share = share(work, yes);
+    println!("{name:<42}{words_before:>12}{library:>9.1}{plain:>9.1}{ratio:>8.2}{share:>8.4}");
 }
 
 /// A check and a turn by the greatest depth.

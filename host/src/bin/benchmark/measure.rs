@@ -23,21 +23,43 @@ pub struct Times {
 pub fn measure(work: &Work, units: u32) -> Times {
     let mut bench = Bench::of(work);
     bench.compare();
-    let (mut library, mut plain, mut ratios) = (vec![], vec![], vec![]);
-    for round in 0..ROUNDS {
-        // Each goes first in every other round.
-        let (by_library, by_plain) = if round % 2 == 0 {
-            let by_library = bench.time::<Library>();
-            (by_library, bench.time::<Plain>())
-        } else {
-            let by_plain = bench.time::<Plain>();
-            (bench.time::<Library>(), by_plain)
-        };
-        library.push(by_library / f64::from(units));
-        plain.push(by_plain / f64::from(units));
-        ratios.push(by_library / by_plain);
+    let rounds = in_turn(&mut bench, Bench::time::<Library>, Bench::time::<Plain>);
+    let units = f64::from(units);
+    Times {
+        library: median(rounds.iter().map(|(library, _)| library / units).collect()),
+        plain: median(rounds.iter().map(|(_, plain)| plain / units).collect()),
+        ratio: median(rounds.iter().map(|(library, plain)| library / plain).collect()),
     }
-    Times { library: median(library), plain: median(plain), ratio: median(ratios) }
+}
+
+/// The library's time for a call of one work in parts of that for a call of another: the median over
+/// rounds of both.
+pub fn share(part: &Work, whole: &Work) -> f64 {
+    let mut benches = (Bench::of(part), Bench::of(whole));
+    let rounds = in_turn(
+        &mut benches,
+        |(part, _)| part.time::<Library>() / part.work.calls.len() as f64,
+        |(_, whole)| whole.time::<Library>() / whole.work.calls.len() as f64,
+    );
+    median(rounds.iter().map(|(part, whole)| part / whole).collect())
+}
+
+/// Two measurements in each round, either of them first in every other one.
+fn in_turn<B>(
+    bench: &mut B,
+    one: impl Fn(&mut B) -> f64,
+    other: impl Fn(&mut B) -> f64,
+) -> Vec<(f64, f64)> {
+    let round = |round: usize| {
+        if round.is_multiple_of(2) {
+            let by_one = one(bench);
+            (by_one, other(bench))
+        } else {
+            let by_other = other(bench);
+            (one(bench), by_other)
+        }
+    };
+    (0..ROUNDS).map(round).collect()
 }
 
 pub fn median(mut values: Vec<f64>) -> f64 {

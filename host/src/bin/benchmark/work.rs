@@ -60,6 +60,12 @@ impl Work {
         work
     }
 
+    /// The same calls on a region with a word, so many words from its start, that is out of any range.
+    pub fn with_bad_word(mut self, words_before: usize) -> Work {
+        self.start[4 * words_before..][..4].copy_from_slice(&u32::MAX.to_le_bytes());
+        self
+    }
+
     /// The same turns, each in a run of its own.
     pub fn one_turn_a_run(self) -> Work {
         let calls = (0..self.turns as usize).map(|turn| Call::Run(turn..turn + 1)).collect();
