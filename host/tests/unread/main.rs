@@ -1,6 +1,6 @@
-//! Where a check ends: at the first field out of range, with no byte behind it read. The bytes up to
-//! that field stand at the end of memory that may be read, the rest of the region behind it, where a
-//! read ends this program by a fault. No test measures time.
+//! Where a check ends: at the first field out of range. The bytes up to that field, or up to the end of
+//! the words that are looked at together, stand at the end of memory that may be read, the rest of the
+//! region behind it, where a read ends this program by a fault. No test measures time.
 #![cfg(target_os = "linux")]
 
 #[path = "../common/mod.rs"]

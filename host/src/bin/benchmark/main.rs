@@ -106,7 +106,8 @@ fn checks() {
     }
 }
 
-/// The first word, and a word of the middle record of each part, with the number of words before it.
+/// The first word, and a word of the middle record of each part, with the number of words before it: 6 of
+/// the heading, 3 of each node and cell, 33 of each thread's record.
 fn bad_words(shape: Shape) -> [(&'static str, usize); 4] {
     let [cells, threads] = [shape.cells, shape.threads].map(|count| count as usize);
     let nodes = (1 << shape.depth) - 1;
