@@ -16,12 +16,12 @@ use Rattle.region.specs.declared.record.Node.{Node}
 use Rattle.region.specs.declared.shape.Shape.{Shape}
 use Rattle.region.proofs.Picks.{upd-same, upd-other}
 use Rattle.access.specs.Effect.{effectShared}
-use Rattle.access.specs.Order.{valueOf}
+use Rattle.access.specs.Order.{val, valueOf}
 use Rattle.access.specs.Read.{readNode, updated}
 use Rattle.access.specs.declared.effect.Effect.the-variants.{Grow, Push, Pop, Exchange, Clean}
 use Rattle.access.proofs.OrderLaws.{item-refl, item-trans}
 use Rattle.bag.specs.Tree.{sameItem}
-use Rattle.bag.proofs.Held.{Held, val, counted, first-owner, own-owner, free-owner, held-same, counted-same, held-begin, counted-begin, held-push, counted-push, held-pop, counted-pop, held-exchange, counted-exchange}
+use Rattle.bag.proofs.Held.{Held, counted, first-owner, own-owner, free-owner, held-same, counted-same, held-begin, counted-begin, held-push, counted-push, held-pop, counted-pop, held-exchange, counted-exchange}
 use Rattle.bag.proofs.Order.{Above, Ordered, above-le, push-ordered, pop-ordered, clean-ordered, exchange-ordered}
 use Rattle.bag.proofs.Sorted.{AtMost, Proper, valueAt}
 
@@ -301,7 +301,7 @@ module _ (s : Shape) (m : Shared) (own : ℕ → ℕ) (g : Mound s m own) (v : N
   abbrev popped : Shared
   popped = effectShared m (Pop v c)
 
-  pop-others : (y : ℕ) → 1 ≤ y → (y ≡ 1 → ⊥) → readNode popped y ≡ readNode m y
+  pub pop-others : (y : ℕ) → 1 ≤ y → (y ≡ 1 → ⊥) → readNode popped y ≡ readNode m y
   unfolding effectShared
   pop-others y p ne = read-same m popped y (upd-other (m .node) 1 y v ne) (upd-other (m .cell) c (m .node y .first) _ apart)
     where

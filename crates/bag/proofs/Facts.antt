@@ -17,11 +17,10 @@ use Rattle.region.specs.declared.shape.Shape.{Shape}
 use Rattle.region.specs.declared.thread.Copies.{Copies}
 use Rattle.region.specs.declared.thread.Search.{Search}
 use Rattle.region.specs.declared.thread.Thread.{Thread}
-use Rattle.access.specs.Order.{itemLe, valueOf}
+use Rattle.access.specs.Order.{itemLe, val, valueOf}
 use Rattle.access.specs.Read.{readNode}
 use Rattle.bag.specs.Ledger.{Operation, none, putting, taking, holding}
 use Rattle.bag.proofs.Effects.{Rely}
-use Rattle.bag.proofs.Held.{val}
 use Rattle.bag.proofs.Sorted.{AtMost, Proper}
 
 -- a copy q of node n: counters never fall, and an equal counter means an unchanged node

@@ -15,7 +15,7 @@ use Rattle.region.specs.Shared.{Shared}
 use Rattle.region.specs.declared.record.Item.{Item}
 use Rattle.region.specs.declared.record.Node.{Node}
 use Rattle.region.specs.declared.shape.Shape.{Shape}
-use Rattle.access.specs.Order.{topItem, valueOf}
+use Rattle.access.specs.Order.{topItem, val, valueOf}
 use Rattle.access.specs.Read.{readNode}
 use Rattle.bag.specs.Tree.{inNodes, sameItem}
 use Rattle.bag.proofs.Cells.{Chains, Moved, Exchanged, move, exchange}
@@ -76,10 +76,6 @@ pub record Held (s : Shape) (m : Shared) (own : ℕ → ℕ) : Type 0 where
   pub chains : Chains (m .cell) owner rank (heads (m .free) (m .node) own) list
   pub sorted : (n : ℕ) → 1 ≤ n → Sorted (items (m .cell) (list (2 * n)))
   pub total : length (list 0) + sum (nodeLength list) (nodeCount s) + sum (threadLength list) (s .threads) ≡ s .cells
-
--- the value of node n
-abbrev pub val : Shared → ℕ → Item
-val m n = valueOf (readNode m n)
 
 -- the tree's count of i
 abbrev pub counted : Shape → Shared → Item → ℕ

@@ -29,7 +29,7 @@ use Rattle.region.specs.declared.thread.Thread.{Thread}
 use Rattle.region.proofs.Levels.{level-holds}
 use Rattle.region.proofs.Picks.{pick-good}
 use Rattle.region.proofs.Shapes.{and-left, and-right, and-both, is-between, sizes}
-use Rattle.access.specs.Order.{itemLe, itemLt, topItem, valueOf}
+use Rattle.access.specs.Order.{itemLe, itemLt, topItem, val, valueOf}
 use Rattle.access.specs.Plan.{plan, moved, onTo, refused}
 use Rattle.access.specs.Read.{isDirty, isLevel, isNode, isSpent, readNode, sameNode, updated}
 use Rattle.access.specs.declared.effect.Effect.{Effect}
@@ -40,14 +40,14 @@ use Rattle.access.proofs.ReadLaws.{is-clean, is-dirty, same-node}
 use Rattle.insert.specs.Insert.{searching, readDepth, searchOn, leafOf, nextTries, failedPlace, leafFailed, leafRead, readLeaf, ancestorRead, middleLevel, hasMiddle, readAncestor, growDepth, targetPlace, readTarget, insertAt, insertAtRoot, readParent, nodeAndParentSame, insertBelow}
 use Rattle.insert.proofs.Laws.{node-same, parent-same}
 use Rattle.extract.specs.Extract.{rootRead, readRoot, headRemoved, removeHead}
-use Rattle.moundify.specs.Moundify.{returning, mendReadNode, depthRead, mendReadDepth, mendReadLeft, marked, childLess, childrenRead, mendReadRight, exchangeAt, nodeAndChildSame, exchangeWith, mendSwap, cleanAt, mendClean}
+use Rattle.moundify.specs.Moundify.{returning, mendReadNode, depthRead, mendReadDepth, mendReadLeft, marked, lessBelow, childLess, childrenRead, mendReadRight, exchangeAt, nodeAndChildSame, exchangeWith, mendSwap, cleanAt, mendClean}
 use Rattle.machine.specs.Turn.{decide, decideAt}
 use Rattle.readable.proofs.Stores.{PlaceGood, ThreadGood, WaitsAbove}
 use Rattle.preserved.proofs.TreeLevels.{fits, level-unique, twice}
 use Rattle.bag.specs.Ledger.{Operation, none, putting, taking, holding}
 use Rattle.bag.proofs.Effects.{Mound, PushAsks, PopAsks, ExchangeAsks, CleanAsks, in-tree}
 use Rattle.bag.proofs.Facts.{At, AnyValue, Child, ChildRead, Dirty, InTree, Inner, LevelRead, Mended, Mends, Parent, Puts, RootRead, Searching, Sound, Swappable, Takes, Target, mendingFor, sound-read}
-use Rattle.bag.proofs.Held.{val, val-top}
+use Rattle.bag.proofs.Held.{val-top}
 use Rattle.bag.proofs.Order.{Above, below-children}
 use Rattle.bag.proofs.Sorted.{AtMost, valueAt}
 
@@ -510,7 +510,7 @@ module _ (s : Shape) (r : InRange s) (m : Shared) (own : ℕ → ℕ) (g : Mound
 
       swappable : u .copies .second .node .dirty ≡ 0 → u .copies .third .node .dirty ≡ 0 → childLess u ≡ true
           → Swappable m (u .node) (u .copies)
-      unfolding childLess itemLt
+      unfolding childLess lessBelow itemLt
       swappable cl cr e =
           let b = swaps-by (itemLe x₂ x₃) (itemLe x₁ x₂) (itemLe x₁ x₃) e in
           record {
@@ -524,7 +524,7 @@ module _ (s : Shape) (r : InRange s) (m : Shared) (own : ℕ → ℕ) (g : Mound
 
       -- neither child is less
       no-less : childLess u ≡ false → AtMost x₁ x₂ × AtMost x₁ x₃
-      unfolding childLess itemLt
+      unfolding childLess lessBelow itemLt
       no-less e = go (itemLe x₂ x₃) refl
         where
           b : (itemLe x₂ x₃ ≡ true → itemLe x₁ x₂ ≡ true) × (itemLe x₂ x₃ ≡ false → itemLe x₁ x₃ ≡ true)

@@ -20,7 +20,7 @@ use Rattle.region.specs.declared.record.Item.{Item}
 use Rattle.region.specs.declared.shape.Shape.{Shape}
 use Rattle.region.specs.declared.thread.Thread.{Thread}
 use Rattle.region.proofs.Shapes.{between-least, between-most}
-use Rattle.access.specs.Order.{topItem, valueOf}
+use Rattle.access.specs.Order.{topItem, val, valueOf}
 use Rattle.access.specs.Read.{readNode}
 use Rattle.access.proofs.OrderLaws.{item-refl}
 use Rattle.layout.specs.Layout.{layoutRefusal, layoutBytes}
@@ -33,7 +33,7 @@ use Rattle.bag.proofs.Chains.{Chain, ends, link, among, items}
 use Rattle.bag.proofs.Counts.{inChain}
 use Rattle.bag.proofs.Effects.{Mound}
 use Rattle.bag.proofs.Facts.{At}
-use Rattle.bag.proofs.Held.{Held, nodeLength, threadLength, counted, counts, head-free, heads, val}
+use Rattle.bag.proofs.Held.{Held, nodeLength, threadLength, counted, counts, head-free, heads}
 use Rattle.bag.proofs.Regions.{Region}
 use Rattle.bag.proofs.Sorted.{AtMost, Sorted, valueAt}
 use Rattle.bag.proofs.Steps.{owns}

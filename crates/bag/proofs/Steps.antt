@@ -16,7 +16,7 @@ use Rattle.region.specs.declared.shape.Shape.{Shape}
 use Rattle.region.specs.declared.thread.Thread.{Thread}
 use Rattle.region.proofs.Picks.{upd-same, upd-other}
 use Rattle.access.specs.Effect.{effectShared}
-use Rattle.access.specs.Order.{topItem, valueOf}
+use Rattle.access.specs.Order.{topItem, val, valueOf}
 use Rattle.access.specs.Read.{readNode}
 use Rattle.access.specs.declared.effect.Effect.{Effect}
 use Rattle.access.specs.declared.effect.Effect.the-variants.{Nothing, Grow, Push, Pop, Exchange, Clean}
@@ -27,7 +27,7 @@ use Rattle.bag.specs.Tree.{sameItem}
 use Rattle.bag.proofs.Answers.{effectTells}
 use Rattle.bag.proofs.Effects.{Keeps, Mound, in-tree, root-there, value-there, rely-same, grow-keeps, grow-counts, push-keeps, push-counts, pop-keeps, pop-counts, pop-own, exchange-keeps, exchange-counts, clean-keeps, clean-counts}
 use Rattle.bag.proofs.Facts.{At, stays}
-use Rattle.bag.proofs.Held.{val, counted, held-by, head-held}
+use Rattle.bag.proofs.Held.{counted, held-by, head-held}
 use Rattle.bag.proofs.Order.{root-above}
 use Rattle.bag.proofs.Plans.{Allowed, OwnAfter, Speaks, reads, grows, swaps, cleans, inserts, removes, empties, answers, cleans-answers}
 use Rattle.bag.proofs.Sorted.{AtMost, same-item, item-same, valueAt}

@@ -31,7 +31,7 @@ use Rattle.access.specs.Read.{isDirty, isNode, isSpent, readNode, sameNode, upd
 use Rattle.access.specs.declared.effect.Effect.{Effect}
 use Rattle.access.specs.declared.effect.Effect.the-variants.{Nothing, Exchange, Clean}
 use Rattle.access.specs.declared.plan.Plan.{Plan}
-use Rattle.moundify.specs.Moundify.{nodeAndChildSame, childLess, childrenRead, cleanAt, depthRead, exchangeAt, exchangeWith, marked, mendClean, mendReadDepth, mendReadLeft, mendReadNode, mendReadRight, mendSwap, returning}
+use Rattle.moundify.specs.Moundify.{nodeAndChildSame, childLess, childrenRead, cleanAt, depthRead, exchangeAt, exchangeWith, lessBelow, marked, mendClean, mendReadDepth, mendReadLeft, mendReadNode, mendReadRight, mendSwap, returning}
 use Rattle.moundify.specs.Inner.{ChildrenAsked}
 
 -- The return.
@@ -120,8 +120,8 @@ either-way true true y = refl
 either-way true false y = refl
 either-way false x y = refl
 
-less-of : (n l k : Item) → (itemLe l k && itemLt l n) || (itemLt k l && itemLt k n) ≡ pick (itemLe l k) (itemLt l n) (itemLt k n)
-unfolding itemLt
+less-of : (n l k : Item) → lessBelow n l k ≡ pick (itemLe l k) (itemLt l n) (itemLt k n)
+unfolding lessBelow itemLt
 less-of n l k = either-way (itemLe l k) (itemLt l n) (itemLt k n)
 
 module _ (t : Thread) (n l k : Item) (en : n ≡ valueOf (t .copies .first)) (el : l ≡ valueOf (t .copies .second))
@@ -131,7 +131,7 @@ module _ (t : Thread) (n l k : Item) (en : n ≡ valueOf (t .copies .first)) (el
   less-here =
       ap (λ x. pick x (itemLt l n) (itemLt k n)) eq
       ∙ sym (less-of n l k)
-      ∙ (λ i. (itemLe (el i) (ek i) && itemLt (el i) (en i)) || (itemLt (ek i) (el i) && itemLt (ek i) (en i)))
+      ∙ (λ i. lessBelow (en i) (el i) (ek i))
 
   pub left-decides : q ≡ true → r ≡ itemLt l n → r ≡ childLess t
   unfolding pick

@@ -10,6 +10,7 @@ use Rattle.region.specs.Shared.{Shared}
 use Rattle.region.specs.Thread.{mending, returned, returnAnswer, withDepth, withFirst, withSecond, withThird}
 use Rattle.region.specs.declared.answer.Answer.the-variants.{Moved}
 use Rattle.region.specs.declared.place.Place.the-variants.{MendReadNode, MendReadDepth, MendReadLeft, MendReadRight, MendSwap, MendClean}
+use Rattle.region.specs.declared.record.Item.{Item}
 use Rattle.region.specs.declared.record.Node.{Node}
 use Rattle.region.specs.declared.shape.Shape.{Shape}
 use Rattle.region.specs.declared.thread.Thread.{Thread}
@@ -59,13 +60,14 @@ mendReadLeft s m t w =
 unfoldable pub marked : ℕ → ℕ → ℕ
 marked w j = pick (ltb w (mark j)) (w + mark j) w
 
--- "left val ≤ right val and < n's val, or right val < left val and < n's val" (lines 45 and 50)
+-- "left val ≤ right val and < n's val, or right val < left val and < n's val" (lines 45 and 50), of n's value and its children's
+unfoldable pub lessBelow : Item → Item → Item → Bool
+lessBelow own left right = (itemLe left right && itemLt left own) || (itemLt right left && itemLt right own)
+
+-- the same of the three copies
 unfoldable pub childLess : Thread → Bool
-childLess t =
-    (itemLe (valueOf (t .copies .second)) (valueOf (t .copies .third))
-    && itemLt (valueOf (t .copies .second)) (valueOf (t .copies .first)))
-    || (itemLt (valueOf (t .copies .third)) (valueOf (t .copies .second))
-    && itemLt (valueOf (t .copies .third)) (valueOf (t .copies .first)))
+unfolding lessBelow
+childLess t = lessBelow (valueOf (t .copies .first)) (valueOf (t .copies .second)) (valueOf (t .copies .third))
 
 -- "left dirty, n's level waits, mend 2n; else right dirty likewise; else .. M5; else M6" (lines 39 to 56)
 unfoldable pub childrenRead : Thread → ℕ → Plan

@@ -1,0 +1,2 @@
+-- The laws of a take's cost.
+pub mod Laws
