@@ -1,6 +1,6 @@
 -- Lists of cells. A chain's cells all have one owner, and each the number of cells behind it as its rank: so chains of
--- different owners are apart, and none repeats a cell. A change of cells elsewhere leaves a chain alone, and walking it counts
--- its items. Assumes nothing.
+-- different owners are apart, and none repeats a cell. A change of cells elsewhere leaves a chain alone, walking it counts its
+-- items, and its list without its head is left alone where the head's cell is freed. Assumes nothing.
 use Prim.Native.Nat.{ℕ, zero, suc, _+_, _≤_, _<_}
 use native.Mathlib.Omega.{arith}
 use mathlib.Core.Path.{_≡_, refl, sym, ap, subst, _∙_}
@@ -12,6 +12,7 @@ use Rattle.region.specs.Pick.{pick}
 use Rattle.region.specs.Shared.{Shared}
 use Rattle.region.specs.declared.record.Cell.{Cell}
 use Rattle.region.specs.declared.record.Item.{Item}
+use Rattle.bag.specs.TakeCost.{listFrom}
 use Rattle.bag.specs.Tree.{inList}
 
 -- from cell c by next cells to 0 these cells, owned by o
@@ -78,3 +79,45 @@ items-left cell cell′ own own′ rank rank′ o o′ c cs h (link d {cs = ds} 
       same .0,
       items-left cell cell′ own own′ rank rank′ o o′ (cell d .next) ds (λ e q r. h e q (omega arith)) k,
     )
+
+-- no cell, no list
+list-none : (cell : ℕ → Cell) (n : ℕ) → listFrom cell n 0 ≡ []
+unfolding listFrom pick
+list-none cell zero = refl
+list-none cell (suc n) = refl
+
+module _ {cell : ℕ → Cell} {own rank : ℕ → ℕ} {o : ℕ} where
+  -- a cell is not the next of itself
+  first-rank : {c : ℕ} {cs : List ℕ} → Chain cell own rank o c cs → 1 ≤ c → suc (rank c) ≡ length cs
+  first-rank ends l = absurd (omega arith)
+  first-rank (link d p eo er k) l = ap suc er
+
+  pub next-apart : {c : ℕ} {cs : List ℕ} → Chain cell own rank o c cs → 1 ≤ c → cell c .next ≡ c → ⊥
+  next-apart ends l e = omega arith
+  next-apart (link d p eo er k) l e = let r = first-rank k (omega arith) in let q = ap rank e in omega arith
+
+  -- cells that agree on a chain list the same
+  list-left : (cell′ : ℕ → Cell) (n n′ : ℕ) {c : ℕ} {cs : List ℕ} → Chain cell own rank o c cs
+      → ((d : ℕ) → rank d < length cs → cell′ d ≡ cell d) → length cs ≤ n → length cs ≤ n′ → listFrom cell n c ≡ listFrom cell′ n′ c
+  unfolding listFrom pick
+  list-left cell′ n n′ ends h l l′ = list-none cell n ∙ sym (list-none cell′ n′)
+  list-left cell′ zero n′ (link d p eo er k) h l l′ = absurd (omega arith)
+  list-left cell′ (suc n) zero (link d p eo er k) h l l′ = absurd (omega arith)
+  list-left cell′ (suc n) (suc n′) (link d p eo er k) h l l′ =
+      rw
+      (ne-eqb d 0 (λ z. omega arith))
+      (ap (λ xs. record { cell = d; item = cell d .item } ∷ xs) (list-left cell′ n n′ k (λ e r. h e (omega arith)) (omega arith) (omega arith))
+      ∙ ap (λ x. record { cell = d; item = x .item } ∷ listFrom cell′ n′ (x .next)) (sym (h d (omega arith))))
+
+  -- a list is its head and then the list from the next cell, also where the head's cell has changed since
+  pub list-behind : (cell′ : ℕ → Cell) (n : ℕ) {c : ℕ} {cs : List ℕ} → Chain cell own rank o c cs → 1 ≤ c
+      → ((d : ℕ) → (d ≡ c → ⊥) → cell′ d ≡ cell d) → length cs ≤ n
+      → listFrom cell n c ≡ record { cell = c; item = cell c .item } ∷ listFrom cell′ n (cell c .next)
+  unfolding listFrom pick
+  list-behind cell′ n ends l h few = absurd (omega arith)
+  list-behind cell′ zero (link d p eo er k) l h few = absurd (omega arith)
+  list-behind cell′ (suc n) (link d p eo er k) l h few =
+      rw
+      (ne-eqb d 0 (λ z. omega arith))
+      (ap (λ xs. record { cell = d; item = cell d .item } ∷ xs)
+      (list-left cell′ n (suc n) k (λ e r. h e (λ z. let q = ap rank z in omega arith)) (omega arith) (omega arith)))

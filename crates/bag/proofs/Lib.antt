@@ -1,9 +1,9 @@
 -- The theory of demand 3, from cells and trees up to the theorems.
 pub mod Account
+pub mod Alone
 pub mod Answers
 pub mod Carried
 pub mod CaseJ
-pub mod Ceiling
 pub mod Cells
 pub mod Chains
 pub mod Counts
@@ -22,4 +22,5 @@ pub mod Sorted
 pub mod Start
 pub mod Steps
 pub mod Sums
+pub mod TakeCost
 pub mod Theorems

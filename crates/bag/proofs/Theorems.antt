@@ -7,25 +7,29 @@ use mathlib.Core.List.{List}
 use Rattle.region.specs.Answer.{badThread, counterSpent, unreadable}
 use Rattle.region.specs.Frame.{frameOf}
 use Rattle.region.specs.Shape.{between}
-use Rattle.region.specs.Shared.{Shared}
+use Rattle.region.specs.Shared.{Shared, sharedIn, threadIn}
 use Rattle.region.specs.declared.answer.Answer.{Answer}
 use Rattle.region.specs.declared.answer.Answer.the-variants.{Moved, Idle, Inserted, Took, Empty, Refused}
 use Rattle.region.specs.declared.shape.Shape.{Shape}
 use Rattle.region.proofs.Shapes.{between-least, between-most}
 use Rattle.access.specs.Plan.{plan, refused}
 use Rattle.layout.specs.Layout.{layoutBytes}
-use Rattle.readable.proofs.Laws.{readable-good}
+use Rattle.readable.specs.Readable.{shapeIn}
+use Rattle.readable.proofs.Laws.{good, readable-good}
+use Rattle.readable.proofs.Stores.{good-shared}
 use Rattle.machine.specs.Turn.{staysPut, turnAnswer, turnPlan}
 use Rattle.bag.specs.Ledger.{Ledger, Operation, emptyLedger}
 use Rattle.bag.specs.Moments.{Throughout, regionAfter}
-use Rattle.bag.specs.Theorems.{CellsAccounted, NoTurnUnreadable, RefusedTenWhenFull, StaysReadable, TakesEndInTime}
+use Rattle.bag.specs.Theorems.{CellsAccounted, NoTurnUnreadable, RefusedTenWhenFull, StaysReadable, TakesCostExactly, TakesEndInTime}
 use Rattle.bag.proofs.Account.{all-cells-accounted, puts-refused-when-full}
-use Rattle.bag.proofs.Ceiling.{take-ends}
+use Rattle.bag.proofs.Effects.{Mound}
 use Rattle.bag.proofs.Plans.{Planned, moves, refuses, rests}
 use Rattle.bag.proofs.Histories.{Kept, kept-after}
 use Rattle.bag.proofs.Proved.{Moves, history-kept}
 use Rattle.bag.proofs.Regions.{Region, plan-fits, nowhere, speaks-moves}
 use Rattle.bag.proofs.Start.{laid-region}
+use Rattle.bag.proofs.Steps.{owns}
+use Rattle.bag.proofs.TakeCost.{costs-end, take-costs}
 pub use Rattle.bag.proofs.Proved.{region-is-a-bag}
 pub use Rattle.bag.proofs.Exported.{calls-are-exported}
 
@@ -89,6 +93,17 @@ refused-ten-when-full s ps b e calls n earlier later split =
     let w = holds s ps b e calls n earlier later split in
     puts-refused-when-full s (regionAfter (layoutBytes s ps b) earlier) (w .0) (w .1 .good) (w .1 .holds)
 
+pub takes-cost-exactly : TakesCostExactly
+takes-cost-exactly s ps b e calls n earlier later split =
+    let w = holds s ps b e calls n earlier later split in
+    let b′ = regionAfter (layoutBytes s ps b) earlier in
+    take-costs b′ (stays-readable s ps b e calls n earlier later split .0) (owns (threadIn (frameOf s) b′))
+    (subst (λ x. Mound x (sharedIn (frameOf x) b′) (owns (threadIn (frameOf s) b′))) (sym (w .1 .good .shape)) (w .1 .holds .mound))
+
+-- the ceiling is the figure's
 pub takes-end-in-time : TakesEndInTime
+unfolding sharedIn
 takes-end-in-time s ps b e calls n earlier later split =
-    take-ends (regionAfter (layoutBytes s ps b) earlier) (stays-readable s ps b e calls n earlier later split .0)
+    let b′ = regionAfter (layoutBytes s ps b) earlier in
+    costs-end b′ (good-shared (shapeIn b′) b′ (good b′ (stays-readable s ps b e calls n earlier later split .0)) .depth-least)
+    (takes-cost-exactly s ps b e calls n earlier later split)

@@ -9,8 +9,8 @@ use Rattle.readable.specs.Readable.{readable, shapeIn}
 use Rattle.machine.specs.Begin.{frameIn}
 use Rattle.machine.specs.Turn.{turnAnswer}
 use Rattle.bag.specs.Account.{AllCellsAccounted, PutsRefusedWhenFull}
-use Rattle.bag.specs.Ceiling.{TakesEnd}
 use Rattle.bag.specs.Moments.{Throughout}
+use Rattle.bag.specs.TakeCost.{TakesCost, TakesEnd}
 
 -- the region is readable, and its first words are the layout's still
 abbrev pub StaysReadable : Type 0
@@ -28,7 +28,12 @@ CellsAccounted = Throughout λ s permissions b. AllCellsAccounted b
 abbrev pub RefusedTenWhenFull : Type 0
 RefusedTenWhenFull = Throughout λ s permissions b. PutsRefusedWhenFull b
 
+-- "a take of one item begun at depth d ends in exactly 1 access if empty, 5 × j + 2 if its last mending leaves the list at level j above d,
+-- and 5 × d if it reaches level d" (document 02, request 3)
+abbrev pub TakesCostExactly : Type 0
+TakesCostExactly = Throughout λ s permissions b. TakesCost b
+
 -- "From a laid-out region, with all nodes clean, no other thread moving and no turn refused 11, a take begun at depth d ends in at most
--- 5 × d accesses."
+-- 5 × d accesses.": follows
 abbrev pub TakesEndInTime : Type 0
 TakesEndInTime = Throughout λ s permissions b. TakesEnd b

@@ -1,0 +1,481 @@
+-- A take alone on clean nodes, place by place, from E1 to where the root's list without its head comes to rest: E1 and E2, M1 to M5 for
+-- each level gone down, then M1 to M4 and M6, or M1, M2 and M6 at level d. So 5 × j + 2 accesses for a level j above d, 5 × d for level d.
+-- Assumes nothing.
+use Prim.Native.Nat.{ℕ, zero, suc, _+_, _-_, _*_, _^_, _≤_, _<_, min}
+use native.Mathlib.Decide.{ℕ-discrete}
+use native.Mathlib.Omega.{arith}
+use mathlib.Core.Path.{_≡_, refl, sym, ap, subst, _∙_}
+use mathlib.Core.Bool.{Bool, true, false, _||_}
+use mathlib.Core.List.{List, [], _∷_}
+use borrow.Author.Tests.{eq-eqb, ne-eqb}
+use lib.Dec.{eqb}
+use lib.ListN.{length}
+use lib.Pow.{pow-mono}
+use Rattle.region.specs.Answer.{counterSpent}
+use Rattle.region.specs.Frame.{frameOf}
+use Rattle.region.specs.Level.{digits, level}
+use Rattle.region.specs.Pick.{pick, upd}
+use Rattle.region.specs.Shape.{nodeCount}
+use Rattle.region.specs.Inner.{InRange}
+use Rattle.region.specs.Shared.{Shared, nodeIn, sharedIn, threadIn}
+use Rattle.region.specs.Thread.{atPlace, goneIdle, mending, returnAnswer, withAfter, withCopies, withDepth, withFirst, withNode, withResult, withSecond, withThird}
+use Rattle.region.specs.declared.answer.Answer.the-variants.{Moved, Took, Empty}
+use Rattle.region.specs.declared.frame.Frame.{Frame}
+use Rattle.region.specs.declared.place.Place.{Place}
+use Rattle.region.specs.declared.place.Place.the-variants.{ReadRoot, RemoveHead, MendReadNode, MendReadDepth, MendReadLeft, MendReadRight, MendSwap, MendClean}
+use Rattle.region.specs.declared.record.Cell.{Cell}
+use Rattle.region.specs.declared.record.Item.{Item}
+use Rattle.region.specs.declared.record.Node.{Node}
+use Rattle.region.specs.declared.shape.Shape.{Shape}
+use Rattle.region.specs.declared.thread.Thread.{Thread}
+use Rattle.region.proofs.Levels.{level-holds}
+use Rattle.region.proofs.Picks.{upd-same, upd-other}
+use Rattle.region.proofs.Shapes.{is-between, sizes}
+use Rattle.access.specs.Effect.{effectShared, freed}
+use Rattle.access.specs.Order.{topItem, val, valueOf}
+use Rattle.access.specs.Plan.{plan, moved, onTo, refused}
+use Rattle.access.specs.Read.{isDirty, isNode, isSpent, readNode, sameNode, updated}
+use Rattle.access.specs.declared.effect.Effect.the-variants.{Nothing, Pop, Exchange, Clean}
+use Rattle.access.specs.declared.plan.Plan.{Plan}
+use Rattle.readable.proofs.Laws.{Good}
+use Rattle.extract.specs.Extract.{rootRead, readRoot, headRemoved, removeHead}
+use Rattle.moundify.specs.Moundify.{returning, mendReadNode, depthRead, mendReadDepth, mendReadLeft, lessBelow, childLess, childrenRead, mendReadRight, exchangeAt, nodeAndChildSame, exchangeWith, cleanAt, mendClean}
+use Rattle.machine.specs.Turn.{decide, decideAt, staysPut, turnAnswer, turnBytes, turnPlan}
+use Rattle.cost.specs.Cost.{lesserChild, levelsDown, withoutHead}
+use Rattle.cost.proofs.Laws.{goes-down, lesser-is-child, levels-same, rests-deepest, rests-there, swaps-as-placed, tests-as-placed}
+use Rattle.preserved.proofs.Proved.{turn-good}
+use Rattle.preserved.proofs.TreeLevels.{level-child, twice}
+use Rattle.bag.specs.Alone.{EndsAt, NoneSpent, Step, last, moved-then, stepOf}
+use Rattle.bag.specs.History.{rootItem}
+use Rattle.bag.specs.TakeCost.{LeavesList, listFrom, listOf}
+use Rattle.bag.proofs.Carried.{turn-decides, turn-shared, turn-threads}
+
+-- thread t's turns with these choices, each on the bytes that the one before left
+unfoldable pub alone : Frame → List ℕ → ℕ → List ℕ → List Step
+alone f b t [] = []
+alone f b t (c ∷ cs) = stepOf f b t c ∷ alone f (turnBytes f b t c) t cs
+
+-- shared memory after E2, which frees the head's cell
+unfoldable pub popped : Shared → Shared
+popped m = freed (withoutHead m) (m .node 1 .first)
+
+-- a comparison with a copy that still holds
+same-copy : {n q : Node} → q ≡ n → sameNode n q ≡ true
+unfolding sameNode
+same-copy {n} {q} e =
+    ap (sameNode n) e
+    ∙ rw (eq-eqb (n .first) (n .first) refl, eq-eqb (n .dirty) (n .dirty) refl, eq-eqb (n .counter) (n .counter) refl) refl
+
+not-dirty : {n q : Node} → q ≡ n → n .dirty ≡ 0 → isDirty q ≡ false
+unfolding isDirty
+not-dirty {n} {q} e h = ap isDirty e ∙ rw (eq-eqb (n .dirty) 0 h) refl
+
+still-dirty : {n q : Node} → q ≡ n → n .dirty ≡ 1 → isDirty q ≡ true
+unfolding isDirty
+still-dirty {n} {q} e h = ap isDirty e ∙ rw (ne-eqb (n .dirty) 0 (λ z. omega arith)) refl
+
+-- node n, the only one that may be dirty, is made clean
+clean-now : (f : ℕ → Node) (n : ℕ) (v : Node) → v .dirty ≡ 0 → ((x : ℕ) → (x ≡ n → ⊥) → f x .dirty ≡ 0) → (x : ℕ) → upd f n v x .dirty ≡ 0
+clean-now f n v e h x = go (ℕ-discrete x n)
+  where
+    go : Dec (x ≡ n) → upd f n v x .dirty ≡ 0
+    go (yes k) = ap (λ y. upd f n v y .dirty) k ∙ ap (λ y. y .dirty) (upd-same f n v) ∙ e
+    go (no k) = ap (λ y. y .dirty) (upd-other f n x v k) ∙ h x k
+
+-- and another is put at c
+clean-but : (f : ℕ → Node) (n c : ℕ) (v w : Node) → v .dirty ≡ 0 → ((x : ℕ) → (x ≡ n → ⊥) → f x .dirty ≡ 0)
+    → (x : ℕ) → (x ≡ c → ⊥) → upd (upd f n v) c w x .dirty ≡ 0
+clean-but f n c v w e h x nc = ap (λ y. y .dirty) (upd-other (upd f n v) c x w nc) ∙ clean-now f n v e h x
+
+module _ (s : Shape) (t : ℕ) (t-least : 1 ≤ t) (t-most : t ≤ s .threads) where
+  -- E1 at an empty root answers empty.
+  pub empty-ends : (m : Shared) (u : Thread) → u .place ≡ ReadRoot → m .node 1 .first ≡ 0 → m .node 1 .dirty ≡ 0 → (b cs : List ℕ)
+      → sharedIn (frameOf s) b ≡ m → threadIn (frameOf s) b t ≡ u → 1 ≤ length cs
+      → EndsAt (λ x. x .answer ≡ Empty) 1 (alone (frameOf s) b t cs)
+  unfolding alone turnAnswer decide readRoot rootRead plan pick readNode
+  empty-ends m u place none clean b [] em eu long = absurd (omega arith)
+  empty-ends m u place none clean b (c ∷ cs) em eu long =
+      let e : decide s m u c ≡ plan Nothing (goneIdle u) Empty =
+      ap (decideAt s m u c) place ∙ rw (not-dirty {n = m .node 1} refl clean, eq-eqb (m .node 1 .first) 0 none) refl
+      in
+      last (ap (λ x. x .answer) (turn-decides s b t c t-least t-most ∙ (λ i. decide s (em i) (eu i) c) ∙ e))
+
+  -- A take begun on the region b₀. Its root's list without its head begins with the cell `first` of these cells, and is to come to rest at
+  -- level j, d being the present depth.
+  module _ (b₀ : List ℕ) (d j : ℕ) (cell : ℕ → Cell) (first : ℕ)
+      (behind : listOf (frameOf s) b₀ 1
+      ≡ record { cell = nodeIn (frameOf s) b₀ 1 .first; item = rootItem (frameOf s) b₀ } ∷ listFrom cell (frameOf s .shape .cells) first) where
+    -- Accesses made are counted from 3 at E1: so 4 at E2, 5 × l at M1 of a node of level l, and this when the list has come to rest.
+    abbrev pub end : ℕ
+    end = min (5 * j + 5) (5 * d + 3)
+
+    -- the list comes to rest after `count` accesses more
+    pub record Rests (spent : ℕ) (b cs : List ℕ) : Type 0 where
+      pub count : ℕ
+      pub exact : spent + count ≡ end
+      pub rests : EndsAt (LeavesList (frameOf s) b₀ t j) count (alone (frameOf s) b t cs)
+
+    -- from every region with this shared memory and this record of thread t, with choices enough and no turn refused 11
+    abbrev RestsFrom : ℕ → Shared → Thread → Type 0
+    RestsFrom spent m u =
+        (b cs : List ℕ) → Good s b → sharedIn (frameOf s) b ≡ m → threadIn (frameOf s) b t ≡ u → end ≤ spent + length cs
+        → NoneSpent (alone (frameOf s) b t cs) → Rests spent b cs
+
+    -- A turn that is refused 11 or goes by p.
+    module _ (spent : ℕ) (m : Shared) (u : Thread) (few : spent < end) (q : Bool) (p : Plan)
+        (decides : (c : ℕ) → decide s m u c ≡ pick q (refused u counterSpent) p) where
+      module _ (b : List ℕ) (c : ℕ) (cs : List ℕ) (em : sharedIn (frameOf s) b ≡ m) (eu : threadIn (frameOf s) b t ≡ u)
+          (none : NoneSpent (alone (frameOf s) b t (c ∷ cs))) where
+        by-place : turnPlan (frameOf s) b t c ≡ pick q (refused u counterSpent) p
+        by-place = turn-decides s b t c t-least t-most ∙ (λ i. decide s (em i) (eu i) c) ∙ decides c
+
+        not-spent : q ≡ false
+        unfolding alone turnAnswer pick refused plan
+        not-spent = go q by-place
+          where
+            go : (q : Bool) → turnPlan (frameOf s) b t c ≡ pick q (refused u counterSpent) p → q ≡ false
+            go true e = absurd (none .0 (ap (λ x. x .answer) e))
+            go false e = refl
+
+        planned : turnPlan (frameOf s) b t c ≡ p
+        unfolding pick
+        planned = by-place ∙ ap (λ x. pick x (refused u counterSpent) p) not-spent
+
+      -- on to what p leaves
+      moves : p .answer ≡ Moved → (next : ℕ) → next ≡ spent + 1 → RestsFrom next (effectShared m (p .effect)) (p .thread)
+          → RestsFrom spent m u
+      unfolding alone turnAnswer
+      moves a next up after b [] g em eu long none = absurd (omega arith)
+      moves a next up after b (c ∷ cs) g em eu long none =
+          let e = planned b c cs em eu none in
+          let answered : turnPlan (frameOf s) b t c .answer ≡ Moved = ap (λ x. x .answer) e ∙ a in
+          let goes : staysPut (turnPlan (frameOf s) b t c .answer) ≡ false = ap staysPut answered in
+          let r = after (turnBytes (frameOf s) b t c) cs (turn-good s b g t c)
+          (turn-shared s b t c g goes ∙ (λ i. effectShared (em i) (e i .effect)))
+          (ap (λ h. h t) (turn-threads s b t c g goes) ∙ upd-same (threadIn (frameOf s) b) t (turnPlan (frameOf s) b t c .thread)
+          ∙ ap (λ x. x .thread) e)
+          (omega arith)
+          (none .1)
+          in
+          record { count = suc (r .count); exact = omega (arith, r .exact); rests = moved-then answered (r .rests) }
+
+      -- p is the last
+      comes-to-rest : spent + 1 ≡ end
+          → ((b : List ℕ) (c : ℕ) → Good s b → sharedIn (frameOf s) b ≡ m → threadIn (frameOf s) b t ≡ u → turnPlan (frameOf s) b t c ≡ p
+          → LeavesList (frameOf s) b₀ t j (stepOf (frameOf s) b t c))
+          → RestsFrom spent m u
+      unfolding alone
+      comes-to-rest exact leaves b [] g em eu long none = absurd (omega arith)
+      comes-to-rest exact leaves b (c ∷ cs) g em eu long none =
+          record { count = 1; exact = exact; rests = last (leaves b c g em eu (planned b c cs em eu none)) }
+
+    -- a turn that no counter can refuse
+    goes-on : (spent next : ℕ) → next ≡ spent + 1 → (m : Shared) (u v : Thread) → spent < end → ((c : ℕ) → decide s m u c ≡ moved v)
+        → RestsFrom next m v → RestsFrom spent m u
+    unfolding moved plan pick effectShared
+    goes-on spent next up m u v few decides after = moves spent m u few false (moved v) decides refl next up after
+
+    -- Mending at level l: the thread's node has the list and is dirty, and no other is.
+    record Mending (l : ℕ) (m : Shared) (u : Thread) (p : Place) : Type 0 where
+      place : u .place ≡ p
+      after : u .after ≡ 1
+      result : u .result ≡ rootItem (frameOf s) b₀
+      some : 1 ≤ u .node
+      few : u .node ≤ nodeCount s
+      at-level : level (u .node) ≡ l
+      above : l ≤ d
+      depth : m .depth ≡ d
+      dirty : m .node (u .node) .dirty ≡ 1
+      clean : (x : ℕ) → (x ≡ u .node → ⊥) → m .node x .dirty ≡ 0
+      cells : m .cell ≡ cell
+      list : m .node (u .node) .first ≡ first
+      goes : l + levelsDown (val m) (val m (u .node)) (d - l) (u .node) ≡ j
+
+    -- it goes on in any record with the same node, after and result
+    kept : {l : ℕ} {m : Shared} {u : Thread} {p : Place} → Mending l m u p → (v : Thread) (q : Place) → v .place ≡ q → v .after ≡ u .after
+        → v .result ≡ u .result → v .node ≡ u .node → Mending l m v q
+    kept {l = l} {m = m} h v q ep ea er en =
+        record {
+          place = ep;
+          after = ea ∙ h .after;
+          result = er ∙ h .result;
+          some = omega (arith, en, h .some);
+          few = omega (arith, en, h .few);
+          at-level = ap level en ∙ h .at-level;
+          above = h .above;
+          depth = h .depth;
+          dirty = ap (λ n. m .node n .dirty) en ∙ h .dirty;
+          clean = λ x n. h .clean x (λ e. n (e ∙ sym en));
+          cells = h .cells;
+          list = ap (λ n. m .node n .first) en ∙ h .list;
+          goes = ap (λ n. l + levelsDown (val m) (val m n) (d - l) n) en ∙ h .goes;
+        }
+
+    -- M6: the node becomes clean, and the take answers.
+    clean-rests : (l spent : ℕ) (m : Shared) (u : Thread) → Mending l m u (MendClean 0) → u .copies .first ≡ readNode m (u .node) → l ≡ j
+        → spent + 1 ≡ end → RestsFrom spent m u
+    unfolding decide mendClean cleanAt returning returnAnswer plan pick sharedIn turnAnswer effectShared updated readNode
+    clean-rests l spent m u h copied there exact =
+        let n = u .copies .first .node in
+        let v = updated n (n .first) 0 in
+        let same : n ≡ m .node (u .node) = ap (λ q. q .node) copied in
+        comes-to-rest spent m u (omega arith) (isSpent n) (returning (Clean (u .node) v) u 0)
+        (λ c. ap (decideAt s m u c) (h .place) ∙ rw (ne-eqb (u .node) 0 (λ z. omega (arith, h .some)), same-copy same) refl)
+        exact
+        (λ b c g em eu e.
+        let answered : turnPlan (frameOf s) b t c .answer ≡ Took (u .result) =
+        ap (λ x. x .answer) e ∙ rw (eq-eqb (u .after) 1 (h .after)) refl
+        in
+        let after : sharedIn (frameOf s) (turnBytes (frameOf s) b t c) ≡ effectShared m (Clean (u .node) v) =
+        turn-shared s b t c g (ap staysPut answered) ∙ (λ i. effectShared (em i) (e i .effect))
+        in
+        let begins : upd (m .node) (u .node) v (u .node) .first ≡ first =
+        ap (λ x. x .first) (upd-same (m .node) (u .node) v ∙ ap (λ x. updated x (x .first) 0) same) ∙ h .list
+        in
+        record {
+          node = u .node;
+          at-level = h .at-level ∙ there;
+          place = ap (λ x. x .place) eu ∙ h .place;
+          mends = ap (λ x. x .node) eu;
+          dirty = ap (λ x. x .node (u .node) .dirty) em ∙ h .dirty;
+          others = λ x k. ap (λ y. y .node x .dirty) em ∙ h .clean x k;
+          clean = λ x p q. ap (λ y. y .node x .dirty) after ∙ clean-now (m .node) (u .node) v refl (h .clean) x;
+          list =
+              behind
+              ∙ ap (λ xs. record { cell = nodeIn (frameOf s) b₀ 1 .first; item = rootItem (frameOf s) b₀ } ∷ xs)
+              (sym (ap (λ y. listFrom (y .cell) (frameOf s .shape .cells) (y .node (u .node) .first)) after
+              ∙ (λ i. listFrom (h .cells i) (frameOf s .shape .cells) (begins i))));
+          answer = answered ∙ ap Took (h .result);
+        })
+
+    module _ (r : InRange s) (deep : d ≤ s .depth) (l : ℕ) (least : 1 ≤ l)
+        (child : (m : Shared) (u : Thread) → Mending (l + 1) m u (MendReadNode 0) → RestsFrom (5 * (l + 1)) m u) where
+      -- M5: the list goes down to child c, whose copied node is k.
+      module _ (m : Shared) (u : Thread) (h : Mending l m u (MendSwap 0)) (copied : u .copies .first ≡ readNode m (u .node))
+          (higher : l < d) where
+        -- what the exchange leaves of the values: c has the list's, and what lies behind c is as it was
+        module _ (c : ℕ) (v w : Node) (child-of : 2 * u .node ≤ c) (gets : w .first ≡ m .node (u .node) .first) where
+          below : Shared
+          below = effectShared m (Exchange (u .node) v c w)
+
+          value-below : val below c ≡ val m (u .node)
+          unfolding below effectShared valueOf readNode
+          value-below =
+              ap (λ x. pick (eqb x 0) topItem (m .cell x .item))
+              (ap (λ x. x .first) (upd-same (upd (m .node) (u .node) v) c w) ∙ gets)
+
+          values-behind : (x : ℕ) → c < x → val below x ≡ val m x
+          unfolding below effectShared readNode
+          values-behind x b =
+              ap (λ y. valueOf (record { node = y; head = m .cell (y .first) }))
+              (upd-other (upd (m .node) (u .node) v) c x w (λ e. omega arith)
+              ∙ upd-other (m .node) (u .node) x v (λ e. omega (arith, h .some)))
+
+          levels-below : levelsDown (val below) (val below c) (d - (l + 1)) c ≡ levelsDown (val m) (val m (u .node)) (d - (l + 1)) c
+          levels-below =
+              ap (λ x. levelsDown (val below) x (d - (l + 1)) c) value-below
+              ∙ levels-same (val m) (val below) (val m (u .node)) (d - (l + 1)) c (omega (arith, h .some)) values-behind
+
+        exchange-rests : (c : ℕ) (k : Node) → 2 * u .node ≤ c → c ≤ 2 * u .node + 1 → c ≤ nodeCount s → k ≡ m .node c
+            → l + 1 + levelsDown (val m) (val m (u .node)) (d - (l + 1)) c ≡ j
+            → ((x : ℕ) → decide s m u x ≡ exchangeWith s m u 0 c k) → RestsFrom (5 * l + 4) m u
+        unfolding exchangeWith exchangeAt nodeAndChildSame isNode effectShared plan pick mending atPlace withNode updated below readNode
+        exchange-rests c k lo hi there second on decides =
+            let n = u .copies .first .node in
+            let v = updated n (k .first) 0 in
+            let w = updated k (n .first) 1 in
+            let z = h .some in
+            let same : n ≡ m .node (u .node) = ap (λ q. q .node) copied in
+            let gets : w .first ≡ m .node (u .node) .first = ap (λ x. x .first) same in
+            moves (5 * l + 4) m u (omega arith) (isSpent n || isSpent k) (plan (Exchange (u .node) v c w) (mending u c 0) Moved)
+            (λ x. decides x
+            ∙ rw (ne-eqb (u .node) 0 (λ e. omega arith), is-between 1 c (nodeCount s) (omega arith) there, same-copy same, same-copy second) refl)
+            refl
+            (5 * (l + 1)) (omega arith)
+            (child (effectShared m (Exchange (u .node) v c w)) (mending u c 0)
+            (record {
+              place = refl;
+              after = h .after;
+              result = h .result;
+              some = omega arith;
+              few = there;
+              at-level = level-child (u .node) c z lo hi (omega (arith, sizes s (r .depth-most))) ∙ ap (λ y. y + 1) (h .at-level);
+              above = omega arith;
+              depth = h .depth;
+              dirty = ap (λ y. y .dirty) (upd-same (upd (m .node) (u .node) v) c w);
+              clean = clean-but (m .node) (u .node) c v w refl (h .clean);
+              cells = h .cells;
+              list = ap (λ y. y .first) (upd-same (upd (m .node) (u .node) v) c w) ∙ gets ∙ h .list;
+              goes = ap (λ y. l + 1 + y) (levels-below c v w lo gets) ∙ on;
+            }))
+
+        swap-rests : 2 * u .node + 1 ≤ nodeCount s → u .copies .second ≡ readNode m (2 * u .node)
+            → u .copies .third ≡ readNode m (2 * u .node + 1)
+            → l + 1 + levelsDown (val m) (val m (u .node)) (d - (l + 1)) (lesserChild (val m) (u .node)) ≡ j → RestsFrom (5 * l + 4) m u
+        unfolding decide
+        swap-rests there second third on =
+            let c = lesserChild (val m) (u .node) in
+            let is = lesser-is-child (val m) (u .node) in
+            exchange-rests c (m .node c) (is .0) (is .1) (omega (arith, is)) refl on
+            (λ x. ap (decideAt s m u x) (h .place) ∙ swaps-as-placed m u second third s 0)
+
+      -- below a level above d there are children
+      children-there : (m : Shared) (u : Thread) (p : Place) → Mending l m u p → l < d → 2 * u .node + 1 ≤ nodeCount s
+      children-there m u p h higher =
+          let g = level-holds (u .node) (h .some) (omega (arith, h .few, sizes s (r .depth-most))) in
+          let e : l + 1 - 1 ≡ l = omega arith in
+          let q : 2 ^ level (u .node) ≡ 2 ^ l = ap (λ j. 2 ^ j) (h .at-level) in
+          omega (
+            arith,
+            g .most,
+            q,
+            ap (λ j. 2 ^ j) e,
+            twice (l + 1) (omega arith),
+            pow-mono {i = l + 1} {j = s .depth} (omega arith),
+          )
+
+      -- M4, M3, M2 and M1
+      right-rests : (m : Shared) (u : Thread) → Mending l m u (MendReadRight 0) → u .copies .first ≡ readNode m (u .node)
+          → u .copies .second ≡ readNode m (2 * u .node) → l < d → RestsFrom (5 * l + 3) m u
+      unfolding decide mendReadRight childrenRead isNode onTo pick atPlace withThird withCopies readNode
+      right-rests m u h copied second higher = go (childLess v) decides (sym less)
+        where
+          v : Thread
+          v = withThird u (readNode m (2 * u .node + 1))
+
+          there : 2 * u .node + 1 ≤ nodeCount s
+          there = children-there m u (MendReadRight 0) h higher
+
+          decides : (c : ℕ) → decide s m u c ≡ pick (childLess v) (onTo v (MendSwap 0)) (onTo v (MendClean 0))
+          decides c =
+              ap (decideAt s m u c) (h .place)
+              ∙ rw (
+                ne-eqb (u .node) 0 (λ e. omega (arith, h .some)),
+                is-between 1 (2 * u .node + 1) (nodeCount s) (omega arith) there,
+                not-dirty (ap (λ q. q .node) second) (h .clean (2 * u .node) (λ e. omega (arith, h .some))),
+                not-dirty {n = m .node (2 * u .node + 1)} refl (h .clean (2 * u .node + 1) (λ e. omega arith)),
+              ) refl
+
+          less : childLess v ≡ lessBelow (val m (u .node)) (val m (2 * u .node)) (val m (2 * u .node + 1))
+          less = tests-as-placed m v second refl copied
+
+          value : Item
+          value = val m (u .node)
+
+          -- the levels from here, one by one
+          one-down : levelsDown (val m) value (d - l) (u .node) ≡ levelsDown (val m) value (suc (d - (l + 1))) (u .node)
+          one-down = ap (λ k. levelsDown (val m) value k (u .node)) (omega arith)
+
+          go : (q : Bool) → ((c : ℕ) → decide s m u c ≡ pick q (onTo v (MendSwap 0)) (onTo v (MendClean 0)))
+              → lessBelow (val m (u .node)) (val m (2 * u .node)) (val m (2 * u .node + 1)) ≡ q → RestsFrom (5 * l + 3) m u
+          go true e t =
+              let on = one-down ∙ goes-down (val m) value (d - (l + 1)) (u .node) t in
+              goes-on (5 * l + 3) (5 * l + 4) (omega arith) m u (atPlace v (MendSwap 0)) (omega (arith, on, h .goes)) e
+              (swap-rests m (atPlace v (MendSwap 0)) (kept h (atPlace v (MendSwap 0)) (MendSwap 0) refl refl refl refl)
+              copied higher there second refl (omega (arith, on, h .goes)))
+          go false e t =
+              let on = one-down ∙ rests-there (val m) value (d - (l + 1)) (u .node) t in
+              goes-on (5 * l + 3) (5 * l + 4) (omega arith) m u (atPlace v (MendClean 0)) (omega (arith, on, h .goes)) e
+              (clean-rests l (5 * l + 4) m (atPlace v (MendClean 0))
+              (kept h (atPlace v (MendClean 0)) (MendClean 0) refl refl refl refl)
+              copied (omega (arith, on, h .goes)) (omega (arith, on, h .goes)))
+
+      left-rests : (m : Shared) (u : Thread) → Mending l m u (MendReadLeft 0) → u .copies .first ≡ readNode m (u .node) → l < d
+          → RestsFrom (5 * l + 2) m u
+      unfolding decide mendReadLeft isNode onTo pick atPlace withSecond withCopies readNode
+      left-rests m u h copied higher =
+          let v = atPlace (withSecond u (readNode m (2 * u .node))) (MendReadRight 0) in
+          let there = children-there m u (MendReadLeft 0) h higher in
+          goes-on (5 * l + 2) (5 * l + 3) (omega arith) m u v (omega (arith, h .goes))
+          (λ c. ap (decideAt s m u c) (h .place)
+          ∙ rw (is-between 1 (2 * u .node) (nodeCount s) (omega (arith, h .some)) (omega arith)) refl)
+          (right-rests m v (kept h v (MendReadRight 0) refl refl refl refl) copied refl higher)
+
+      depth-rests : (m : Shared) (u : Thread) → Mending l m u (MendReadDepth 0) → u .copies .first ≡ readNode m (u .node)
+          → RestsFrom (5 * l + 1) m u
+      unfolding decide mendReadDepth depthRead onTo pick atPlace withDepth readNode
+      depth-rests m u h copied = go (ℕ-discrete l d)
+        where
+          v : Place → Thread
+          v p = atPlace (withDepth u (m .depth)) p
+
+          known : (c : ℕ) → decide s m u c ≡ pick (eqb (level (u .node)) (m .depth)) (moved (v (MendClean 0)))
+              (moved (v (MendReadLeft 0)))
+          known c =
+              ap (decideAt s m u c) (h .place)
+              ∙ rw (still-dirty (ap (λ q. q .node) copied) (h .dirty), ne-eqb (u .node) 0 (λ e. omega (arith, h .some))) refl
+
+          go : Dec (l ≡ d) → RestsFrom (5 * l + 1) m u
+          go (yes e) =
+              let none : levelsDown (val m) (val m (u .node)) (d - l) (u .node) ≡ 0 =
+              ap (λ k. levelsDown (val m) (val m (u .node)) k (u .node)) (omega arith) ∙ rests-deepest (val m) (val m (u .node)) (u .node)
+              in
+              goes-on (5 * l + 1) (5 * l + 2) (omega arith) m u (v (MendClean 0)) (omega (arith, h .goes))
+              (λ c. known c ∙ rw (eq-eqb (level (u .node)) (m .depth) (h .at-level ∙ e ∙ sym (h .depth))) refl)
+              (clean-rests l (5 * l + 2) m (v (MendClean 0))
+              (kept h (v (MendClean 0)) (MendClean 0) refl refl refl refl)
+              copied (omega (arith, none, h .goes)) (omega (arith, none, h .goes)))
+          go (no e) =
+              goes-on (5 * l + 1) (5 * l + 2) (omega arith) m u (v (MendReadLeft 0)) (omega (arith, h .above, h .goes))
+              (λ c. known c ∙ rw (ne-eqb (level (u .node)) (m .depth) (λ z. e (sym (h .at-level) ∙ z ∙ h .depth))) refl)
+              (left-rests m (v (MendReadLeft 0))
+              (kept h (v (MendReadLeft 0)) (MendReadLeft 0) refl refl refl refl)
+              copied (omega (arith, h .above)))
+
+      node-rests : (m : Shared) (u : Thread) → Mending l m u (MendReadNode 0) → RestsFrom (5 * l) m u
+      unfolding decide mendReadNode onTo pick atPlace withFirst withCopies readNode
+      node-rests m u h =
+          let v = atPlace (withFirst u (readNode m (u .node))) (MendReadDepth 0) in
+          goes-on (5 * l) (5 * l + 1) refl m u v (omega (arith, h .above, h .goes))
+          (λ c. ap (decideAt s m u c) (h .place) ∙ rw (ne-eqb (u .node) 0 (λ e. omega (arith, h .some))) refl)
+          (depth-rests m v (kept h v (MendReadDepth 0) refl refl refl refl) refl)
+
+    -- by the levels left below l
+    mending-rests : InRange s → d ≤ s .depth → (k l : ℕ) → l + k ≡ d → 1 ≤ l → (m : Shared) (u : Thread) → Mending l m u (MendReadNode 0)
+        → RestsFrom (5 * l) m u
+    mending-rests r deep zero l e least = node-rests r deep l least (λ m u h. absurd (omega (arith, h .above)))
+    mending-rests r deep (suc k) l e least = node-rests r deep l least (mending-rests r deep k (l + 1) (omega arith) (omega arith))
+
+    -- E2 and E1, with the root not empty and every node clean
+    module _ (r : InRange s) (some : 1 ≤ d) (deep : d ≤ s .depth) (m : Shared) (depth : m .depth ≡ d)
+        (full : m .node 1 .first ≡ 0 → ⊥) (clean : (x : ℕ) → m .node x .dirty ≡ 0)
+        (taken : m .cell (m .node 1 .first) .item ≡ rootItem (frameOf s) b₀) (begins : m .cell (m .node 1 .first) .next ≡ first)
+        (cells : popped m .cell ≡ cell) (goes : 1 + levelsDown (val (popped m)) (val (popped m) 1) (d - 1) 1 ≡ j) where
+      head-rests : (u : Thread) → u .place ≡ RemoveHead → u .copies .first ≡ readNode m 1 → RestsFrom 4 m u
+      unfolding decide removeHead headRemoved effectShared plan pick mending atPlace withNode withAfter withResult updated level digits readNode popped withoutHead
+      head-rests u place copied =
+          let q = u .copies .first in
+          let v = updated (q .node) (q .head .next) 1 in
+          let w = mending (withAfter (withResult u (q .head .item)) 1) 1 0 in
+          let root : m .node 1 .first ≡ q .node .first = ap (λ x. x .node .first) (sym copied) in
+          moves 4 m u (omega (arith, goes)) (isSpent (q .node)) (plan (Pop v (q .node .first)) w Moved)
+          (λ c. ap (decideAt s m u c) place
+          ∙ rw (same-copy (ap (λ x. x .node) copied), ne-eqb (q .node .first) 0 (λ z. full (root ∙ z))) refl)
+          refl 5 refl
+          (subst (λ x. RestsFrom 5 x w)
+          (ap (λ x. effectShared m (Pop (updated (x .node) (x .head .next) 1) (x .node .first))) (sym copied))
+          (mending-rests r deep (d - 1) 1 (omega arith) (omega arith) (popped m) w
+          (record {
+            place = refl;
+            after = refl;
+            result = ap (λ x. x .head .item) copied ∙ taken;
+            some = omega arith;
+            few = omega (arith, pow-mono {i = 1} {j = s .depth} (r .depth-least));
+            at-level = refl;
+            above = some;
+            depth = depth;
+            dirty = ap (λ n. n .dirty) (upd-same (m .node) 1 (updated (m .node 1) (m .cell (m .node 1 .first) .next) 1));
+            clean = λ x n.
+                ap (λ y. y .dirty) (upd-other (m .node) 1 x (updated (m .node 1) (m .cell (m .node 1 .first) .next) 1) n) ∙ clean x;
+            cells = cells;
+            list = ap (λ n. n .first) (upd-same (m .node) 1 (updated (m .node 1) (m .cell (m .node 1 .first) .next) 1)) ∙ begins;
+            goes = goes;
+          })))
+
+      pub root-rests : (u : Thread) → u .place ≡ ReadRoot → RestsFrom 3 m u
+      unfolding decide readRoot rootRead onTo pick atPlace withFirst withCopies readNode
+      root-rests u place =
+          let v = atPlace (withFirst u (readNode m 1)) RemoveHead in
+          goes-on 3 4 refl m u v (omega (arith, goes))
+          (λ c. ap (decideAt s m u c) place ∙ rw (not-dirty {n = m .node 1} refl (clean 1), ne-eqb (m .node 1 .first) 0 full) refl)
+          (head-rests v refl refl)

@@ -1,0 +1,255 @@
+-- A take alone on a laid-out region costs its figure, and so at most 5 × d accesses. The idle and refused turns of others leave it alone;
+-- and the root's head stands in no other list, so that E2, which frees its cell, leaves every value that the figure goes by. Assumes nothing.
+use Prim.Native.Nat.{ℕ, suc, _+_, _-_, _≤_, _<_}
+use native.Mathlib.Decide.{ℕ-discrete}
+use native.Mathlib.Omega.{arith}
+use mathlib.Core.Path.{_≡_, refl, sym, ap, subst, _∙_}
+use mathlib.Core.Bool.{Bool, true, false}
+use mathlib.Core.List.{List, [], _∷_}
+use borrow.Author.Tests.{eq-eqb, eqb-true, eqb-false}
+use lib.Dec.{eqb}
+use lib.ListN.{length}
+use Rattle.region.specs.Answer.{done}
+use Rattle.region.specs.Frame.{frameOf}
+use Rattle.region.specs.Pick.{pick}
+use Rattle.region.specs.Record.{emptyNode}
+use Rattle.region.specs.Shape.{between, nodeCount}
+use Rattle.region.specs.Shared.{Shared, loadEntry, nodeIn, setThreadIn, sharedIn, threadIn}
+use Rattle.region.specs.Thread.{atPlace, begunTake}
+use Rattle.region.specs.declared.answer.Answer.{Answer}
+use Rattle.region.specs.declared.answer.Answer.the-variants.{Moved, Idle, Inserted, Took, Empty, Refused}
+use Rattle.region.specs.declared.frame.Frame.{Frame}
+use Rattle.region.specs.declared.shape.Shape.{Shape}
+use Rattle.region.proofs.Frames.{frame-parted}
+use Rattle.region.proofs.Picks.{upd-same, upd-other}
+use Rattle.region.proofs.Shapes.{between-least, between-most}
+use Rattle.region.proofs.Views.{shared-setThread, threads-setThread}
+use Rattle.access.specs.Effect.{effectShared}
+use Rattle.access.specs.Order.{val, valueOf}
+use Rattle.access.specs.Read.{readNode, updated}
+use Rattle.readable.specs.Readable.{readable, shapeIn}
+use Rattle.readable.proofs.Laws.{good}
+use Rattle.readable.proofs.Stores.{good-thread, good-within, thread-fit}
+use Rattle.machine.specs.Begin.{frameIn, takeBytes, takeRefusal}
+use Rattle.machine.specs.Run.{Turn, accessesOf}
+use Rattle.machine.specs.Turn.{ends, staysPut, turnAnswer, turnBytes}
+use Rattle.cost.specs.Cost.{levelsDown, restLevel, takeCost, withoutHead}
+use Rattle.cost.proofs.Laws.{cost-ceiling, cost-counted, cost-empty, cost-full, levels-same, rest-most}
+use Rattle.preserved.proofs.Proved.{begun-take-good, take-good, take-passed}
+use Rattle.bag.specs.Alone.{AllClean, EndsAt, NoOtherMoves, NoneSpent, Step, last, moved-then, stepOf, stepsOf, takeSteps}
+use Rattle.bag.specs.History.{rootItem}
+use Rattle.bag.specs.TakeCost.{LastAccess, TakesCost, TakesEnd, listFrom, listOf}
+use Rattle.bag.proofs.Alone.{Rests, alone, empty-ends, end, popped, root-rests}
+use Rattle.bag.proofs.Carried.{turn-stays}
+use Rattle.bag.proofs.Chains.{list-behind, next-apart}
+use Rattle.bag.proofs.Effects.{Mound, PopAsks, in-tree, pop-others, root-there}
+use Rattle.bag.proofs.Held.{few-cells, node-chain}
+
+length-alone : (f : Frame) (t : ℕ) (cs b : List ℕ) → length (alone f b t cs) ≡ length cs
+unfolding alone
+length-alone f t [] b = refl
+length-alone f t (c ∷ cs) b = ap suc (length-alone f t cs (turnBytes f b t c))
+
+-- the choices of thread t's turns among these
+choicesOf : ℕ → List Turn → List ℕ
+choicesOf t [] = []
+choicesOf t (u ∷ us) = pick (eqb (u .thread) t) (u .choice ∷ choicesOf t us) (choicesOf t us)
+
+no-access : (a : Answer) → accessesOf a ≡ 0 → staysPut a ≡ true
+no-access Moved h = absurd (omega arith)
+no-access Idle h = refl
+no-access Inserted h = absurd (omega arith)
+no-access (Took i) h = absurd (omega arith)
+no-access Empty h = absurd (omega arith)
+no-access (Refused n) h = refl
+
+-- turns of others that make no access leave thread t alone
+module _ (s : Shape) (t : ℕ) where
+  abbrev f : Frame
+  f = frameOf s
+
+  others-aside : (us : List Turn) (b : List ℕ) → NoOtherMoves f b t us → stepsOf f b t us ≡ alone f b t (choicesOf t us)
+  unfolding stepsOf alone choicesOf pick turnAnswer
+  others-aside [] b h = refl
+  others-aside (u ∷ us) b h = go (eqb (u .thread) t) refl (others-aside us (turnBytes f b (u .thread) (u .choice)) (h .1))
+    where
+      rest : List ℕ → List Step
+      rest b′ = stepsOf f b′ t us
+
+      go : (q : Bool) → eqb (u .thread) t ≡ q
+          → rest (turnBytes f b (u .thread) (u .choice)) ≡ alone f (turnBytes f b (u .thread) (u .choice)) t (choicesOf t us)
+          → pick q (stepOf f b (u .thread) (u .choice) ∷ rest (turnBytes f b (u .thread) (u .choice)))
+          (rest (turnBytes f b (u .thread) (u .choice)))
+          ≡ alone f b t (pick q (u .choice ∷ choicesOf t us) (choicesOf t us))
+      go true e more =
+          ap (λ xs. stepOf f b (u .thread) (u .choice) ∷ xs) more
+          ∙ ap (λ k. stepOf f b k (u .choice) ∷ alone f (turnBytes f b k (u .choice)) t (choicesOf t us)) (eqb-true (u .thread) t e)
+      go false e more =
+          more
+          ∙ ap (λ b′. alone f b′ t (choicesOf t us))
+          (turn-stays s b (u .thread) (u .choice) (no-access (turnAnswer f b (u .thread) (u .choice)) (h .0 (eqb-false (u .thread) t e))))
+
+-- what holds of the last turn may be weakened
+ends-so : {P Q : Step → Type 0} {n : ℕ} {xs : List Step} → ((x : Step) → P x → Q x) → EndsAt P n xs → EndsAt Q n xs
+ends-so h (last {x = x} p) = last (h x p)
+ends-so h (moved-then e more) = moved-then e (ends-so h more)
+
+-- A take begun on a readable region.
+module _ (b : List ℕ) (t : ℕ) (choices : List ℕ) (r : readable b ≡ true) (e : takeRefusal b t ≡ done) where
+  t-least : 1 ≤ t
+  t-least = between-least 1 t (shapeIn b .threads) (take-passed b t e .thread)
+
+  t-most : t ≤ shapeIn b .threads
+  t-most = between-most 1 t (shapeIn b .threads) (take-passed b t e .thread)
+
+  begun : takeBytes b t ≡ setThreadIn (frameIn b) b t (begunTake (threadIn (frameIn b) b t))
+  unfolding takeBytes pick
+  begun = rw (eq-eqb (takeRefusal b t) done e) refl
+
+  begun-shared : sharedIn (frameIn b) (takeBytes b t) ≡ sharedIn (frameIn b) b
+  begun-shared =
+      ap (sharedIn (frameIn b)) begun
+      ∙ shared-setThread (frameIn b) b (good-within (shapeIn b) b (good b r)) (frame-parted (shapeIn b)) t
+      (begunTake (threadIn (frameIn b) b t))
+
+  begun-thread : threadIn (frameIn b) (takeBytes b t) t ≡ begunTake (threadIn (frameIn b) b t)
+  unfolding frameOf
+  begun-thread =
+      let s = shapeIn b in
+      let g = good b r in
+      let u = begunTake (threadIn (frameIn b) b t) in
+      ap (λ x. threadIn (frameIn b) x t) begun
+      ∙ ap (λ h. h t)
+      (threads-setThread (frameIn b) b (good-within s b g) (frame-parted s) t u t-least t-most
+      (thread-fit s (g .range) u (begun-take-good s (threadIn (frameIn b) b t) (good-thread s b g t))))
+      ∙ upd-same (threadIn (frameIn b) b) t u
+
+  module _ (clean : AllClean (frameIn b) b) where
+    past : (x : ℕ) → between 1 x (nodeCount (shapeIn b)) ≡ false → nodeIn (frameIn b) b x ≡ emptyNode
+    unfolding nodeIn loadEntry frameOf pick
+    past x n = rw n refl
+
+    -- a number that no node has reads as a clean one
+    clean-all : (x : ℕ) → nodeIn (frameIn b) b x .dirty ≡ 0
+    unfolding frameOf
+    clean-all x = go (between 1 x (nodeCount (shapeIn b))) refl
+      where
+        go : (q : Bool) → between 1 x (nodeCount (shapeIn b)) ≡ q → nodeIn (frameIn b) b x .dirty ≡ 0
+        go true h = clean x (between-least 1 x (nodeCount (shapeIn b)) h) (between-most 1 x (nodeCount (shapeIn b)) h)
+        go false h = ap (λ n. n .dirty) (past x h)
+
+    -- an empty root: 1 access
+    take-empty : nodeIn (frameIn b) b 1 .first ≡ 0 → 1 ≤ length choices
+        → EndsAt (λ x. x .answer ≡ Empty) 1 (alone (frameIn b) (takeBytes b t) t choices)
+    unfolding sharedIn begunTake atPlace
+    take-empty none long =
+        empty-ends (shapeIn b) t t-least t-most (sharedIn (frameIn b) b) (begunTake (threadIn (frameIn b) b t)) refl none (clean-all 1)
+        (takeBytes b t) choices begun-shared begun-thread long
+
+    -- any other, with the cells in order
+    module _ (own : ℕ → ℕ) (g : Mound (shapeIn b) (sharedIn (frameIn b) b) own)
+        (full : sharedIn (frameIn b) b .node 1 .first ≡ 0 → ⊥) where
+      abbrev m : Shared
+      m = sharedIn (frameIn b) b
+
+      abbrev c : ℕ
+      c = m .node 1 .first
+
+      abbrev second : ℕ
+      second = m .cell c .next
+
+      some : 1 ≤ c
+      some = omega (arith, full)
+
+      asks : PopAsks m (updated (m .node 1) second 1) c
+      unfolding sharedIn
+      asks = record { clean = clean-all 1; head = refl; cell = some; value = refl }
+
+      -- E2 leaves the value of every other node, and the root that of its second cell
+      values-kept : (x : ℕ) → 1 < x → val (popped m) x ≡ val m x
+      unfolding popped withoutHead effectShared
+      values-kept x l = ap valueOf (pop-others (shapeIn b) m own g (updated (m .node 1) second 1) c asks x (omega arith) (λ e. omega arith))
+
+      root-kept : val (popped m) 1 ≡ val (withoutHead m) 1
+      unfolding popped withoutHead readNode updated
+      root-kept =
+          let begins : withoutHead m .node 1 .first ≡ second = ap (λ x. x .first) (upd-same (m .node) 1 (updated (m .node 1) second 1)) in
+          ap (λ x. valueOf (record { node = withoutHead m .node 1; head = x }))
+          (upd-other (m .cell) c (withoutHead m .node 1 .first) _
+          (λ z. next-apart (node-chain (shapeIn b) m own (g .held) 1 (omega arith)) some (sym begins ∙ z)))
+
+      goes : 1 + levelsDown (val (popped m)) (val (popped m) 1) (m .depth - 1) 1 ≡ restLevel m
+      unfolding restLevel
+      goes =
+          ap (λ x. 1 + x)
+          (ap (λ v. levelsDown (val (popped m)) v (m .depth - 1) 1) root-kept
+          ∙ levels-same (val m) (val (popped m)) (val (withoutHead m) 1) (m .depth - 1) 1 (omega arith) values-kept)
+
+      behind : listOf (frameIn b) b 1
+          ≡ record { cell = nodeIn (frameIn b) b 1 .first; item = rootItem (frameIn b) b }
+          ∷ listFrom (popped m .cell) (frameIn b .shape .cells) second
+      unfolding popped withoutHead sharedIn frameOf
+      behind =
+          list-behind (popped m .cell) (shapeIn b .cells) (node-chain (shapeIn b) m own (g .held) 1 (omega arith)) some
+          (λ d n. upd-other (m .cell) c d _ n)
+          (few-cells (shapeIn b) m own (g .held) 1 (omega arith) (in-tree (shapeIn b) m own g 1 (root-there (shapeIn b) m own g)))
+
+      take-rests : end (shapeIn b) t t-least t-most b (m .depth) (restLevel m) (popped m .cell) second behind ≤ 3 + length choices
+          → NoneSpent (alone (frameIn b) (takeBytes b t) t choices)
+          → Rests (shapeIn b) t t-least t-most b (m .depth) (restLevel m) (popped m .cell) second behind 3 (takeBytes b t) choices
+      unfolding begunTake atPlace sharedIn
+      take-rests long spent =
+          let k = good b r in
+          root-rests (shapeIn b) t t-least t-most b (m .depth) (restLevel m) (popped m .cell) second behind (k .range) (g .depth-least)
+          (g .depth-most) m refl full clean-all refl refl refl goes (begunTake (threadIn (frameIn b) b t)) refl
+          (takeBytes b t) choices (take-good b t k) begun-shared begun-thread long spent
+
+-- The figure, on a readable region whose cells are in order.
+pub take-costs : (b : List ℕ) → readable b ≡ true → (own : ℕ → ℕ) → Mound (shapeIn b) (sharedIn (frameIn b) b) own → TakesCost b
+unfolding sharedIn
+take-costs b r own g t turns a = subst (EndsAt (LastAccess b t) (takeCost m)) (sym same) (go (ℕ-discrete (nodeIn (frameIn b) b 1 .first) 0))
+  where
+    m : Shared
+    m = sharedIn (frameIn b) b
+
+    choices : List ℕ
+    choices = choicesOf t turns
+
+    same : takeSteps b t turns ≡ alone (frameIn b) (takeBytes b t) t choices
+    same = others-aside (shapeIn b) t turns (takeBytes b t) (a .quiet)
+
+    enough : takeCost m ≤ length choices
+    enough = subst (λ n. takeCost m ≤ n) (ap length same ∙ length-alone (frameIn b) t choices (takeBytes b t)) (a .enough)
+
+    unspent : NoneSpent (alone (frameIn b) (takeBytes b t) t choices)
+    unspent = subst NoneSpent same (a .unspent)
+
+    go : Dec (nodeIn (frameIn b) b 1 .first ≡ 0) → EndsAt (LastAccess b t) (takeCost m) (alone (frameIn b) (takeBytes b t) t choices)
+    go (yes none) =
+        let e = cost-empty m none in
+        subst (λ n. EndsAt (LastAccess b t) n (alone (frameIn b) (takeBytes b t) t choices)) (sym e)
+        (ends-so (λ x h. record { empty = λ z. h; mended = λ full. absurd (full none) })
+        (take-empty b t choices r (a .begun) (a .clean) none (omega (arith, e, enough))))
+    go (no full) =
+        let e = cost-full m full in
+        let k = cost-counted (m .depth) (restLevel m) (rest-most m (g .depth-least)) in
+        let h = take-rests b t choices r (a .begun) (a .clean) own g full (omega (arith, e, k, enough)) unspent in
+        subst (λ n. EndsAt (LastAccess b t) n (alone (frameIn b) (takeBytes b t) t choices)) (omega (arith, e, k, h .exact))
+        (ends-so (λ x l. record { empty = λ z. absurd (full z); mended = λ n. l }) (h .rests))
+
+-- The ceiling follows: the figure is at most 5 × d, and the last access ends the take.
+pub costs-end : (b : List ℕ) → 1 ≤ sharedIn (frameIn b) b .depth → TakesCost b → TakesEnd b
+costs-end b some costs t turns a =
+    let m = sharedIn (frameIn b) b in
+    let c = cost-ceiling m some in (
+      takeCost m,
+      c .0,
+      c .1,
+      ends-so (λ x h. last-ends x h (ℕ-discrete (nodeIn (frameIn b) b 1 .first) 0))
+          (costs t turns
+          (record { begun = a .begun; clean = a .clean; quiet = a .quiet; unspent = a .unspent; enough = omega (arith, a .enough) })),
+    )
+  where
+    last-ends : (x : Step) → LastAccess b t x → Dec (nodeIn (frameIn b) b 1 .first ≡ 0) → ends (x .answer) ≡ true
+    last-ends x h (yes none) = ap ends (h .empty none)
+    last-ends x h (no full) = ap ends (h .mended full .answer)

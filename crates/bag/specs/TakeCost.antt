@@ -1,0 +1,67 @@
+-- What a take of one item costs (document 02, request 3): it ends in exactly as many accesses as `takeCost` says of the region before it, and
+-- its last access leaves the root's list without its head at the level that the figure goes by. The ceiling of document 01 follows. Proved
+-- in proofs/TakeCost.antt.
+use Prim.Native.Nat.{ℕ, zero, suc, _*_, _≤_}
+use mathlib.Core.Path.{_≡_}
+use mathlib.Core.Bool.{true}
+use mathlib.Core.List.{List, [], _∷_}
+use lib.Dec.{eqb}
+use Rattle.region.specs.Level.{level}
+use Rattle.region.specs.Pick.{pick}
+use Rattle.region.specs.Shared.{cellIn, nodeIn, sharedIn, threadIn}
+use Rattle.region.specs.declared.answer.Answer.the-variants.{Took, Empty}
+use Rattle.region.specs.declared.frame.Frame.{Frame}
+use Rattle.region.specs.declared.place.Place.the-variants.{MendClean}
+use Rattle.region.specs.declared.record.Cell.{Cell}
+use Rattle.region.specs.declared.record.Item.{Item}
+use Rattle.cost.specs.Cost.{restLevel, takeCost}
+use Rattle.machine.specs.Begin.{frameIn}
+use Rattle.machine.specs.Run.{Turn}
+use Rattle.machine.specs.Turn.{ends}
+use Rattle.bag.specs.Alone.{AllClean, Alone, EndsAt, Step, takeSteps}
+use Rattle.bag.specs.History.{rootItem}
+
+-- a list: its cells with their items, from cell c by next cells to 0, at most n of them
+pub record Listed : Type 0 where
+  pub cell : ℕ
+  pub item : Item
+
+unfoldable pub listFrom : (ℕ → Cell) → ℕ → ℕ → List Listed
+listFrom cell zero c = []
+listFrom cell (suc n) c = pick (eqb c 0) [] (record { cell = c; item = cell c .item } ∷ listFrom cell n (cell c .next))
+
+-- node n's list
+abbrev pub listOf : Frame → List ℕ → ℕ → List Listed
+listOf f b n = listFrom (cellIn f b) (f .shape .cells) (nodeIn f b n .first)
+
+-- "its last mending leaves the list at level j": what x does, the last access of a take that thread t began on the region b
+pub record LeavesList (f : Frame) (b : List ℕ) (t j : ℕ) (x : Step) : Type 0 where
+  pub node : ℕ
+  pub at-level : level node ≡ j
+  -- It is M6 of that node, the only dirty one, and all are clean afterwards. The list is known by the dirty mark, since E2 and M5 pass both
+  -- on together: so an empty list, which has no cell to be known by, is told from those of all other empty nodes.
+  pub place : threadIn f (x .before) t .place ≡ MendClean 0
+  pub mends : threadIn f (x .before) t .node ≡ node
+  pub dirty : nodeIn f (x .before) node .dirty ≡ 1
+  pub others : (n : ℕ) → (n ≡ node → ⊥) → nodeIn f (x .before) n .dirty ≡ 0
+  pub clean : AllClean f (x .after)
+  -- The list that stands there afterwards is the root's list without its head, and the head is the answer.
+  pub list : listOf f b 1 ≡ record { cell = nodeIn f b 1 .first; item = rootItem f b } ∷ listOf f (x .after) node
+  pub answer : x .answer ≡ Took (rootItem f b)
+
+-- the last access of a take begun on the region b: it reads an empty root, or ends the last mending
+pub record LastAccess (b : List ℕ) (t : ℕ) (x : Step) : Type 0 where
+  pub empty : nodeIn (frameIn b) b 1 .first ≡ 0 → x .answer ≡ Empty
+  pub mended : (nodeIn (frameIn b) b 1 .first ≡ 0 → ⊥) → LeavesList (frameIn b) b t (restLevel (sharedIn (frameIn b) b)) x
+
+-- "a take of one item begun at depth d ends in exactly" so many accesses
+abbrev pub TakesCost : List ℕ → Type 0
+TakesCost b =
+    (t : ℕ) (turns : List Turn) → Alone b t turns (takeCost (sharedIn (frameIn b) b))
+    → EndsAt (LastAccess b t) (takeCost (sharedIn (frameIn b) b)) (takeSteps b t turns)
+
+-- "a take begun at depth d ends in at most 5 × d accesses"
+abbrev pub TakesEnd : List ℕ → Type 0
+TakesEnd b =
+    (t : ℕ) (turns : List Turn) → Alone b t turns (5 * sharedIn (frameIn b) b .depth)
+    → (n : ℕ) × (1 ≤ n) × (n ≤ 5 * sharedIn (frameIn b) b .depth) × EndsAt (λ x. ends (x .answer) ≡ true) n (takeSteps b t turns)
