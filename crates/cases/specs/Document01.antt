@@ -5,12 +5,11 @@ use mathlib.Core.List.{List, [], _∷_}
 use Rattle.region.specs.Answer.{done, badShape, badLength, badItem, notPermitted, noFreeCell}
 use Rattle.region.specs.declared.answer.Answer.the-variants.{Moved, Idle, Inserted, Took, Empty}
 use Rattle.computes.specs.Computes.{computes}
-use Rattle.cases.specs.Row.{Does, puts, takes, turns, Says, answered, Row, item, Holds, AllHold, shaped, both, callsRow, serves}
+use Rattle.cases.specs.Row.{Does, puts, takes, turns, Says, answered, Row, item, Holds, AllHold, shaped, both, rowOf, callsRow, serves}
 
 -- a layout alone; a refused one leaves the depth's word 0
 abbrev layoutRow : ℕ → ℕ → ℕ → ℕ → ℕ → Row
-layoutRow d c bytes answer depth =
-    record { shape = shaped d c; permissions = both; bytes = bytes; does = []; layout = answer; says = []; depth = depth }
+layoutRow d c bytes answer depth = rowOf (shaped d c) both bytes answer [] [] depth
 
 -- "root 5": a put of 5 by thread 1 on a fresh region, served; and what it says
 abbrev rootFive : List Does → List Does
@@ -109,25 +108,18 @@ crossing-takes =
 -- K* "C 1, D 1: second put while one is begun is 10; begun after a take's E2 passes"
 abbrev last-cell : Row
 last-cell =
-    record {
-      shape = shaped 1 1;
-      permissions = both;
-      bytes = 312;
-      does =
-          puts 1 5 ∷ puts 2 6 ∷ turns (1 ∷ 1 ∷ 1 ∷ 1 ∷ []) ∷ takes 1 ∷ turns (1 ∷ []) ∷ puts 2 6 ∷ turns (1 ∷ []) ∷ puts 2 6 ∷ [];
-      layout = done;
-      says =
-          answered done
-          ∷ answered noFreeCell
-          ∷ serves (Moved ∷ Moved ∷ Moved ∷ Inserted ∷ [])
-          ∷ answered done
-          ∷ serves (Moved ∷ [])
-          ∷ answered noFreeCell
-          ∷ serves (Moved ∷ [])
-          ∷ answered done
-          ∷ [];
-      depth = 1;
-    }
+    rowOf (shaped 1 1) both 312 done
+    (puts 1 5 ∷ puts 2 6 ∷ turns (1 ∷ 1 ∷ 1 ∷ 1 ∷ []) ∷ takes 1 ∷ turns (1 ∷ []) ∷ puts 2 6 ∷ turns (1 ∷ []) ∷ puts 2 6 ∷ [])
+    (answered done
+    ∷ answered noFreeCell
+    ∷ serves (Moved ∷ Moved ∷ Moved ∷ Inserted ∷ [])
+    ∷ answered done
+    ∷ serves (Moved ∷ [])
+    ∷ answered noFreeCell
+    ∷ serves (Moved ∷ [])
+    ∷ answered done
+    ∷ [])
+    1
 
 abbrev pub casesOf01 : List Row
 casesOf01 =
@@ -150,59 +142,59 @@ casesOf01 =
 -- Each row, computed.
 fits-holds : Holds fits
 unfolding computes
-fits-holds = (refl, refl, refl)
+fits-holds = (refl, refl)
 
 short-holds : Holds short
 unfolding computes
-short-holds = (refl, refl, refl)
+short-holds = (refl, refl)
 
 many-cells-holds : Holds many-cells
 unfolding computes
-many-cells-holds = (refl, refl, refl)
+many-cells-holds = (refl, refl)
 
 too-deep-holds : Holds too-deep
 unfolding computes
-too-deep-holds = (refl, refl, refl)
+too-deep-holds = (refl, refl)
 
 greatest-key-holds : Holds greatest-key
 unfolding computes
-greatest-key-holds = (refl, refl, refl)
+greatest-key-holds = (refl, refl)
 
 no-key-holds : Holds no-key
 unfolding computes
-no-key-holds = (refl, refl, refl)
+no-key-holds = (refl, refl)
 
 empty-list-holds : Holds empty-list
 unfolding computes
-empty-list-holds = (refl, refl, refl)
+empty-list-holds = (refl, refl)
 
 first-put-holds : Holds first-put
 unfolding computes
-first-put-holds = (refl, refl, refl)
+first-put-holds = (refl, refl)
 
 then-take-holds : Holds then-take
 unfolding computes
-then-take-holds = (refl, refl, refl)
+then-take-holds = (refl, refl)
 
 then-empty-holds : Holds then-empty
 unfolding computes
-then-empty-holds = (refl, refl, refl)
+then-empty-holds = (refl, refl)
 
 grows-holds : Holds grows
 unfolding computes
-grows-holds = (refl, refl, refl)
+grows-holds = (refl, refl)
 
 crossing-put-holds : Holds crossing-put
 unfolding computes
-crossing-put-holds = (refl, refl, refl)
+crossing-put-holds = (refl, refl)
 
 crossing-takes-holds : Holds crossing-takes
 unfolding computes
-crossing-takes-holds = (refl, refl, refl)
+crossing-takes-holds = (refl, refl)
 
 last-cell-holds : Holds last-cell
 unfolding computes
-last-cell-holds = (refl, refl, refl)
+last-cell-holds = (refl, refl)
 
 pub casesOf01-hold : AllHold casesOf01
 casesOf01-hold = (fits-holds, (short-holds, (many-cells-holds, (too-deep-holds, (greatest-key-holds, (no-key-holds, (empty-list-holds, (first-put-holds, (then-take-holds, (then-empty-holds, (grows-holds, (crossing-put-holds, (crossing-takes-holds, (last-cell-holds, tt))))))))))))))

@@ -4,20 +4,11 @@ use mathlib.Core.Path.{refl}
 use mathlib.Core.List.{List, [], _∷_}
 use Rattle.region.specs.Answer.{done, unreadable}
 use Rattle.computes.specs.Computes.{computes}
-use Rattle.cases.specs.Row.{Does, checks, Says, answered, Row, Holds, AllHold, both, callsRow}
-
--- calls, each with what it answers
-abbrev doesOf : List (Does × ℕ) → List Does
-doesOf [] = []
-doesOf ((d, n) ∷ rest) = d ∷ doesOf rest
-
-abbrev saysOf : List (Does × ℕ) → List Says
-saysOf [] = []
-saysOf ((d, n) ∷ rest) = answered n ∷ saysOf rest
+use Rattle.cases.specs.Row.{Does, checks, answered, Row, Holds, AllHold, both, callsRow, doesOf, saysOf}
 
 -- checks on D 2, C 2, T 2, H 1, laid out: 87 words
 abbrev checksRow : List (Does × ℕ) → Row
-checksRow cs = callsRow both (doesOf cs) (saysOf cs) 1
+checksRow cs = callsRow both (doesOf cs) (saysOf answered cs) 1
 
 -- "Most damaged regions we receive have a bad first word": it is D, 2 here; 13 is out of range
 abbrev bad-first-word : Row
@@ -67,19 +58,19 @@ casesOfRequest4 =
 -- Each row, computed.
 bad-first-word-holds : Holds bad-first-word
 unfolding computes
-bad-first-word-holds = (refl, refl, refl)
+bad-first-word-holds = (refl, refl)
 
 bad-later-word-holds : Holds bad-later-word
 unfolding computes
-bad-later-word-holds = (refl, refl, refl)
+bad-later-word-holds = (refl, refl)
 
 bad-tries-holds : Holds bad-tries
 unfolding computes
-bad-tries-holds = (refl, refl, refl)
+bad-tries-holds = (refl, refl)
 
 bad-waiting-levels-holds : Holds bad-waiting-levels
 unfolding computes
-bad-waiting-levels-holds = (refl, refl, refl)
+bad-waiting-levels-holds = (refl, refl)
 
 pub casesOfRequest4-hold : AllHold casesOfRequest4
 casesOfRequest4-hold = (bad-first-word-holds, (bad-later-word-holds, (bad-tries-holds, (bad-waiting-levels-holds, tt))))

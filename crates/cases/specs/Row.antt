@@ -1,27 +1,31 @@
--- A case: a layout, calls on the region that it leaves, what they answer, and the present depth afterwards.
+-- A case: a layout, calls on the region that it leaves, and what they answer; the present depth is asked at the end.
 use Prim.Native.Nat.{ℕ, _*_}
 use mathlib.Core.Path.{_≡_}
 use mathlib.Core.List.{List, [], _∷_, _++_}
 use lib.ListN.{length, replicate}
 use Rattle.words.specs.Word.{word, wordsAt, setWords}
 use Rattle.region.specs.Answer.{done, answerWords}
+use Rattle.region.specs.Shared.{sharedIn}
 use Rattle.region.specs.declared.answer.Answer.{Answer}
 use Rattle.region.specs.declared.record.Item.{Item}
 use Rattle.region.specs.declared.shape.Shape.{Shape}
+use Rattle.cost.specs.Cost.{takeCost}
 use Rattle.layout.specs.Layout.{layoutRefusal, layoutBytes}
 use Rattle.readable.specs.Readable.{checkAnswer}
-use Rattle.machine.specs.Begin.{putBytes, putRefusal, takeBytes, takeRefusal}
+use Rattle.machine.specs.Begin.{frameIn, putBytes, putRefusal, takeBytes, takeRefusal}
 use Rattle.machine.specs.Run.{runResult}
 
 -- what is called on a laid-out region: a put of a key by a thread, a take, a run of these threads' turns, and a check of a copy with
--- these words from a word on
+-- these words from a word on; and what is asked of it: the cost of a take, and the present depth
 pub data Does : Type 0 where
   puts : ℕ → ℕ → Does
   takes : ℕ → Does
   turns : List ℕ → Does
   checks : ℕ → List ℕ → Does
+  costs : Does
+  depths : Does
 
--- what it answers: a call's number, or the words of a run's answers
+-- what it answers: a number, or the words of a run's answers
 pub data Says : Type 0 where
   answered : ℕ → Says
   served : List ℕ → Says
@@ -35,27 +39,36 @@ abbrev pub schedule : List ℕ → List ℕ
 schedule [] = []
 schedule (t ∷ ts) = t ∷ 0 ∷ 0 ∷ 0 ∷ 0 ∷ 0 ∷ 0 ∷ 0 ∷ schedule ts
 
+-- calls, each with what it says
+abbrev pub doesOf : {A : Type 0} → List (Does × A) → List Does
+doesOf [] = []
+doesOf ((d, x) ∷ rest) = d ∷ doesOf rest
+
+abbrev pub saysOf : {A : Type 0} → (A → Says) → List (Does × A) → List Says
+saysOf says [] = []
+saysOf says ((d, x) ∷ rest) = says x ∷ saysOf says rest
+
 abbrev saidOf : List ℕ → Does → Says
 saidOf b (puts t k) = answered (putRefusal b t (item k))
 saidOf b (takes t) = answered (takeRefusal b t)
 saidOf b (turns ts) = served (wordsAt (runResult b (schedule ts) 1000 (replicate (12 * length ts) 0) .answers) 0 (3 * length ts))
 saidOf b (checks at ws) = answered (checkAnswer (setWords b at ws))
+saidOf b costs = answered (takeCost (sharedIn (frameIn b) b))
+saidOf b depths = answered (word b 4)
 
 abbrev leftBy : List ℕ → Does → List ℕ
 leftBy b (puts t k) = putBytes b t (item k)
 leftBy b (takes t) = takeBytes b t
 leftBy b (turns ts) = runResult b (schedule ts) 1000 (replicate (12 * length ts) 0) .region
 leftBy b (checks at ws) = b
+leftBy b costs = b
+leftBy b depths = b
 
 abbrev said : List ℕ → List Does → List Says
 said b [] = []
 said b (d ∷ ds) = saidOf b d ∷ said (leftBy b d) ds
 
-abbrev left : List ℕ → List Does → List ℕ
-left b [] = b
-left b (d ∷ ds) = left (leftBy b d) ds
-
--- a layout of a slice of zero bytes, then these calls: layout's answer, theirs, and the depth afterwards
+-- a layout of a slice of zero bytes, then these calls: layout's answer, and theirs
 pub record Row : Type 0 where
   pub shape : Shape
   pub permissions : List ℕ
@@ -63,7 +76,6 @@ pub record Row : Type 0 where
   pub does : List Does
   pub layout : ℕ
   pub says : List Says
-  pub depth : ℕ
 
 -- the slice after the row's layout
 abbrev laid : Row → List ℕ
@@ -73,7 +85,6 @@ abbrev pub Holds : Row → Type 0
 Holds r =
     (layoutRefusal (r .shape) (r .permissions) (r .bytes) ≡ r .layout)
     × (said (laid r) (r .does) ≡ r .says)
-    × (word (left (laid r) (r .does)) 4 ≡ r .depth)
 
 abbrev pub AllHold : List Row → Type 0
 AllHold [] = Unit
@@ -86,10 +97,21 @@ shaped d c = record { depth = d; cells = c; threads = 2; threshold = 1 }
 abbrev pub both : List ℕ
 both = 3 ∷ 3 ∷ []
 
+-- a row that asks for the depth at its end
+abbrev pub rowOf : Shape → List ℕ → ℕ → ℕ → List Does → List Says → ℕ → Row
+rowOf s ps bytes answer ds ss depth =
+    record {
+      shape = s;
+      permissions = ps;
+      bytes = bytes;
+      does = ds ++ depths ∷ [];
+      layout = answer;
+      says = ss ++ answered depth ∷ [];
+    }
+
 -- calls on D 2, C 2, with these permissions
 abbrev pub callsRow : List ℕ → List Does → List Says → ℕ → Row
-callsRow ps ds ss depth =
-    record { shape = shaped 2 2; permissions = ps; bytes = 348; does = ds; layout = done; says = ss; depth = depth }
+callsRow ps ds ss depth = rowOf (shaped 2 2) ps 348 done ds ss depth
 
 -- the words of these answers
 abbrev wordsOf : List Answer → List ℕ
