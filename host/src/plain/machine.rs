@@ -11,7 +11,7 @@ use crate::{Answer, Refusal, Shape};
 /// A queue in a region that was found readable, and that every call leaves readable.
 pub struct Machine<'a> {
     shape: Shape,
-    memory: Memory<'a>,
+    pub(super) memory: Memory<'a>,
     threads: &'a mut [ThreadWords],
 }
 

@@ -175,7 +175,7 @@ impl Memory<'_> {
         self.nodes[at as usize - 1] = node.to_words();
     }
 
-    fn cell(&self, cell: u32) -> Cell {
+    pub fn cell(&self, cell: u32) -> Cell {
         Cell::from_words(self.cells[cell as usize - 1])
     }
 }

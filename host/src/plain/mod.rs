@@ -3,8 +3,8 @@
 //!
 //! It shares [`Shape`](crate::Shape), [`Refusal`], [`Answer`] and [`Served`](crate::Served) with the
 //! rest of the crate, and no code with the library. The five calls are functions on a region's
-//! bytes; [`Machine`] is a region that is checked once and then used, and [`turn()`] serves one turn
-//! by itself.
+//! bytes; [`Machine`] is a region that is checked once and then used, [`turn()`] serves one turn by
+//! itself, and [`take_cost()`] tells how many accesses a take would make.
 //!
 //! ```
 //! use mound::{plain, Answer, Refusal, Shape};
@@ -15,9 +15,11 @@
 //! plain::put(&mut region, 1, 5, 9)?;
 //! let answers: Vec<Answer> = (0..4).map(|_| plain::turn(&mut region, 1, 0)).collect();
 //! assert_eq!(answers, [Answer::Moved, Answer::Moved, Answer::Moved, Answer::Inserted]);
+//! assert_eq!(plain::take_cost(&mut region), Ok(5));
 //! # Ok::<(), Refusal>(())
 //! ```
 
+mod cost;
 mod extract;
 mod fields;
 mod insert;
@@ -63,4 +65,13 @@ pub fn turn(region: &mut [u8], thread: u32, choice: u32) -> Answer {
         Ok(mut machine) => machine.turn(thread, choice),
         Err(refusal) => Answer::Refused(refusal),
     }
+}
+
+/// The accesses that a take begun now makes, as [`Machine::take_cost`] says; no byte is changed.
+///
+/// # Errors
+///
+/// [`Refusal::Unreadable`] where the region is not readable.
+pub fn take_cost(region: &mut [u8]) -> Result<u32, Refusal> {
+    Ok(Machine::open(region)?.take_cost())
 }

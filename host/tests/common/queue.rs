@@ -1,9 +1,12 @@
 //! A queue under test: the calls of the plain implementation, and each word of the region.
 
+use std::iter::successors;
+
 use mound::{plain, Answer, Refusal, Shape};
 
 use super::fields::{
-    place, COPIES, FIRST_FREE_CELL, HEADING, NODE, OWN_CELL, PLACE, PRESENT_DEPTH, RECORD, THREAD,
+    place, COPIES, FIRST_FREE_CELL, HEADING, NODE, OWN_CELL, PERMISSION, PLACE, PRESENT_DEPTH,
+    RECORD, THREAD,
 };
 
 /// A key with a tag.
@@ -189,23 +192,56 @@ impl Queue {
         (first_cell != 0).then(|| self.item(first_cell))
     }
 
-    /// The items in the lists of all nodes, in order: each list from its first cell by next cells to
-    /// 0, at most as many as there are cells.
+    /// The cells of a node's list: from its first cell by next cells to 0, at most as many as there
+    /// are cells.
+    pub fn list_of(&self, node: u32) -> impl Iterator<Item = u32> + '_ {
+        let existing = |cell: u32| (cell != 0).then_some(cell);
+        let [first_cell, ..] = self.node(node);
+        let cells = successors(existing(first_cell), move |&cell| existing(self.cell(cell)[2]));
+        cells.take(self.shape().cells as usize)
+    }
+
+    /// The items in the lists of all nodes, in order.
     pub fn items(&self) -> Vec<Item> {
-        let Shape { depth, cells, .. } = self.shape();
-        let mut items = Vec::new();
-        for node in 1..1 << depth {
-            let [mut cell, ..] = self.node(node);
-            for _ in 0..cells {
-                if cell == 0 {
-                    break;
-                }
-                items.push(self.item(cell));
-                [_, _, cell] = self.cell(cell);
-            }
-        }
+        let cells = (1..1 << self.shape().depth).flat_map(|node| self.list_of(node));
+        let mut items: Vec<Item> = cells.map(|cell| self.item(cell)).collect();
         items.sort_unstable();
         items
+    }
+
+    pub fn dirty_nodes(&self) -> impl Iterator<Item = u32> + '_ {
+        (1..1 << self.shape().depth).filter(|&node| self.node(node)[1] == 1)
+    }
+
+    pub fn all_clean(&self) -> bool {
+        self.dirty_nodes().next().is_none()
+    }
+
+    /// The threads that may begin a take: idle, and with the permission.
+    pub fn may_take(&self) -> impl Iterator<Item = u32> + '_ {
+        let permitted = |thread| self.field(thread, PERMISSION) & 2 != 0;
+        (1..=self.shape().threads)
+            .filter(move |&thread| permitted(thread) && self.place(thread) == place::IDLE)
+    }
+
+    /// The figure of a take begun now.
+    pub fn take_cost(&self) -> u32 {
+        plain::take_cost(&mut self.bytes.clone()).expect("a readable region")
+    }
+
+    /// The accesses of a take by that thread while no other moves.
+    pub fn accesses_of_a_take_alone(&self, thread: u32) -> u32 {
+        let mut region = self.bytes.clone();
+        let mut machine = plain::Machine::open(&mut region).expect("a readable region");
+        assert_eq!(machine.take(thread), Ok(()));
+        for accesses in 1..=100 {
+            match machine.turn(thread, 0) {
+                Answer::Moved => {}
+                Answer::Took { .. } | Answer::Empty => return accesses,
+                other => panic!("a take was answered {other:?}"),
+            }
+        }
+        panic!("a take has no end");
     }
 
     fn item(&self, cell: u32) -> Item {

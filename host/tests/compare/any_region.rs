@@ -10,7 +10,7 @@ use crate::fields::place::{E1, E2, I1, I2, I3, I4, I5, I6, I7, I8, IDLE, M1, M2,
 use crate::fields::Words;
 use crate::queue::Queue;
 use crate::random::Random;
-use crate::runs::schedule;
+use crate::runs::run_turns;
 
 /// A readable region; half of its threads have copies that equal their nodes, so that updates
 /// succeed.
@@ -82,7 +82,7 @@ fn is_readable_after_any_turn() {
             answered.insert((before.place(thread), number));
             answers.push(answer);
         }
-        let ran = both::run(random, &mut queue.bytes, &schedule(&turns), u32::MAX, 12 * 6);
+        let ran = run_turns(random, &mut queue, &turns, u32::MAX);
         assert_eq!(ran.answers, answers);
         assert!(queue == by_turns);
     }

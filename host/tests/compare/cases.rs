@@ -1,4 +1,4 @@
-//! The cases of document 01, from A to M.
+//! The cases of document 01, from A to M, and those of request 3.
 
 use mound::Answer::{self, Empty, Idle, Inserted, Moved, Took};
 use mound::{Served, Shape};
@@ -7,7 +7,7 @@ use crate::both::{self, Ran};
 use crate::fields::{place, FIRST_FREE_CELL, PRESENT_DEPTH};
 use crate::queue::{Queue, SMALL};
 use crate::random::Random;
-use crate::runs::schedule;
+use crate::runs::run_turns;
 
 const TOOK_5: Answer = Took { key: 5, tag: 0 };
 
@@ -39,6 +39,13 @@ impl Case {
         case
     }
 
+    /// One of depth 3 at most, in which thread 1 has put these keys with choices 0, 1, 2 and 3.
+    fn holding(keys: [u32; 4]) -> Case {
+        let shape = Shape { depth: 3, cells: 4, ..SMALL };
+        let queue = Queue::open_to_all(shape).holding(&keys.map(|key| (key, 0)));
+        Case { queue, random: Random::new(3) }
+    }
+
     /// Begins a put with tag 0.
     fn put(&mut self, thread: u32, key: u32) -> u32 {
         both::put(&mut self.random, &mut self.queue.bytes, thread, key, 0)
@@ -49,8 +56,13 @@ impl Case {
     }
 
     fn run(&mut self, turns: &[(u32, u32)], limit: u32) -> Ran {
-        let room = 12 * turns.len();
-        both::run(&mut self.random, &mut self.queue.bytes, &schedule(turns), limit, room)
+        run_turns(&mut self.random, &mut self.queue, turns, limit)
+    }
+
+    /// The keys of these nodes' lists.
+    fn keys<const N: usize>(&self, nodes: [u32; N]) -> [Vec<u32>; N] {
+        let key = |cell| self.queue.cell(cell)[0];
+        nodes.map(|node| self.queue.list_of(node).map(key).collect())
     }
 
     /// Runs a turn of each of these threads, with choice 0.
@@ -58,6 +70,15 @@ impl Case {
         let turns: Vec<(u32, u32)> = threads.iter().map(|&thread| (thread, 0)).collect();
         self.run(&turns, u32::MAX).answers
     }
+}
+
+/// A take's figure, the accesses that it makes while no other thread moves, and its answer.
+fn take_alone(mut case: Case) -> (u32, u32, Answer) {
+    let figure = case.queue.take_cost();
+    assert_eq!(case.take(1), 0);
+    let ran = case.run(&[(1, 0); 20], u32::MAX);
+    let accesses = ran.result.expect("a readable region").accesses;
+    (figure, accesses, ran.answers[accesses as usize - 1])
 }
 
 /// Lays out a slice of that length, permissions 3.
@@ -183,4 +204,41 @@ fn case_m_a_limit_of_0() {
     let none = Ran { result: Ok(Served { turns: 0, accesses: 0 }), answers: vec![] };
     assert_eq!(case.run(&[(1, 0)], 0), none);
     assert!(case.queue == before);
+}
+
+#[test]
+fn request_3_an_empty_root_costs_1() {
+    assert_eq!(take_alone(Case::fresh()), (1, 1, Empty));
+}
+
+#[test]
+fn request_3_level_1_at_depth_1_costs_5() {
+    assert_eq!(take_alone(Case::with_root_5()), (5, 5, TOOK_5));
+}
+
+/// The rest of the root's list stays: its first key is 6, and neither child has a lesser one.
+#[test]
+fn request_3_level_1_at_depth_2_costs_7() {
+    let case = Case::holding([7, 6, 5, 6]);
+    assert_eq!(case.queue.word(PRESENT_DEPTH), 2);
+    assert_eq!(case.keys([1, 2, 3]), [vec![5, 6, 7], vec![], vec![6]]);
+    assert_eq!(take_alone(case), (7, 7, TOOK_5));
+}
+
+/// The empty rest goes to the left of two equal children, below which there is nothing.
+#[test]
+fn request_3_level_2_at_depth_3_costs_12() {
+    let case = Case::holding([5, 7, 7, 8]);
+    assert_eq!(case.queue.word(PRESENT_DEPTH), 3);
+    assert_eq!(case.keys([1, 2, 3, 7]), [[5], [7], [7], [8]]);
+    assert_eq!(take_alone(case), (12, 12, TOOK_5));
+}
+
+/// The empty rest goes to the right twice.
+#[test]
+fn request_3_level_3_at_depth_3_costs_15() {
+    let case = Case::holding([5, 7, 9, 8]);
+    assert_eq!(case.queue.word(PRESENT_DEPTH), 3);
+    assert_eq!(case.keys([1, 2, 3, 7]), [[5], [9], [7], [8]]);
+    assert_eq!(take_alone(case), (15, 15, TOOK_5));
 }

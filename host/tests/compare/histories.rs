@@ -36,7 +36,7 @@ fn has_just_these_beside_the_usual(tally: &Tally, others: &[Outcome], least: u32
 }
 
 /// An empty queue of a few threads, most of which may put and take.
-fn laid_out(random: &mut Random) -> Queue {
+pub fn laid_out(random: &mut Random) -> Queue {
     let shape = random.crowded_shape(1..=8);
     let permissions: Vec<u8> =
         (0..shape.threads).map(|_| random.one_of(&[0, 1, 2, 3, 3, 3, 3, 3])).collect();

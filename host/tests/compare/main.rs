@@ -19,3 +19,4 @@ mod layout;
 mod length;
 mod readable;
 mod runs;
+mod take_cost;

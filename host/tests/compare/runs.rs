@@ -13,6 +13,11 @@ pub fn schedule(turns: &[(u32, u32)]) -> Vec<u8> {
     words.flat_map(u32::to_le_bytes).collect()
 }
 
+/// A run of these turns with just the room for their answers.
+pub fn run_turns(random: &mut Random, queue: &mut Queue, turns: &[(u32, u32)], limit: u32) -> Ran {
+    both::run(random, &mut queue.bytes, &schedule(turns), limit, 12 * turns.len())
+}
+
 /// A queue with an item, in which thread 1 has begun a take and thread 2 a put.
 fn busy() -> Queue {
     let mut queue = Queue::open_to_all(SMALL).holding(&[(5, 6)]);
@@ -20,10 +25,8 @@ fn busy() -> Queue {
     queue
 }
 
-/// A run of these turns with just the room for their answers.
 fn run(queue: &mut Queue, turns: &[(u32, u32)], limit: u32) -> Ran {
-    let random = &mut Random::new(110);
-    both::run(random, &mut queue.bytes, &schedule(turns), limit, 12 * turns.len())
+    run_turns(&mut Random::new(110), queue, turns, limit)
 }
 
 /// The result of a run of so many bytes with so much room for answers.

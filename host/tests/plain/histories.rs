@@ -4,7 +4,7 @@ use std::ops::RangeInclusive;
 
 use mound::{Answer, Refusal};
 
-use crate::fields::{PERMISSION, PRESENT_DEPTH};
+use crate::fields::PRESENT_DEPTH;
 use crate::ledger::{Ledger, Order};
 use crate::queue::{Call, Queue};
 use crate::random::Random;
@@ -57,17 +57,6 @@ impl History {
         let agreed = self.ledger.turned(thread, answer, (&before, &self.queue));
         assert_eq!(agreed, Ok(()), "turn of thread {thread} with choice {choice}: {answer:?}");
     }
-
-    fn has_only_clean_nodes(&self) -> bool {
-        (1..1 << self.queue.shape().depth).all(|node| self.queue.node(node)[1] == 0)
-    }
-
-    /// A thread that may begin a take.
-    fn may_take(&self) -> Option<u32> {
-        let permitted = |thread: u32| self.queue.field(thread, PERMISSION) & 2 != 0;
-        let mut threads = 1..=self.queue.shape().threads;
-        threads.find(|&thread| permitted(thread) && !self.ledger.is_busy(thread))
-    }
 }
 
 #[test]
@@ -98,33 +87,22 @@ fn a_thread_that_lists_nothing_changes_nothing() {
     }
 }
 
-/// The accesses of a take by that thread while no other moves.
-fn accesses_of_a_take_alone(mut queue: Queue, thread: u32) -> u32 {
-    assert_eq!(queue.take(thread), Ok(()));
-    for accesses in 1..=100 {
-        match queue.turn(thread, 0) {
-            Answer::Moved => {}
-            Answer::Took { .. } | Answer::Empty => return accesses,
-            other => panic!("a take was answered {other:?}"),
-        }
-    }
-    panic!("a take has no end");
-}
-
-/// With all nodes clean and no other thread moving, a take begun at depth d ends within 5 × d
-/// accesses, and some take needs them.
+/// With all nodes clean and no other thread moving, a take costs its figure. The greatest at depth d
+/// is 5 × d.
 #[test]
-fn a_take_by_itself_ends_within_five_accesses_a_level() {
+fn a_take_alone_costs_its_figure() {
     let random = &mut Random::new(72);
     let mut most_at_depth = [0; 7];
     for _ in 0..100 {
         let mut history = History::start(random);
         for _ in 0..1000 {
             history.go_on(random);
-            if let (true, Some(thread)) = (history.has_only_clean_nodes(), history.may_take()) {
-                let accesses = accesses_of_a_take_alone(history.queue.clone(), thread);
-                let depth = history.queue.word(PRESENT_DEPTH) as usize;
-                most_at_depth[depth - 1] = accesses.max(most_at_depth[depth - 1]);
+            let queue = &history.queue;
+            if let (true, Some(thread)) = (queue.all_clean(), queue.may_take().next()) {
+                let accesses = queue.accesses_of_a_take_alone(thread);
+                assert_eq!(accesses, queue.take_cost());
+                let most = &mut most_at_depth[queue.word(PRESENT_DEPTH) as usize - 1];
+                *most = accesses.max(*most);
             }
         }
     }

@@ -1,11 +1,12 @@
-//! Demand 3 as a referee: the plain bag of items, told the calls and the turns of a queue.
+//! Demand 3 as a referee: the plain bag of items, told the calls and the turns of a queue. Beside it
+//! what a take costs, request 3.
 
 use mound::{Answer, Refusal};
 
 use crate::fields::{place, PERMISSION};
 use crate::queue::{Call, Item, Queue};
 
-/// What the queue did that the bag does not do.
+/// What the queue did that the bag does not do, or a take that costs something else than its figure.
 #[derive(Clone, Copy, Debug, PartialEq)]
 pub enum Disagreement {
     /// A put or take began, or was refused, otherwise than it should have been.
@@ -28,6 +29,8 @@ pub enum Disagreement {
     OtherAnswer { got: Item, due: Item },
     /// The tree does not hold what the bag holds.
     OtherTree,
+    /// A take alone would make another number of accesses than its figure says.
+    OtherCost { thread: u32, got: u32, due: u32 },
 }
 
 /// What a thread is at, as far as the bag is told.
@@ -197,4 +200,19 @@ impl Ledger {
         }
         Ok(())
     }
+}
+
+/// With all nodes clean, a take alone makes the accesses of its figure, whichever thread begins it.
+pub fn look_at_takes(queue: &Queue) -> Result<(), Disagreement> {
+    if !queue.all_clean() {
+        return Ok(());
+    }
+    let due = queue.take_cost();
+    for thread in queue.may_take() {
+        let got = queue.accesses_of_a_take_alone(thread);
+        if got != due {
+            return Err(Disagreement::OtherCost { thread, got, due });
+        }
+    }
+    Ok(())
 }

@@ -14,3 +14,4 @@ mod histories;
 mod mending;
 mod records;
 mod refused_turns;
+mod take_cost;

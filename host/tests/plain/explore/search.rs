@@ -8,7 +8,7 @@ use mound::{Refusal, Shape};
 
 use super::mistaken::Machine;
 use crate::fields::{place, D};
-use crate::ledger::{Disagreement, Ledger};
+use crate::ledger::{look_at_takes, Disagreement, Ledger};
 use crate::queue::{Call, Item, Queue};
 
 /// What the threads of a small queue are to do, each its calls one after the other.
@@ -36,7 +36,7 @@ pub struct Explored {
     pub moves: BTreeSet<(u32, u32)>,
 }
 
-/// The steps to a disagreement with the bag.
+/// The steps to a disagreement.
 #[derive(Debug)]
 pub struct Counterexample {
     pub steps: Vec<Step>,
@@ -54,11 +54,14 @@ struct State {
 /// More states than any workload here has: a machine that never comes to rest has no last state.
 const MOST_STATES: usize = 10_000_000;
 
-/// Goes through every state that the workload can reach.
+/// Goes through every state that the workload can reach. In each of them a take that makes no mistake
+/// has to cost its figure.
 pub fn explore(workload: &Workload, machine: Machine) -> Result<Explored, Counterexample> {
     let queue = Queue::laid_out(workload.shape, &workload.permissions).holding(&workload.held);
     let ledger = Ledger::of(&queue, machine.order());
     let start = State { queue, ledger, made: vec![0; workload.calls.len()] };
+    look_at_takes(&start.queue)
+        .map_err(|disagreement| Counterexample { steps: vec![], disagreement })?;
 
     let mut seen = HashSet::from([fingerprint(&start)]);
     let mut moves = BTreeSet::new();
@@ -69,11 +72,14 @@ pub fn explore(workload: &Workload, machine: Machine) -> Result<Explored, Counte
         let mut next_frontier = vec![];
         for (number, state) in frontier {
             for step in steps(workload, &state) {
-                let after = step_from(&state, machine, step).map_err(|disagreement| {
-                    Counterexample { steps: path(&reached, number, step), disagreement }
-                })?;
+                let counterexample = |disagreement| {
+                    let steps = path(&reached, number, step);
+                    Counterexample { steps, disagreement }
+                };
+                let after = step_from(&state, machine, step).map_err(counterexample)?;
                 moves.extend(move_of(step, &state.queue, &after.queue));
                 if seen.insert(fingerprint(&after)) {
+                    look_at_takes(&after.queue).map_err(counterexample)?;
                     reached.push((number, step));
                     next_frontier.push((reached.len(), after));
                 }
