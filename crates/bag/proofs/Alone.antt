@@ -17,7 +17,7 @@ use Rattle.region.specs.Level.{digits, level}
 use Rattle.region.specs.Pick.{pick, upd}
 use Rattle.region.specs.Shape.{nodeCount}
 use Rattle.region.specs.Inner.{InRange}
-use Rattle.region.specs.Shared.{Shared, nodeIn, sharedIn, threadIn}
+use Rattle.region.specs.Shared.{Shared, sharedIn, threadIn}
 use Rattle.region.specs.Thread.{atPlace, goneIdle, mending, returnAnswer, withAfter, withCopies, withDepth, withFirst, withNode, withResult, withSecond, withThird}
 use Rattle.region.specs.declared.answer.Answer.the-variants.{Moved, Took, Empty}
 use Rattle.region.specs.declared.frame.Frame.{Frame}
@@ -47,7 +47,7 @@ use Rattle.preserved.proofs.Proved.{turn-good}
 use Rattle.preserved.proofs.TreeLevels.{level-child, twice}
 use Rattle.bag.specs.Alone.{EndsAt, NoneSpent, Step, last, moved-then, stepOf}
 use Rattle.bag.specs.History.{rootItem}
-use Rattle.bag.specs.TakeCost.{LeavesList, listFrom, listOf}
+use Rattle.bag.specs.TakeCost.{LeavesList, listFrom, listOf, rootHead}
 use Rattle.bag.proofs.Carried.{turn-decides, turn-shared, turn-threads}
 
 -- thread t's turns with these choices, each on the bytes that the one before left
@@ -103,8 +103,7 @@ module _ (s : Shape) (t : ℕ) (t-least : 1 ≤ t) (t-most : t ≤ s .threads) w
   -- A take begun on the region b₀. Its root's list without its head begins with the cell `first` of these cells, and is to come to rest at
   -- level j, d being the present depth.
   module _ (b₀ : List ℕ) (d j : ℕ) (cell : ℕ → Cell) (first : ℕ)
-      (behind : listOf (frameOf s) b₀ 1
-      ≡ record { cell = nodeIn (frameOf s) b₀ 1 .first; item = rootItem (frameOf s) b₀ } ∷ listFrom cell (frameOf s .shape .cells) first) where
+      (behind : listOf (frameOf s) b₀ 1 ≡ rootHead (frameOf s) b₀ ∷ listFrom cell (frameOf s .shape .cells) first) where
     -- Accesses made are counted from 3 at E1: so 4 at E2, 5 × l at M1 of a node of level l, and this when the list has come to rest.
     abbrev pub end : ℕ
     end = min (5 * j + 5) (5 * d + 3)
@@ -242,7 +241,7 @@ module _ (s : Shape) (t : ℕ) (t-least : 1 ≤ t) (t-most : t ≤ s .threads) w
           clean = λ x p q. ap (λ y. y .node x .dirty) after ∙ clean-now (m .node) (u .node) v refl (h .clean) x;
           list =
               behind
-              ∙ ap (λ xs. record { cell = nodeIn (frameOf s) b₀ 1 .first; item = rootItem (frameOf s) b₀ } ∷ xs)
+              ∙ ap (λ xs. rootHead (frameOf s) b₀ ∷ xs)
               (sym (ap (λ y. listFrom (y .cell) (frameOf s .shape .cells) (y .node (u .node) .first)) after
               ∙ (λ i. listFrom (h .cells i) (frameOf s .shape .cells) (begins i))));
           answer = answered ∙ ap Took (h .result);

@@ -37,8 +37,7 @@ use Rattle.cost.specs.Cost.{levelsDown, restLevel, takeCost, withoutHead}
 use Rattle.cost.proofs.Laws.{cost-ceiling, cost-counted, cost-empty, cost-full, levels-same, rest-most}
 use Rattle.preserved.proofs.Proved.{begun-take-good, take-good, take-passed}
 use Rattle.bag.specs.Alone.{AllClean, EndsAt, NoOtherMoves, NoneSpent, Step, last, moved-then, stepOf, stepsOf, takeSteps}
-use Rattle.bag.specs.History.{rootItem}
-use Rattle.bag.specs.TakeCost.{LastAccess, TakesCost, TakesEnd, listFrom, listOf}
+use Rattle.bag.specs.TakeCost.{LastAccess, TakesCost, TakesEnd, listFrom, listOf, rootHead}
 use Rattle.bag.proofs.Alone.{Rests, alone, empty-ends, end, popped, root-rests}
 use Rattle.bag.proofs.Carried.{turn-stays}
 use Rattle.bag.proofs.Chains.{list-behind, next-apart}
@@ -185,9 +184,7 @@ module _ (b : List ℕ) (t : ℕ) (choices : List ℕ) (r : readable b ≡ true)
           (ap (λ v. levelsDown (val (popped m)) v (m .depth - 1) 1) root-kept
           ∙ levels-same (val m) (val (popped m)) (val (withoutHead m) 1) (m .depth - 1) 1 (omega arith) values-kept)
 
-      behind : listOf (frameIn b) b 1
-          ≡ record { cell = nodeIn (frameIn b) b 1 .first; item = rootItem (frameIn b) b }
-          ∷ listFrom (popped m .cell) (frameIn b .shape .cells) second
+      behind : listOf (frameIn b) b 1 ≡ rootHead (frameIn b) b ∷ listFrom (popped m .cell) (frameIn b .shape .cells) second
       unfolding popped withoutHead sharedIn frameOf
       behind =
           list-behind (popped m .cell) (shapeIn b .cells) (node-chain (shapeIn b) m own (g .held) 1 (omega arith)) some

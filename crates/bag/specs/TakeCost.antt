@@ -34,20 +34,24 @@ listFrom cell (suc n) c = pick (eqb c 0) [] (record { cell = c; item = cell c .i
 abbrev pub listOf : Frame → List ℕ → ℕ → List Listed
 listOf f b n = listFrom (cellIn f b) (f .shape .cells) (nodeIn f b n .first)
 
+-- the head of the root's list
+abbrev pub rootHead : Frame → List ℕ → Listed
+rootHead f b = record { cell = nodeIn f b 1 .first; item = rootItem f b }
+
 -- "its last mending leaves the list at level j": what x does, the last access of a take that thread t began on the region b
 pub record LeavesList (f : Frame) (b : List ℕ) (t j : ℕ) (x : Step) : Type 0 where
   pub node : ℕ
   pub at-level : level node ≡ j
-  -- It is M6 of that node, the only dirty one, and all are clean afterwards. The list is known by the dirty mark, since E2 and M5 pass both
-  -- on together: so an empty list, which has no cell to be known by, is told from those of all other empty nodes.
+  -- It is M6 of that node, the only dirty one, and all are clean afterwards. E2 leaves the list at the root with the dirty mark, and M5 hands
+  -- both down together: so the list is known by the mark, also where it is empty and has no cell to be known by.
   pub place : threadIn f (x .before) t .place ≡ MendClean 0
   pub mends : threadIn f (x .before) t .node ≡ node
   pub dirty : nodeIn f (x .before) node .dirty ≡ 1
   pub others : (n : ℕ) → (n ≡ node → ⊥) → nodeIn f (x .before) n .dirty ≡ 0
   pub clean : AllClean f (x .after)
-  -- The list that stands there afterwards is the root's list without its head, and the head is the answer.
-  pub list : listOf f b 1 ≡ record { cell = nodeIn f b 1 .first; item = rootItem f b } ∷ listOf f (x .after) node
-  pub answer : x .answer ≡ Took (rootItem f b)
+  -- The list that stands there afterwards is the root's list without its head, and the head's item is the answer.
+  pub list : listOf f b 1 ≡ rootHead f b ∷ listOf f (x .after) node
+  pub answer : x .answer ≡ Took (rootHead f b .item)
 
 -- the last access of a take begun on the region b: it reads an empty root, or ends the last mending
 pub record LastAccess (b : List ℕ) (t : ℕ) (x : Step) : Type 0 where
