@@ -47,7 +47,8 @@ use Rattle.preserved.proofs.Proved.{turn-good}
 use Rattle.preserved.proofs.TreeLevels.{level-child, twice}
 use Rattle.bag.specs.Alone.{EndsAt, NoneSpent, Step, last, moved-then, stepOf}
 use Rattle.bag.specs.History.{rootItem}
-use Rattle.bag.specs.TakeCost.{LeavesList, listFrom, listOf, rootHead}
+use Rattle.bag.specs.TakeCost.{LeavesList, listOf, rootHead}
+use Rattle.bag.specs.Tree.{listFrom}
 use Rattle.bag.proofs.Carried.{turn-decides, turn-shared, turn-threads}
 
 -- thread t's turns with these choices, each on the bytes that the one before left

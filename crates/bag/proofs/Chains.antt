@@ -12,8 +12,7 @@ use Rattle.region.specs.Pick.{pick}
 use Rattle.region.specs.Shared.{Shared}
 use Rattle.region.specs.declared.record.Cell.{Cell}
 use Rattle.region.specs.declared.record.Item.{Item}
-use Rattle.bag.specs.TakeCost.{listFrom}
-use Rattle.bag.specs.Tree.{inList}
+use Rattle.bag.specs.Tree.{inList, listFrom, passing}
 
 -- from cell c by next cells to 0 these cells, owned by o
 pub data Chain (cell : ℕ → Cell) (own rank : ℕ → ℕ) (o : ℕ) : ℕ → List ℕ → Type 0 where
@@ -46,11 +45,15 @@ unfoldable pub items : (ℕ → Cell) → List ℕ → List Item
 items cell [] = []
 items cell (c ∷ cs) = cell c .item ∷ items cell cs
 
--- nothing is counted from no cell
+-- from no cell there is no list, and nothing is counted
+list-none : (cell : ℕ → Cell) (n : ℕ) → listFrom cell n 0 ≡ []
+unfolding listFrom pick
+list-none cell zero = refl
+list-none cell (suc n) = refl
+
 pub empty-list : (m : Shared) (test : Item → Bool) (n : ℕ) → inList m test n 0 ≡ 0
-unfolding inList pick
-empty-list m test zero = refl
-empty-list m test (suc n) = refl
+unfolding inList passing
+empty-list m test n = ap (passing test) (list-none (m .cell) n)
 
 -- how many of these pass the test
 unfoldable pub among : (Item → Bool) → List Item → ℕ
@@ -60,7 +63,7 @@ among test (i ∷ is) = pick (test i) 1 0 + among test is
 -- walking a chain counts its items
 pub walk-counts : (m : Shared) (test : Item → Bool) (n : ℕ) {own rank : ℕ → ℕ} {o c : ℕ} {cs : List ℕ} → Chain (m .cell) own rank o c cs
     → length cs ≤ n → inList m test n c ≡ among test (items (m .cell) cs)
-unfolding inList among items pick
+unfolding inList listFrom passing among items pick
 walk-counts m test n ends h = empty-list m test n
 walk-counts m test zero (link d p eo er k) h = absurd (omega arith)
 walk-counts m test (suc n) (link d p eo er k) h =
@@ -79,12 +82,6 @@ items-left cell cell′ own own′ rank rank′ o o′ c cs h (link d {cs = ds} 
       same .0,
       items-left cell cell′ own own′ rank rank′ o o′ (cell d .next) ds (λ e q r. h e q (omega arith)) k,
     )
-
--- no cell, no list
-list-none : (cell : ℕ → Cell) (n : ℕ) → listFrom cell n 0 ≡ []
-unfolding listFrom pick
-list-none cell zero = refl
-list-none cell (suc n) = refl
 
 module _ {cell : ℕ → Cell} {own rank : ℕ → ℕ} {o : ℕ} where
   -- a cell is not the next of itself

@@ -37,7 +37,8 @@ use Rattle.cost.specs.Cost.{levelsDown, restLevel, takeCost, withoutHead}
 use Rattle.cost.proofs.Laws.{cost-ceiling, cost-counted, cost-empty, cost-full, levels-same, rest-most}
 use Rattle.preserved.proofs.Proved.{begun-take-good, take-good, take-passed}
 use Rattle.bag.specs.Alone.{AllClean, EndsAt, NoOtherMoves, NoneSpent, Step, last, moved-then, stepOf, stepsOf, takeSteps}
-use Rattle.bag.specs.TakeCost.{LastAccess, TakesCost, TakesEnd, listFrom, listOf, rootHead}
+use Rattle.bag.specs.TakeCost.{LastAccess, TakesCost, TakesEnd, listOf, rootHead}
+use Rattle.bag.specs.Tree.{listFrom}
 use Rattle.bag.proofs.Alone.{Rests, alone, empty-ends, end, popped, root-rests}
 use Rattle.bag.proofs.Carried.{turn-stays}
 use Rattle.bag.proofs.Chains.{list-behind, next-apart}

@@ -1,36 +1,24 @@
 -- What a take of one item costs (document 02, request 3): it ends in exactly as many accesses as `takeCost` says of the region before it, and
 -- its last access leaves the root's list without its head at the level that the figure goes by. The ceiling of document 01 follows. Proved
 -- in proofs/TakeCost.antt.
-use Prim.Native.Nat.{ℕ, zero, suc, _*_, _≤_}
+use Prim.Native.Nat.{ℕ, _*_, _≤_}
 use mathlib.Core.Path.{_≡_}
 use mathlib.Core.Bool.{true}
-use mathlib.Core.List.{List, [], _∷_}
-use lib.Dec.{eqb}
+use mathlib.Core.List.{List, _∷_}
 use Rattle.region.specs.Level.{level}
-use Rattle.region.specs.Pick.{pick}
 use Rattle.region.specs.Shared.{cellIn, nodeIn, sharedIn, threadIn}
 use Rattle.region.specs.declared.answer.Answer.the-variants.{Took, Empty}
 use Rattle.region.specs.declared.frame.Frame.{Frame}
 use Rattle.region.specs.declared.place.Place.the-variants.{MendClean}
-use Rattle.region.specs.declared.record.Cell.{Cell}
-use Rattle.region.specs.declared.record.Item.{Item}
 use Rattle.cost.specs.Cost.{restLevel, takeCost}
 use Rattle.machine.specs.Begin.{frameIn}
 use Rattle.machine.specs.Run.{Turn}
 use Rattle.machine.specs.Turn.{ends}
 use Rattle.bag.specs.Alone.{AllClean, Alone, EndsAt, Step, takeSteps}
 use Rattle.bag.specs.History.{rootItem}
+use Rattle.bag.specs.Tree.{Listed, listFrom}
 
--- a list: its cells with their items, from cell c by next cells to 0, at most n of them
-pub record Listed : Type 0 where
-  pub cell : ℕ
-  pub item : Item
-
-unfoldable pub listFrom : (ℕ → Cell) → ℕ → ℕ → List Listed
-listFrom cell zero c = []
-listFrom cell (suc n) c = pick (eqb c 0) [] (record { cell = c; item = cell c .item } ∷ listFrom cell n (cell c .next))
-
--- node n's list
+-- node n's list: its cells with their items
 abbrev pub listOf : Frame → List ℕ → ℕ → List Listed
 listOf f b n = listFrom (cellIn f b) (f .shape .cells) (nodeIn f b n .first)
 

@@ -2,22 +2,38 @@
 -- its first cell by next cells to 0, at most C of them."
 use Prim.Native.Nat.{ℕ, zero, suc, _+_}
 use mathlib.Core.Bool.{Bool, _&&_}
-use mathlib.Core.List.{List}
+use mathlib.Core.List.{List, [], _∷_}
 use lib.Dec.{eqb}
 use Rattle.region.specs.Pick.{pick}
 use Rattle.region.specs.Shape.{nodeCount}
 use Rattle.region.specs.Shared.{Shared, sharedIn}
 use Rattle.region.specs.declared.frame.Frame.{Frame}
+use Rattle.region.specs.declared.record.Cell.{Cell}
 use Rattle.region.specs.declared.record.Item.{Item}
 
 -- "An item is a key with a tag."
 unfoldable pub sameItem : Item → Item → Bool
 sameItem i j = eqb (i .key) (j .key) && eqb (i .tag) (j .tag)
 
+-- a cell of a list, with its item
+pub record Listed : Type 0 where
+  pub cell : ℕ
+  pub item : Item
+
+-- the list from cell c on, by next cells to 0, at most n of them
+unfoldable pub listFrom : (ℕ → Cell) → ℕ → ℕ → List Listed
+listFrom cell zero c = []
+listFrom cell (suc n) c = pick (eqb c 0) [] (record { cell = c; item = cell c .item } ∷ listFrom cell n (cell c .next))
+
+-- how many items of a list pass the test
+unfoldable pub passing : (Item → Bool) → List Listed → ℕ
+passing test [] = 0
+passing test (x ∷ xs) = pick (test (x .item)) 1 0 + passing test xs
+
 -- the cells whose item passes the test, among at most n cells from cell c on
 unfoldable pub inList : Shared → (Item → Bool) → ℕ → ℕ → ℕ
-inList m test zero c = 0
-inList m test (suc n) c = pick (eqb c 0) 0 (pick (test (m .cell c .item)) 1 0 + inList m test n (m .cell c .next))
+unfolding listFrom passing
+inList m test n c = passing test (listFrom (m .cell) n c)
 
 -- the same in the lists of nodes 1 to n, with at most l cells each
 unfoldable pub inNodes : Shared → (Item → Bool) → ℕ → ℕ → ℕ
