@@ -32,7 +32,7 @@ use Rattle.region.proofs.Levels.{level-holds}
 use Rattle.region.proofs.Picks.{upd-same, upd-other}
 use Rattle.region.proofs.Shapes.{is-between, sizes}
 use Rattle.access.specs.Effect.{effectShared, freed}
-use Rattle.access.specs.Order.{topItem, val, valueOf}
+use Rattle.access.specs.Order.{val, valueOf}
 use Rattle.access.specs.Plan.{plan, moved, onTo, refused}
 use Rattle.access.specs.Read.{isDirty, isNode, isSpent, readNode, sameNode, updated}
 use Rattle.access.specs.declared.effect.Effect.the-variants.{Nothing, Pop, Exchange, Clean}
@@ -50,6 +50,7 @@ use Rattle.bag.specs.History.{rootItem}
 use Rattle.bag.specs.TakeCost.{LeavesList, listOf, rootHead}
 use Rattle.bag.specs.Tree.{listFrom}
 use Rattle.bag.proofs.Carried.{turn-decides, turn-shared, turn-threads}
+use Rattle.bag.proofs.Sorted.{valueAt}
 
 -- thread t's turns with these choices, each on the bytes that the one before left
 unfoldable pub alone : Frame → List ℕ → ℕ → List ℕ → List Step
@@ -83,7 +84,7 @@ clean-now f n v e h x = go (ℕ-discrete x n)
     go (yes k) = ap (λ y. upd f n v y .dirty) k ∙ ap (λ y. y .dirty) (upd-same f n v) ∙ e
     go (no k) = ap (λ y. y .dirty) (upd-other f n x v k) ∙ h x k
 
--- and another is put at c
+-- the same, and another node is put at c
 clean-but : (f : ℕ → Node) (n c : ℕ) (v w : Node) → v .dirty ≡ 0 → ((x : ℕ) → (x ≡ n → ⊥) → f x .dirty ≡ 0)
     → (x : ℕ) → (x ≡ c → ⊥) → upd (upd f n v) c w x .dirty ≡ 0
 clean-but f n c v w e h x nc = ap (λ y. y .dirty) (upd-other (upd f n v) c x w nc) ∙ clean-now f n v e h x
@@ -261,8 +262,7 @@ module _ (s : Shape) (t : ℕ) (t-least : 1 ≤ t) (t-most : t ≤ s .threads) w
           value-below : val below c ≡ val m (u .node)
           unfolding below effectShared valueOf readNode
           value-below =
-              ap (λ x. pick (eqb x 0) topItem (m .cell x .item))
-              (ap (λ x. x .first) (upd-same (upd (m .node) (u .node) v) c w) ∙ gets)
+              ap (valueAt (m .cell)) (ap (λ x. x .first) (upd-same (upd (m .node) (u .node) v) c w) ∙ gets)
 
           values-behind : (x : ℕ) → c < x → val below x ≡ val m x
           unfolding below effectShared readNode

@@ -84,7 +84,7 @@ items-left cell cell′ own own′ rank rank′ o o′ c cs h (link d {cs = ds} 
     )
 
 module _ {cell : ℕ → Cell} {own rank : ℕ → ℕ} {o : ℕ} where
-  -- a cell is not the next of itself
+  -- the first cell has all others behind it, and so is not the next of itself
   first-rank : {c : ℕ} {cs : List ℕ} → Chain cell own rank o c cs → 1 ≤ c → suc (rank c) ≡ length cs
   first-rank ends l = absurd (omega arith)
   first-rank (link d p eo er k) l = ap suc er

@@ -32,7 +32,7 @@ use Rattle.readable.proofs.Laws.{good}
 use Rattle.readable.proofs.Stores.{good-thread, good-within, thread-fit}
 use Rattle.machine.specs.Begin.{frameIn, takeBytes, takeRefusal}
 use Rattle.machine.specs.Run.{Turn, accessesOf}
-use Rattle.machine.specs.Turn.{ends, staysPut, turnAnswer, turnBytes}
+use Rattle.machine.specs.Turn.{staysPut, turnAnswer, turnBytes}
 use Rattle.cost.specs.Cost.{levelsDown, restLevel, takeCost, withoutHead}
 use Rattle.cost.proofs.Laws.{cost-ceiling, cost-counted, cost-empty, cost-full, levels-same, rest-most}
 use Rattle.preserved.proofs.Proved.{begun-take-good, take-good, take-passed}
@@ -235,7 +235,7 @@ take-costs b r own g t turns a = subst (EndsAt (LastAccess b t) (takeCost m)) (s
         subst (λ n. EndsAt (LastAccess b t) n (alone (frameIn b) (takeBytes b t) t choices)) (omega (arith, e, k, h .exact))
         (ends-so (λ x l. record { empty = λ z. absurd (full z); mended = λ n. l }) (h .rests))
 
--- The ceiling follows: the figure is at most 5 × d, and the last access ends the take.
+-- The ceiling follows: the figure is at most 5 × d.
 pub costs-end : (b : List ℕ) → 1 ≤ sharedIn (frameIn b) b .depth → TakesCost b → TakesEnd b
 costs-end b some costs t turns a =
     let m = sharedIn (frameIn b) b in
@@ -243,11 +243,6 @@ costs-end b some costs t turns a =
       takeCost m,
       c .0,
       c .1,
-      ends-so (λ x h. last-ends x h (ℕ-discrete (nodeIn (frameIn b) b 1 .first) 0))
-          (costs t turns
-          (record { begun = a .begun; clean = a .clean; quiet = a .quiet; unspent = a .unspent; enough = omega (arith, a .enough) })),
+      costs t turns
+          (record { begun = a .begun; clean = a .clean; quiet = a .quiet; unspent = a .unspent; enough = omega (arith, a .enough) }),
     )
-  where
-    last-ends : (x : Step) → LastAccess b t x → Dec (nodeIn (frameIn b) b 1 .first ≡ 0) → ends (x .answer) ≡ true
-    last-ends x h (yes none) = ap ends (h .empty none)
-    last-ends x h (no full) = ap ends (h .mended full .answer)

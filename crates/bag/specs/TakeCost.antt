@@ -3,7 +3,6 @@
 -- in proofs/TakeCost.antt.
 use Prim.Native.Nat.{ℕ, _*_, _≤_}
 use mathlib.Core.Path.{_≡_}
-use mathlib.Core.Bool.{true}
 use mathlib.Core.List.{List, _∷_}
 use Rattle.region.specs.Level.{level}
 use Rattle.region.specs.Shared.{cellIn, nodeIn, sharedIn, threadIn}
@@ -13,7 +12,6 @@ use Rattle.region.specs.declared.place.Place.the-variants.{MendClean}
 use Rattle.cost.specs.Cost.{restLevel, takeCost}
 use Rattle.machine.specs.Begin.{frameIn}
 use Rattle.machine.specs.Run.{Turn}
-use Rattle.machine.specs.Turn.{ends}
 use Rattle.bag.specs.Alone.{AllClean, Alone, EndsAt, Step, takeSteps}
 use Rattle.bag.specs.History.{rootItem}
 use Rattle.bag.specs.Tree.{Listed, listFrom}
@@ -56,4 +54,4 @@ TakesCost b =
 abbrev pub TakesEnd : List ℕ → Type 0
 TakesEnd b =
     (t : ℕ) (turns : List Turn) → Alone b t turns (5 * sharedIn (frameIn b) b .depth)
-    → (n : ℕ) × (1 ≤ n) × (n ≤ 5 * sharedIn (frameIn b) b .depth) × EndsAt (λ x. ends (x .answer) ≡ true) n (takeSteps b t turns)
+    → (n : ℕ) × (1 ≤ n) × (n ≤ 5 * sharedIn (frameIn b) b .depth) × EndsAt (LastAccess b t) n (takeSteps b t turns)
