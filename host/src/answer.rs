@@ -20,7 +20,8 @@ pub enum Answer {
     Idle,
     /// The put ended: its item is in the queue.
     Inserted,
-    /// The take ended with this item.
+    /// The take ended with this item, which was the least, by key and then by tag, when it was
+    /// removed.
     Took {
         /// The item's key.
         key: u32,

@@ -84,7 +84,7 @@ pub fn put(region: &mut [u8], thread: u32, key: u32, tag: u32) -> u32 {
     unsafe { exported::mound_put(region.as_mut_ptr(), region.len(), thread, key, tag) }
 }
 
-/// Begins a take by a thread; turns do the rest.
+/// Begins a take by a thread; turns do the rest. It removes the least item, by key and then by tag.
 ///
 /// Refusals, in order: 7 (not readable), 3 (thread), 8 (permission), 9 (busy). Cost: that of
 /// [`check`], then one word.

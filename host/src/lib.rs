@@ -5,6 +5,9 @@
 //! this crate gives them the types a Rust program expects and adds no rule of its own. A call that
 //! is refused says why by a [`Refusal`] and changes no byte.
 //!
+//! An item is a key with a tag. The least item leaves first: the one of the smallest key, and of
+//! equal keys the one of the smaller tag. Wholly equal items may be held beside each other.
+//!
 //! ```
 //! use mound::{Answer, Permission, Refusal, Region, Shape, Turn};
 //!

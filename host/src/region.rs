@@ -95,16 +95,25 @@ impl<'a> Region<'a> {
     /// Begins a take by a thread, counted from 1. A later turn of the thread answers the item, or
     /// that the queue was empty.
     ///
+    /// The item is the least that the queue holds when one of the take's accesses removes it: the one
+    /// of the smallest key, and of equal keys the one of the smaller tag.
+    ///
     /// Cost: that of [`Region::check`], then the thread's record is written.
     ///
     /// ```
-    /// use mound::{Permission, Refusal, Region, Shape};
+    /// use mound::{Answer, Permission, Refusal, Region, Shape, Turn};
     ///
-    /// let shape = Shape { depth: 1, cells: 1, threads: 2, threshold: 1 };
+    /// let shape = Shape { depth: 2, cells: 2, threads: 2, threshold: 1 };
     /// let mut bytes = vec![0; shape.byte_len()?];
     /// let mut region =
-    ///     Region::layout(&mut bytes, shape, &[Permission::TAKE, Permission::NONE])?;
+    ///     Region::layout(&mut bytes, shape, &[Permission::PUT_AND_TAKE, Permission::NONE])?;
+    /// for tag in [2, 9] {
+    ///     region.put(1, 5, tag)?;
+    ///     region.run([Turn { thread: 1, choice: 0 }; 9], u32::MAX)?;
+    /// }
     /// region.take(1)?;
+    /// let run = region.run([Turn { thread: 1, choice: 0 }; 10], u32::MAX)?;
+    /// assert_eq!(run.answers().last(), Some(Answer::Took { key: 5, tag: 2 }));
     /// assert_eq!(region.take(2), Err(Refusal::Permission));
     /// # Ok::<(), Refusal>(())
     /// ```

@@ -1,11 +1,11 @@
 -- The ways out of the functions, over plain variables. Assumes nothing.
-use Prim.Native.Nat.{ℕ, _+_, _≤_, _<_, _^_}
+use Prim.Native.Nat.{ℕ, _+_, _*_, _≤_, _<_, _^_}
 use native.Mathlib.Omega.{arith}
 use mathlib.Core.Path.{_≡_, refl, sym, ap, subst, _∙_}
-use mathlib.Core.Bool.{false, true≢false}
+use mathlib.Core.Bool.{Bool, true, false, true≢false}
 use mathlib.Core.List.{List}
-use borrow.Author.Tests.{eq-eqb, ne-eqb, eqb-false}
-use lib.Dec.{leb, eqb}
+use borrow.Author.Tests.{ltb-true, ltb-false, leb-true, leb-false, eqb-true, eqb-false, le-leb, lt-leb, eq-eqb, ne-eqb}
+use lib.Dec.{leb, ltb, eqb}
 use Rattle.words.specs.Word.{word, setWord}
 use Rattle.region.specs.Pick.{pick}
 use Rattle.region.specs.Record.{zeroItem}
@@ -13,16 +13,35 @@ use Rattle.region.specs.Shape.{nodeCount}
 use Rattle.region.specs.Shared.{sharedIn, nodeIn, cellIn, setNodeIn, setCellIn}
 use Rattle.region.specs.declared.frame.Frame.{Frame}
 use Rattle.region.specs.declared.record.Cell.{Cell}
+use Rattle.region.specs.declared.record.Item.{Item}
 use Rattle.region.specs.declared.record.Node.{Node}
 use Rattle.region.specs.declared.record.NodeCopy.{NodeCopy}
 use Rattle.region.specs.declared.shape.Shape.{Shape}
 use Rattle.region.proofs.Shapes.{below, from-least}
 use Rattle.access.specs.Effect.{effectBytes, freedBytes, pushBytes}
 use Rattle.access.specs.Inner.{Only, OnlyAsked}
-use Rattle.access.specs.Order.{topItem, valueOf}
+use Rattle.access.specs.Order.{itemLe, topItem, valueOf}
 use Rattle.access.specs.Read.{isNode, isSpent, readNode, sameNode}
 use Rattle.access.specs.declared.effect.Effect.{Effect}
 use Rattle.access.specs.declared.effect.Effect.the-variants.{Nothing, Grow, Push, Pop, Exchange, Clean}
+
+-- a key counts more than a tag, which is one word
+pub by-rank : (a b : Item) (x y : ℕ) → x ≡ a .key * 2 ^ 32 + a .tag → y ≡ b .key * 2 ^ 32 + b .tag → a .tag < 2 ^ 32
+    → b .tag < 2 ^ 32 → leb x y ≡ itemLe a b
+unfolding itemLe pick
+by-rank a b x y ex ey la lb = go (eqb (a .key) (b .key)) refl
+  where
+    tags : a .key ≡ b .key → (q : Bool) → leb (a .tag) (b .tag) ≡ q → leb x y ≡ q
+    tags k true e = le-leb x y (omega (arith, leb-true (a .tag) (b .tag) e))
+    tags k false e = lt-leb x y (omega (arith, leb-false (a .tag) (b .tag) e))
+
+    keys : (a .key ≡ b .key → ⊥) → (q : Bool) → ltb (a .key) (b .key) ≡ q → leb x y ≡ q
+    keys n true e = le-leb x y (omega (arith, ltb-true (a .key) (b .key) e))
+    keys n false e = lt-leb x y (omega (arith, n, ltb-false (a .key) (b .key) e))
+
+    go : (q : Bool) → eqb (a .key) (b .key) ≡ q → leb x y ≡ pick q (leb (a .tag) (b .tag)) (ltb (a .key) (b .key))
+    go true e = tags (eqb-true (a .key) (b .key) e) (leb (a .tag) (b .tag)) refl
+    go false e = keys (eqb-false (a .key) (b .key) e) (ltb (a .key) (b .key)) refl
 
 module _ (q : NodeCopy) where
   pub empty-value : q .node .first ≡ 0 → topItem ≡ valueOf q

@@ -13,6 +13,7 @@ pub mod Exported
 pub mod Facts
 pub mod Held
 pub mod Histories
+pub mod LeastFirst
 pub mod Operations
 pub mod Order
 pub mod Plans

@@ -69,7 +69,7 @@ module _ (t : ℕ) where
   told-takes x l l′ (put-begins {t = u} {i = i} e) ne = omega (arith, ap remaining (elsewhere (l .operation) u (putting i) ne))
   told-takes x l l′ (take-begins {t = u} e) ne = omega (arith, ap remaining (elsewhere (l .operation) u taking ne))
   told-takes x l l′ (put-decides {t = u} {i = i} e) ne = remains (l .operation) u (putting i) none 1 e refl t
-  told-takes x l l′ (take-decides {t = u} {i = i} e _ _) ne = remains (l .operation) u taking (holding i) 1 e refl t
+  told-takes x l l′ (take-decides {t = u} {i = i} e _) ne = remains (l .operation) u taking (holding i) 1 e refl t
   told-takes x l l′ (empty-decides {t = u} e _) ne = remains (l .operation) u taking none 1 e refl t
   told-takes x l l′ (take-answers {t = u} {i = i} e) ne =
       omega (arith, remains (l .operation) u (holding i) none 0 e refl t, none-taken (eqb t u))
@@ -81,7 +81,7 @@ module _ (t : ℕ) where
   told-begins x l l′ (put-begins {t = u} {i = i} e) b = ap (λ q. remaining (pick q (putting i) (l .operation t))) b
   told-begins x l l′ (take-begins {t = u} e) b = ap (λ q. remaining (pick q taking (l .operation t))) b
   told-begins x l l′ (put-decides e) b = absurd (true≢false (sym b))
-  told-begins x l l′ (take-decides e _ _) b = absurd (true≢false (sym b))
+  told-begins x l l′ (take-decides e _) b = absurd (true≢false (sym b))
   told-begins x l l′ (empty-decides e _) b = absurd (true≢false (sym b))
   told-begins x l l′ (take-answers e) b = absurd (true≢false (sym b))
 

@@ -307,7 +307,7 @@ module _ (s : Shape) (b : List ℕ) (l : Ledger) (g : Region s b l) (t : ℕ) (l
           some = omega arith;
           item = ap (λ y. y .item) (upd-same (m s b l g .cell) c mine);
           ended = ap (λ y. y .next) (upd-same (m s b l g .cell) c mine);
-          proper = item-below-top i key;
+          proper = item-below-top i (omega arith) tag;
         })
 
     pub put-next : Good s (acceptedPut (frameOf s) b t i) → Follow s l (beginsPut t i) (acceptedPut (frameOf s) b t i)

@@ -20,7 +20,7 @@ use Rattle.access.specs.Order.{topItem, val, valueOf}
 use Rattle.access.specs.Read.{readNode}
 use Rattle.access.specs.declared.effect.Effect.{Effect}
 use Rattle.access.specs.declared.effect.Effect.the-variants.{Nothing, Grow, Push, Pop, Exchange, Clean}
-use Rattle.access.proofs.OrderLaws.{item-key, item-trans}
+use Rattle.access.proofs.OrderLaws.{item-less, item-trans}
 use Rattle.bag.specs.History.{rootItem}
 use Rattle.bag.specs.Ledger.{Operation, none, holding, Ledger, Follows, still, put-decides, take-decides, empty-decides, take-answers, oneMore, oneLess}
 use Rattle.bag.specs.Tree.{sameItem}
@@ -214,9 +214,12 @@ module _ (s : Shape) (f : Frame) (b : List ℕ) (own own′ : ℕ → ℕ) (l : 
         let ic : m .cell c .item ≡ i = ap (λ k. m .cell k .item) (sym (al .head)) in
         record {
           after = record { bag = oneLess (l .bag) i; operation = upd (l .operation) t (holding i) };
-          follows = take-decides (is ∙ eo) (subst (λ k. 1 ≤ k) (sym (bag i)) (root-held s m own g (omega (arith, al .head, al .cell))))
-              (λ j h. item-key i j (root-below s m own g (al .clean) (omega (arith, al .head, al .cell)) j
-              (subst (λ k. 1 ≤ k) (bag j) h)));
+          follows = take-decides (is ∙ eo)
+              (record {
+                held = subst (λ k. 1 ≤ k) (sym (bag i)) (root-held s m own g (omega (arith, al .head, al .cell)));
+                others-greater = λ j h. item-less i j
+                    (root-below s m own g (al .clean) (omega (arith, al .head, al .cell)) j (subst (λ k. 1 ≤ k) (bag j) h));
+              });
           stepped =
               record {
                 keeps = subst (λ o. Keeps s m (effectShared m (Pop v c)) own o t) (sym (same-own ow)) (pop-keeps s m own g v c al t);

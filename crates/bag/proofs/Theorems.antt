@@ -18,20 +18,23 @@ use Rattle.readable.specs.Readable.{shapeIn}
 use Rattle.readable.proofs.Laws.{good, readable-good}
 use Rattle.readable.proofs.Stores.{good-shared}
 use Rattle.machine.specs.Turn.{staysPut, turnAnswer, turnPlan}
+use Rattle.bag.specs.History.{history}
 use Rattle.bag.specs.Ledger.{Ledger, Operation, emptyLedger}
 use Rattle.bag.specs.Moments.{Throughout, regionAfter}
-use Rattle.bag.specs.Theorems.{CellsAccounted, NoTurnUnreadable, RefusedTenWhenFull, StaysReadable, TakesCostExactly, TakesEndInTime}
+use Rattle.bag.specs.Theorems.{CellsAccounted, NoTurnUnreadable, RefusedTenWhenFull, SmallerTagFirst, StaysReadable, TakesCostExactly, TakesEndInTime}
 use Rattle.bag.proofs.Account.{all-cells-accounted, puts-refused-when-full}
 use Rattle.bag.proofs.Effects.{Mound}
+use Rattle.bag.proofs.LeastFirst.{stays-behind}
 use Rattle.bag.proofs.Plans.{Planned, moves, refuses, rests}
 use Rattle.bag.proofs.Histories.{Kept, kept-after}
-use Rattle.bag.proofs.Proved.{Moves, history-kept}
+use Rattle.bag.proofs.Proved.{Moves, history-kept, region-is-a-bag}
 use Rattle.bag.proofs.Regions.{Region, plan-fits, nowhere, speaks-moves}
 use Rattle.bag.proofs.Start.{laid-region}
 use Rattle.bag.proofs.Steps.{owns}
 use Rattle.bag.proofs.TakeCost.{costs-end, take-costs}
 pub use Rattle.bag.proofs.Proved.{region-is-a-bag}
 pub use Rattle.bag.proofs.Exported.{calls-are-exported}
+pub use Rattle.bag.proofs.LeastFirst.{least-has-least-key, least-is-one}
 
 -- the invariant holds of every region of a history, with some ledger
 holds : Throughout λ s permissions b. (l : Ledger) × Region s b l
@@ -107,3 +110,8 @@ takes-end-in-time s ps b e calls n earlier later split =
     let b′ = regionAfter (layoutBytes s ps b) earlier in
     costs-end b′ (good-shared (shapeIn b′) b′ (good b′ (stays-readable s ps b e calls n earlier later split .0)) .depth-least)
     (takes-cost-exactly s ps b e calls n earlier later split)
+
+-- from demand 3's ledger
+pub smaller-tag-first : SmallerTagFirst
+smaller-tag-first s ps b e calls n =
+    stays-behind emptyLedger (layoutBytes s ps b) (history (layoutBytes s ps b) calls) (region-is-a-bag s ps b e calls n .bag)

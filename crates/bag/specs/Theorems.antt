@@ -1,16 +1,21 @@
--- What holds throughout every history of a laid-out region, beside demand 3 itself (Demand3.antt). Each is proved under its name in
--- proofs/Theorems.antt.
-use Prim.Native.Nat.{ℕ}
+-- What holds throughout every history of a laid-out region, beside demand 3 itself (Demand3.antt), and of the least item of its bag. Each is
+-- proved under its name in proofs/Theorems.antt.
+use Prim.Native.Nat.{ℕ, _≤_, _<_}
 use mathlib.Core.Path.{_≡_}
 use mathlib.Core.Bool.{true}
+use mathlib.Core.List.{List}
 use Rattle.region.specs.Answer.{unreadable}
 use Rattle.region.specs.declared.answer.Answer.the-variants.{Refused}
+use Rattle.region.specs.declared.record.Item.{Item}
 use Rattle.readable.specs.Readable.{readable, shapeIn}
 use Rattle.machine.specs.Begin.{frameIn}
 use Rattle.machine.specs.Turn.{turnAnswer}
 use Rattle.bag.specs.Account.{AllCellsAccounted, PutsRefusedWhenFull}
-use Rattle.bag.specs.Moments.{Throughout}
+use Rattle.bag.specs.History.{Moment}
+use Rattle.bag.specs.Ledger.{Least}
+use Rattle.bag.specs.Moments.{EachMoment, InEveryHistory, Throughout}
 use Rattle.bag.specs.TakeCost.{TakesCost, TakesEnd}
+use Rattle.bag.specs.Tree.{inTree}
 
 -- the region is readable, and its first words are the layout's still
 abbrev pub StaysReadable : Type 0
@@ -37,3 +42,26 @@ TakesCostExactly = Throughout λ s permissions b. TakesCost b
 -- 5 × d accesses.": follows
 abbrev pub TakesEndInTime : Type 0
 TakesEndInTime = Throughout λ s permissions b. TakesEnd b
+
+-- "The bag gives up its least item under that order" (document 02, request 2): no bag has two least items, so nothing is left open about which
+-- item a take removes
+abbrev pub LeastIsOne : Type 0
+LeastIsOne = (bag : Item → ℕ) (i j : Item) → Least bag i → Least bag j → i ≡ j
+
+-- "an item of least key" (demand 3): the least item has it
+abbrev pub LeastHasLeastKey : Type 0
+LeastHasLeastKey = (bag : Item → ℕ) (i j : Item) → Least bag i → 1 ≤ bag j → i .key ≤ j .key
+
+-- copies of an item in the region's tree, which are those in the bag (`HoldsTheSame` in Demand3.antt)
+abbrev pub copies : List ℕ → Item → ℕ
+copies b i = inTree (frameIn b) b i
+
+-- of two items with equal keys, the one with the greater tag (j) never leaves while the other (i) is there: no call and no turn makes its
+-- copies fewer
+abbrev pub StaysBehind : List ℕ → Moment → Type 0
+StaysBehind before m =
+    (i j : Item) → i .key ≡ j .key → i .tag < j .tag → 1 ≤ copies before i → copies before j ≤ copies (m .region) j
+
+-- "Equal keys, smaller tag first" (request 2)
+abbrev pub SmallerTagFirst : Type 0
+SmallerTagFirst = InEveryHistory λ s permissions b ms. EachMoment StaysBehind b ms

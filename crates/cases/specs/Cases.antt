@@ -2,11 +2,12 @@
 use mathlib.Core.List.{List, [], _∷_, _++_}
 use Rattle.cases.specs.Row.{Row, AllHold}
 use Rattle.cases.specs.Document01.{casesOf01, casesOf01-hold}
+use Rattle.cases.specs.Request2.{casesOfRequest2, casesOfRequest2-hold}
 use Rattle.cases.specs.Request3.{casesOfRequest3, casesOfRequest3-hold}
 use Rattle.cases.specs.Request4.{casesOfRequest4, casesOfRequest4-hold}
 
 abbrev pub table : List Row
-table = casesOf01 ++ casesOfRequest3 ++ casesOfRequest4
+table = casesOf01 ++ casesOfRequest2 ++ casesOfRequest3 ++ casesOfRequest4
 
 and-then : (rs more : List Row) → AllHold rs → AllHold more → AllHold (rs ++ more)
 and-then [] more h k = k
@@ -14,5 +15,6 @@ and-then (r ∷ rs) more (h, hs) k = (h, and-then rs more hs k)
 
 pub cases-hold : AllHold table
 cases-hold =
-    and-then casesOf01 (casesOfRequest3 ++ casesOfRequest4) casesOf01-hold
-    (and-then casesOfRequest3 casesOfRequest4 casesOfRequest3-hold casesOfRequest4-hold)
+    and-then casesOf01 (casesOfRequest2 ++ casesOfRequest3 ++ casesOfRequest4) casesOf01-hold
+    (and-then casesOfRequest2 (casesOfRequest3 ++ casesOfRequest4) casesOfRequest2-hold
+    (and-then casesOfRequest3 casesOfRequest4 casesOfRequest3-hold casesOfRequest4-hold))

@@ -1,5 +1,5 @@
 -- A case: a layout, calls on the region that it leaves, and what they answer; the present depth is asked at the end.
-use Prim.Native.Nat.{ℕ, _*_}
+use Prim.Native.Nat.{ℕ, _-_, _*_}
 use mathlib.Core.Path.{_≡_}
 use mathlib.Core.List.{List, [], _∷_, _++_}
 use lib.ListN.{length, replicate}
@@ -7,6 +7,7 @@ use Rattle.words.specs.Word.{word, wordsAt, setWords}
 use Rattle.region.specs.Answer.{done, answerWords}
 use Rattle.region.specs.Shared.{sharedIn}
 use Rattle.region.specs.declared.answer.Answer.{Answer}
+use Rattle.region.specs.declared.answer.Answer.the-variants.{Moved, Inserted}
 use Rattle.region.specs.declared.record.Item.{Item}
 use Rattle.region.specs.declared.shape.Shape.{Shape}
 use Rattle.cost.specs.Cost.{takeCost}
@@ -15,24 +16,32 @@ use Rattle.readable.specs.Readable.{checkAnswer}
 use Rattle.machine.specs.Begin.{frameIn, putBytes, putRefusal, takeBytes, takeRefusal}
 use Rattle.machine.specs.Run.{runResult}
 
--- what is called on a laid-out region: a put of a key by a thread, a take, a run of these threads' turns, and a check of a copy with
--- these words from a word on; and what is asked of it: the cost of a take, and the present depth
+-- what is called on a laid-out region: a put of an item by a thread, a take, a run of these threads' turns, and a check of a copy with
+-- these words from a word on; what is asked of it: the cost of a take, and the present depth; and what no call does: these words are
+-- written into the region, which is then checked
 pub data Does : Type 0 where
-  puts : ℕ → ℕ → Does
+  putsItem : ℕ → Item → Does
   takes : ℕ → Does
   turns : List ℕ → Does
   checks : ℕ → List ℕ → Does
   costs : Does
   depths : Does
+  writes : ℕ → List ℕ → Does
 
 -- what it answers: a number, or the words of a run's answers
 pub data Says : Type 0 where
   answered : ℕ → Says
   served : List ℕ → Says
 
--- every tag is 9
+abbrev pub tagged : ℕ → ℕ → Item
+tagged k t = record { key = k; tag = t }
+
+-- the tag is 9 where it is not said
 abbrev pub item : ℕ → Item
-item k = record { key = k; tag = 9 }
+item k = tagged k 9
+
+abbrev pub puts : ℕ → ℕ → Does
+puts t k = putsItem t (item k)
 
 -- a schedule of these threads' turns, each with choice 0
 abbrev pub schedule : List ℕ → List ℕ
@@ -49,20 +58,22 @@ saysOf says [] = []
 saysOf says ((d, x) ∷ rest) = says x ∷ saysOf says rest
 
 abbrev saidOf : List ℕ → Does → Says
-saidOf b (puts t k) = answered (putRefusal b t (item k))
+saidOf b (putsItem t i) = answered (putRefusal b t i)
 saidOf b (takes t) = answered (takeRefusal b t)
 saidOf b (turns ts) = served (wordsAt (runResult b (schedule ts) 1000 (replicate (12 * length ts) 0) .answers) 0 (3 * length ts))
 saidOf b (checks at ws) = answered (checkAnswer (setWords b at ws))
 saidOf b costs = answered (takeCost (sharedIn (frameIn b) b))
 saidOf b depths = answered (word b 4)
+saidOf b (writes at ws) = answered (checkAnswer (setWords b at ws))
 
 abbrev leftBy : List ℕ → Does → List ℕ
-leftBy b (puts t k) = putBytes b t (item k)
+leftBy b (putsItem t i) = putBytes b t i
 leftBy b (takes t) = takeBytes b t
 leftBy b (turns ts) = runResult b (schedule ts) 1000 (replicate (12 * length ts) 0) .region
 leftBy b (checks at ws) = b
 leftBy b costs = b
 leftBy b depths = b
+leftBy b (writes at ws) = setWords b at ws
 
 abbrev said : List ℕ → List Does → List Says
 said b [] = []
@@ -120,3 +131,20 @@ wordsOf (x ∷ xs) = answerWords x ++ wordsOf xs
 
 abbrev pub serves : List Answer → Says
 serves xs = served (wordsOf xs)
+
+-- n turns of thread t, the last of which answers a
+abbrev pub turnsTo : ℕ → ℕ → Answer → List (Does × Says)
+turnsTo t n a = (turns (replicate n t), serves (replicate (n - 1) Moved ++ a ∷ [])) ∷ []
+
+-- a put by thread 1 that is inserted with its n-th access
+abbrev pub inserting : Item → ℕ → List (Does × Says)
+inserting i n = (putsItem 1 i, answered done) ∷ turnsTo 1 n Inserted
+
+-- a take by thread 1 that ends with its n-th access
+abbrev pub taking : ℕ → Answer → List (Does × Says)
+taking n a = (takes 1, answered done) ∷ turnsTo 1 n a
+
+-- calls with what they say, on a region of one thread which is this long
+abbrev pub oneThread : ℕ → ℕ → ℕ → List (Does × Says) → ℕ → Row
+oneThread d c bytes cs depth =
+    rowOf (record { depth = d; cells = c; threads = 1; threshold = 1 }) (3 ∷ []) bytes done (doesOf cs) (saysOf (λ x. x) cs) depth

@@ -34,17 +34,19 @@ use Rattle.region.proofs.Picks.{pick-good, upd-other}
 use Rattle.region.proofs.Shapes.{and-left, and-right, between-least, between-most, sizes}
 use Rattle.region.proofs.Views.{length-setCellIn, length-setNodeIn, length-setThreadIn, shared-setCell, shared-setFree, threads-setCell, threads-setFree, threads-setThread, threads-kept, word-setCell, word-setCellIn, word-setNode, word-setThread}
 use Rattle.access.specs.Effect.{effectBytes, freedBytes, pushBytes}
+use Rattle.access.specs.Order.{itemLt, topItem}
 use Rattle.access.specs.Plan.{refused}
 use Rattle.access.specs.declared.effect.Effect.{Effect}
 use Rattle.access.specs.declared.effect.Effect.the-variants.{Nothing, Grow, Push, Pop, Exchange, Clean}
 use Rattle.access.specs.declared.plan.Plan.{Plan}
 use Rattle.access.proofs.EffectLaws.{effect-word}
+use Rattle.access.proofs.OrderLaws.{item-below-top}
 use Rattle.readable.specs.Readable.{readable, shapeIn, threadReadable}
 use Rattle.readable.proofs.Laws.{Good, good, readable-good}
-use Rattle.readable.proofs.Stores.{CellGood, PlaceGood, ThreadGood, SharedGood, make-good, shape-kept, thread-reads, good-shared, good-thread, good-within, good-setThread, thread-fit}
+use Rattle.readable.proofs.Stores.{CellGood, FieldsGood, PlaceGood, ThreadGood, SharedGood, make-good, shape-kept, thread-reads, good-shared, good-thread, good-within, good-setThread, thread-fit}
 use Rattle.machine.specs.Begin.{frameIn, isIdle, isItem, mayPut, mayTake, acceptedPut, hasFreeCell, putRefusal, putBytes, takeRefusal, takeBytes}
 use Rattle.machine.specs.Turn.{carriedOut, decide, decideAt, staysPut, turnBytes, turnPlan}
-use Rattle.preserved.specs.Theorems.{Apart, OutsideEffect, TurnKeepsReadable, PutKeepsReadable, TakeKeepsReadable, TurnKeepsShape, PutKeepsShape, TakeKeepsShape, TurnLeavesOthers, PutLeavesOthers, TakeLeavesOthers, TurnLeavesWords}
+use Rattle.preserved.specs.Theorems.{Apart, EmptyIsAbove, OutsideEffect, TurnKeepsReadable, PutKeepsReadable, TakeKeepsReadable, TurnKeepsShape, PutKeepsShape, TakeKeepsShape, TurnLeavesOthers, PutLeavesOthers, TakeLeavesOthers, TurnLeavesWords}
 use Rattle.preserved.proofs.EffectsGood.{cell-fit, good-effect, put-cell, thread-elsewhere}
 use Rattle.preserved.proofs.PlansGood.{PlanGood, at-good, fields-item, fields-own, plan-good, readDepth-good, readLeaf-good, readAncestor-good, growDepth-good, readTarget-good, insertAtRoot-good, readParent-good, insertBelow-good, readRoot-good, removeHead-good, mendReadNode-good, mendReadDepth-good, mendReadLeft-good, mendReadRight-good, mendSwap-good, mendClean-good}
 
@@ -384,3 +386,23 @@ turn-leaves-words b e t c j o a =
     (subst (Within (frameIn b)) (sym (length-setThreadIn (frameIn b) b t (p .thread))) (good-within s b (good b e)))
     (p .effect) o
     ∙ word-setThread (frameIn b) b (good-within s b (good b e)) t j (p .thread) a)
+
+-- an item in range is less than the value of an empty node
+less-than-empty : (i : Item) → i .key < 2 ^ 32 → i .tag ≤ greatestTag → itemLt i topItem ≡ true
+unfolding itemLt
+less-than-empty i key tag = ap not (item-below-top i (omega arith) tag)
+
+pub empty-is-above : EmptyIsAbove
+unfolding sharedIn
+empty-is-above b e =
+    let s = shapeIn b in
+    let g = good b e in
+    let cell = good-shared s b g .cell in
+    let thread : (t : ℕ) → FieldsGood s (threadIn (frameOf s) b t) = λ t. good-thread s b g t .fields in
+    record {
+      cells = λ c. less-than-empty _ (cell c .key) (cell c .tag);
+      items = λ t. less-than-empty _ (thread t .item-key) (thread t .item-tag);
+      first = λ t. less-than-empty _ (thread t .first .head .key) (thread t .first .head .tag);
+      second = λ t. less-than-empty _ (thread t .second .head .key) (thread t .second .head .tag);
+      third = λ t. less-than-empty _ (thread t .third .head .key) (thread t .third .head .tag);
+    }

@@ -1,4 +1,5 @@
--- What holds of every turn and every beginning on a readable region. Each statement is proved under its name in proofs/Proved.antt.
+-- What holds of every readable region, and of every turn and every beginning on one. Each statement is proved under its name in
+-- proofs/Proved.antt.
 use Prim.Native.Nat.{ℕ, _+_, _≤_, _<_}
 use mathlib.Core.Path.{_≡_}
 use mathlib.Core.Logic.{_⊎_}
@@ -6,15 +7,28 @@ use mathlib.Core.Bool.{true}
 use mathlib.Core.List.{List}
 use Rattle.words.specs.Word.{word}
 use Rattle.region.specs.Frame.{nodesOf, cellsOf, threadsOf}
-use Rattle.region.specs.Shared.{entry, threadIn}
+use Rattle.region.specs.Shared.{cellIn, entry, threadIn}
 use Rattle.region.specs.Thread.{threadSize}
 use Rattle.region.specs.declared.frame.Frame.{Frame}
 use Rattle.region.specs.declared.record.Item.{Item}
+use Rattle.access.specs.Order.{itemLt, topItem}
 use Rattle.access.specs.declared.effect.Effect.{Effect}
 use Rattle.access.specs.declared.effect.Effect.the-variants.{Nothing, Grow, Push, Pop, Exchange, Clean}
 use Rattle.readable.specs.Readable.{readable, shapeIn}
 use Rattle.machine.specs.Begin.{frameIn, putBytes, takeBytes}
 use Rattle.machine.specs.Turn.{turnBytes, turnPlan}
+
+-- "an empty node is above every item" (document 02, request 2): what a turn compares an empty node with is less, be it the item of a cell,
+-- the thread's own or a copied one; also where the region was never laid out
+pub record EmptyAbove (b : List ℕ) : Type 0 where
+  pub cells : (c : ℕ) → itemLt (cellIn (frameIn b) b c .item) topItem ≡ true
+  pub items : (t : ℕ) → itemLt (threadIn (frameIn b) b t .item) topItem ≡ true
+  pub first : (t : ℕ) → itemLt (threadIn (frameIn b) b t .copies .first .head .item) topItem ≡ true
+  pub second : (t : ℕ) → itemLt (threadIn (frameIn b) b t .copies .second .head .item) topItem ≡ true
+  pub third : (t : ℕ) → itemLt (threadIn (frameIn b) b t .copies .third .head .item) topItem ≡ true
+
+abbrev pub EmptyIsAbove : Type 0
+EmptyIsAbove = (b : List ℕ) → readable b ≡ true → EmptyAbove b
 
 -- a readable region is readable after any turn and any beginning
 abbrev pub TurnKeepsReadable : Type 0

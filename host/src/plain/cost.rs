@@ -1,8 +1,9 @@
 //! The cost of a take, change request 3: a figure read from the region, no turn served.
 
-use super::fields::{EMPTY, ROOT};
+use super::fields::ROOT;
 use super::machine::Machine;
 use super::memory::NodeCopy;
+use super::value::Value;
 
 impl Machine<'_> {
     /// The accesses that a take begun now makes up to its answer.
@@ -19,8 +20,8 @@ impl Machine<'_> {
             return 1;
         }
         let value_of_rest = match root.head.next {
-            0 => EMPTY,
-            second_cell => self.memory.cell(second_cell).key,
+            0 => Value::Empty,
+            second_cell => self.memory.cell(second_cell).val(),
         };
         let depth = self.memory.read_depth();
         let level = self.resting_level(value_of_rest, depth);
@@ -33,7 +34,7 @@ impl Machine<'_> {
 
     /// The level at which mending leaves a list of that value that starts at the root: it goes down
     /// to the child of lesser value, the left of equals, as long as that is less than its own.
-    fn resting_level(&self, value: u32, depth: u32) -> u32 {
+    fn resting_level(&self, value: Value, depth: u32) -> u32 {
         let mut node = ROOT;
         for level in 1..depth {
             let [left, right] = [2 * node, 2 * node + 1].map(|child| self.read(child).val());

@@ -2,8 +2,6 @@
 
 /// The greatest key of an item.
 pub(super) const GREATEST_KEY: u32 = u32::MAX - 1;
-/// What the key of an empty node counts as.
-pub(super) const EMPTY: u32 = u32::MAX;
 pub(super) const GREATEST_TAG: u32 = 65_535;
 /// The bits of a permission.
 pub(super) const MAY_PUT: u32 = 1;

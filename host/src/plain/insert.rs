@@ -22,7 +22,7 @@ impl Turn<'_, '_> {
         let copy = self.memory.read(leaf)?;
         self.thread.set(Field::Leaf, leaf);
         self.thread.set_copy(Copied::First, copy);
-        if copy.val() >= self.thread.get(Field::Key) {
+        if copy.val() >= self.thread.item() {
             // Never refused: the search starts at the leaf's own level.
             return self.search_on(leaf, 1, d);
         }
@@ -47,7 +47,7 @@ impl Turn<'_, '_> {
         }
         let middle = (lo + hi) / 2;
         let copy = self.memory.read(ancestor(leaf, middle)?)?;
-        let found = copy.val() >= self.thread.get(Field::Key);
+        let found = copy.val() >= self.thread.item();
         let (lo, hi) = if found { (lo, middle) } else { (middle + 1, hi) };
         let answer = self.search_on(leaf, lo, hi)?;
         self.thread.set_copy(Copied::First, copy);
@@ -82,7 +82,7 @@ impl Turn<'_, '_> {
         let node = self.thread.get(Field::Node);
         let copy = self.memory.read(node)?;
         self.thread.set_copy(Copied::First, copy);
-        self.moved_to(if copy.val() < self.thread.get(Field::Key) {
+        self.moved_to(if copy.val() < self.thread.item() {
             Place::I1
         } else if node == ROOT {
             Place::I6
@@ -103,7 +103,7 @@ impl Turn<'_, '_> {
         let parent = self.thread.get(Field::Node) / 2;
         let copy = self.memory.read(parent)?;
         self.thread.set_copy(Copied::Second, copy);
-        self.moved_to(if copy.val() > self.thread.get(Field::Key) { Place::I1 } else { Place::I8 })
+        self.moved_to(if copy.val() > self.thread.item() { Place::I1 } else { Place::I8 })
     }
 
     /// I8, line 12: DCSS of the node, with the own cell as its new head, under an unchanged parent.

@@ -48,7 +48,7 @@ impl<'a> Machine<'a> {
         Ok(())
     }
 
-    /// Begins a take.
+    /// Begins a take, which removes the least item, by key and then by tag.
     ///
     /// # Errors
     ///

@@ -1,8 +1,9 @@
 //! The memory that threads share: present depth, nodes, cells. Its accesses are those of Listing 1:
 //! READ, CAS, DCAS and DCSS, each one access here.
 
-use super::fields::{cell, heading, EMPTY};
+use super::fields::{cell, heading};
 use super::parts::{CellWords, Heading, NodeWords};
+use super::value::Value;
 use crate::Refusal;
 
 /// A node of the tree: its list's first cell (0 for none), its dirty bit, its counter.
@@ -41,6 +42,11 @@ impl Cell {
     pub fn to_words(self) -> CellWords {
         [self.key, self.tag, self.next].map(u32::to_le_bytes)
     }
+
+    /// The value of a list that starts with this cell.
+    pub fn val(self) -> Value {
+        Value::Item { key: self.key, tag: self.tag }
+    }
 }
 
 /// What READ takes from a node: the node and its head cell, which is all 0 for an empty list.
@@ -51,12 +57,12 @@ pub(super) struct NodeCopy {
 }
 
 impl NodeCopy {
-    /// val, line 1: the head's key, and above every key for an empty list.
-    pub fn val(self) -> u32 {
+    /// val, line 1: the head's item, and above every item for an empty list.
+    pub fn val(self) -> Value {
         if self.node.first_cell == 0 {
-            EMPTY
+            Value::Empty
         } else {
-            self.head.key
+            self.head.val()
         }
     }
 }

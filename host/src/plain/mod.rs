@@ -32,6 +32,7 @@ mod readable;
 mod record;
 mod run;
 mod turn;
+mod value;
 
 use crate::{Answer, Refusal};
 

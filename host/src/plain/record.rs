@@ -3,6 +3,7 @@
 use super::fields::{Field, Place};
 use super::memory::{Cell, Node, NodeCopy};
 use super::parts::{CopyWords, ThreadWords};
+use super::value::Value;
 use crate::Refusal;
 
 /// One of the three node copies.
@@ -34,6 +35,11 @@ impl Record<'_> {
 
     pub fn set_place(&mut self, place: Place) {
         self.set(Field::Place, place as u32);
+    }
+
+    /// The item of a put, to be compared with the values of nodes.
+    pub fn item(&self) -> Value {
+        Value::Item { key: self.get(Field::Key), tag: self.get(Field::Tag) }
     }
 
     pub fn copy(&self, copied: Copied) -> NodeCopy {

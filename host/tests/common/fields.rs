@@ -61,7 +61,8 @@ pub enum Field {
     Depth,
     Cell,
     Dirty,
-    Free,
+    Counter,
+    Key,
     Tag,
     Permission,
     Place,
@@ -72,14 +73,14 @@ pub enum Field {
     After,
 }
 
-const NODE_FIELDS: [Field; RECORD] = [Field::Cell, Field::Dirty, Field::Free];
-const CELL_FIELDS: [Field; RECORD] = [Field::Free, Field::Tag, Field::Cell];
+const NODE_FIELDS: [Field; RECORD] = [Field::Cell, Field::Dirty, Field::Counter];
+const CELL_FIELDS: [Field; RECORD] = [Field::Key, Field::Tag, Field::Cell];
 const COPY_FIELDS: [Field; 6] =
-    [Field::Cell, Field::Dirty, Field::Free, Field::Free, Field::Tag, Field::Cell];
+    [Field::Cell, Field::Dirty, Field::Counter, Field::Key, Field::Tag, Field::Cell];
 const THREAD_FIELDS: [Field; 15] = [
     Field::Permission,
     Field::Place,
-    Field::Free,
+    Field::Key,
     Field::Tag,
     Field::Cell,
     Field::Level,
@@ -90,7 +91,7 @@ const THREAD_FIELDS: [Field; 15] = [
     Field::Node,
     Field::Waiting,
     Field::After,
-    Field::Free,
+    Field::Key,
     Field::Tag,
 ];
 
@@ -114,12 +115,20 @@ impl Words {
         region
     }
 
-    /// A readable region, each field anywhere in its range, the ends of the range frequent.
+    /// A readable region, each field anywhere in its range, the ends of the range frequent. Half of the
+    /// regions have but two keys, so that items of one key meet; one of the two is 4,294,967,295, which
+    /// no item of a laid-out region has.
     pub fn any_readable(random: &mut Random, shape: Shape) -> Words {
         let mut region = Words::laid_out(shape);
+        let has_few_keys = random.among(0..=1) == 0;
+        let few_keys = [u32::MAX, random.among_or_extreme(0..=u32::MAX)];
         // Place and node stand before the fields whose ranges hang on them.
         for at in 4..region.words.len() {
-            region.words[at] = random.among_or_extreme(region.least(at)..=region.greatest(at));
+            region.words[at] = if has_few_keys && region.field(at) == Field::Key {
+                random.one_of(&few_keys)
+            } else {
+                random.among_or_extreme(region.least(at)..=region.greatest(at))
+            };
         }
         region
     }
@@ -154,6 +163,11 @@ impl Words {
                 .all(|at| (self.least(at)..=self.greatest(at)).contains(&self.words[at]))
     }
 
+    /// Whether a word after the shape has a range: counters and keys are free.
+    pub fn has_range(&self, at: usize) -> bool {
+        !matches!(self.field(at), Field::Counter | Field::Key)
+    }
+
     /// What the word holds, for any word after the shape.
     pub fn field(&self, at: usize) -> Field {
         if at < HEADING {
@@ -178,7 +192,7 @@ impl Words {
     pub fn greatest(&self, at: usize) -> u32 {
         let shape = self.shape();
         match self.field(at) {
-            Field::Free => u32::MAX,
+            Field::Counter | Field::Key => u32::MAX,
             Field::Tag => 65_535,
             Field::Dirty | Field::After => 1,
             Field::Permission => 3,

@@ -5,3 +5,4 @@ pub mod beginnings;
 pub mod fields;
 pub mod queue;
 pub mod random;
+pub mod values;

@@ -5,9 +5,10 @@ use std::iter::successors;
 use mound::{plain, Answer, Refusal, Shape};
 
 use super::fields::{
-    place, COPIES, FIRST_FREE_CELL, HEADING, NODE, OWN_CELL, PERMISSION, PLACE, PRESENT_DEPTH,
-    RECORD, THREAD,
+    place, COPIES, FIRST_FREE_CELL, HEADING, KEY, NODE, OWN_CELL, PERMISSION, PLACE, PRESENT_DEPTH,
+    RECORD, TAG, THREAD,
 };
+use super::values::Value;
 
 /// A key with a tag.
 pub type Item = (u32, u32);
@@ -18,9 +19,6 @@ pub enum Call {
     Put(Item),
     Take,
 }
-
-/// The value of an empty node; among keys it stands for no list.
-pub const EMPTY: u32 = u32::MAX;
 
 /// The shape of document 01's cases.
 pub const SMALL: Shape = Shape { depth: 2, cells: 2, threads: 2, threshold: 1 };
@@ -54,19 +52,40 @@ impl Queue {
         self
     }
 
-    /// A queue of depth 3 with lists of one cell, of these keys, at nodes 1, 2 and 3, each updated nine
-    /// times; thread 1 stands at a place with cell 4 as its own and these fields.
-    pub fn with_thread_at(place: u32, fields: &[(usize, u32)], keys: [u32; 3]) -> Queue {
+    /// A queue of depth 3 with lists of one cell, or none, of these values at nodes 1, 2 and 3, each
+    /// list updated nine times; thread 1 stands at a place with cell 4 as its own and these fields.
+    pub fn with_thread_at(place: u32, fields: &[(usize, u32)], values: [Value; 3]) -> Queue {
         let mut queue = Queue::open_to_all(Shape { depth: 3, cells: 4, threads: 2, threshold: 1 });
         queue.set_word(PRESENT_DEPTH, 3);
         queue.set_word(FIRST_FREE_CELL, 0);
-        for (number, key) in (1..).zip(keys).filter(|&(_, key)| key != EMPTY) {
-            queue.set_words(queue.node_at(number), [number, 0, 9]);
-            queue.set_words(queue.cell_at(number), [key, 0, 0]);
+        for (number, value) in (1..).zip(values) {
+            if let Some((key, tag)) = value {
+                queue.set_words(queue.node_at(number), [number, 0, 9]);
+                queue.set_words(queue.cell_at(number), [key, tag, 0]);
+            }
         }
         for &(field, value) in [(PLACE, place), (OWN_CELL, 4)].iter().chain(fields) {
             queue.set_field(1, field, value);
         }
+        queue
+    }
+
+    /// Such a queue, the thread in a put of this item.
+    pub fn with_put_at(
+        place: u32,
+        (key, tag): Item,
+        fields: &[(usize, u32)],
+        values: [Value; 3],
+    ) -> Queue {
+        let fields = [&[(KEY, key), (TAG, tag)], fields].concat();
+        Queue::with_thread_at(place, &fields, values)
+    }
+
+    /// Such a queue, the thread mending the root: at M4, with copies of all three nodes.
+    pub fn with_mending_at_m4(values: [Value; 3]) -> Queue {
+        let mut queue = Queue::with_thread_at(place::M5, &[(NODE, 1)], values);
+        queue.match_copies(1);
+        queue.set_field(1, PLACE, place::M4);
         queue
     }
 

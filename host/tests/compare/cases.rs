@@ -1,19 +1,19 @@
-//! The cases of document 01, from A to M, and those of request 3.
+//! The cases of document 01, from A to M, and those of request 3. Those of request 2 are in `items.rs`.
 
 use mound::Answer::{self, Empty, Idle, Inserted, Moved, Took};
 use mound::{Served, Shape};
 
 use crate::both::{self, Ran};
 use crate::fields::{place, FIRST_FREE_CELL, PRESENT_DEPTH};
-use crate::queue::{Queue, SMALL};
+use crate::queue::{Item, Queue, SMALL};
 use crate::random::Random;
 use crate::runs::run_turns;
 
 const TOOK_5: Answer = Took { key: 5, tag: 0 };
 
 /// A queue of which the library's calls are made, each beside the plain implementation's.
-struct Case {
-    queue: Queue,
+pub struct Case {
+    pub queue: Queue,
     random: Random,
 }
 
@@ -27,8 +27,13 @@ impl Case {
     }
 
     /// An empty queue of the cases' shape.
-    fn fresh() -> Case {
+    pub fn fresh() -> Case {
         Case::laid_out(SMALL, &[3, 3])
+    }
+
+    /// A queue as it stands.
+    pub fn of(queue: Queue) -> Case {
+        Case { queue, random: Random::new(2) }
     }
 
     /// One that holds key 5 at its root.
@@ -42,16 +47,19 @@ impl Case {
     /// One of depth 3 at most, in which thread 1 has put these keys with choices 0, 1, 2 and 3.
     fn holding(keys: [u32; 4]) -> Case {
         let shape = Shape { depth: 3, cells: 4, ..SMALL };
-        let queue = Queue::open_to_all(shape).holding(&keys.map(|key| (key, 0)));
-        Case { queue, random: Random::new(3) }
+        Case::of(Queue::open_to_all(shape).holding(&keys.map(|key| (key, 0))))
     }
 
     /// Begins a put with tag 0.
     fn put(&mut self, thread: u32, key: u32) -> u32 {
-        both::put(&mut self.random, &mut self.queue.bytes, thread, key, 0)
+        self.put_item(thread, (key, 0))
     }
 
-    fn take(&mut self, thread: u32) -> u32 {
+    pub fn put_item(&mut self, thread: u32, (key, tag): Item) -> u32 {
+        both::put(&mut self.random, &mut self.queue.bytes, thread, key, tag)
+    }
+
+    pub fn take(&mut self, thread: u32) -> u32 {
         both::take(&mut self.random, &mut self.queue.bytes, thread)
     }
 
@@ -66,14 +74,14 @@ impl Case {
     }
 
     /// Runs a turn of each of these threads, with choice 0.
-    fn turns(&mut self, threads: &[u32]) -> Vec<Answer> {
+    pub fn turns(&mut self, threads: &[u32]) -> Vec<Answer> {
         let turns: Vec<(u32, u32)> = threads.iter().map(|&thread| (thread, 0)).collect();
         self.run(&turns, u32::MAX).answers
     }
 }
 
 /// A take's figure, the accesses that it makes while no other thread moves, and its answer.
-fn take_alone(mut case: Case) -> (u32, u32, Answer) {
+pub fn take_alone(mut case: Case) -> (u32, u32, Answer) {
     let figure = case.queue.take_cost();
     assert_eq!(case.take(1), 0);
     let ran = case.run(&[(1, 0); 20], u32::MAX);
@@ -155,7 +163,7 @@ fn case_h_a_put_that_grows_the_tree() {
 fn case_i_a_put_crosses_a_take() {
     let mut case = Case::with_root_5();
     assert_eq!([case.take(1), case.put(2, 3)], [0, 0]);
-    let mut whole = Case { queue: case.queue.clone(), random: Random::new(2) };
+    let mut whole = Case::of(case.queue.clone());
     assert_eq!(case.turns(&[1, 2, 2, 2, 2]), [Moved, Moved, Moved, Moved, Inserted]);
     assert_eq!(case.queue.place(1), place::E2);
     assert_eq!(case.turns(&[1]), [Moved]);

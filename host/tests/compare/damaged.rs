@@ -3,7 +3,7 @@
 use mound::Shape;
 
 use crate::both;
-use crate::fields::{Field, Words};
+use crate::fields::Words;
 use crate::random::Random;
 
 /// Small shapes with each kind of record in them, their ranges of different sizes.
@@ -59,7 +59,7 @@ fn each_word_of_the_largest_shape() {
     let random = &mut Random::new(31);
     let region = Words::any_readable(random, Shape::LARGEST);
     let mut bytes = region.bytes();
-    for at in (4..region.words.len()).filter(|&at| region.field(at) != Field::Free) {
+    for at in (4..region.words.len()).filter(|&at| region.has_range(at)) {
         let word = 4 * at..4 * at + 4;
         bytes[word.clone()].copy_from_slice(&(region.greatest(at) + 1).to_le_bytes());
         assert!(!both::is_readable(&bytes), "word {at}");

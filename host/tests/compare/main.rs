@@ -3,7 +3,7 @@
 
 #[path = "../common/mod.rs"]
 mod common;
-use common::{fields, queue, random};
+use common::{fields, queue, random, values};
 
 mod any_call;
 mod both;
@@ -15,6 +15,7 @@ mod cases;
 mod damaged;
 mod dependent;
 mod histories;
+mod items;
 mod layout;
 mod length;
 mod readable;

@@ -7,12 +7,13 @@ use mound::Answer;
 
 use crate::any_call;
 use crate::both;
-use crate::fields::{place, NODE, PRESENT_DEPTH};
+use crate::fields::{place, NODE, OWN_CELL, PRESENT_DEPTH};
 use crate::histories::laid_out;
 use crate::queue::Queue;
 use crate::random::Random;
 use crate::runs::run_turns;
 use crate::tally::Tally;
+use crate::values::{rank, triples, Value};
 
 /// The calls on a region, beside any calls: puts at first, then takes, so that trees of every depth
 /// come to be empty.
@@ -20,12 +21,13 @@ const PUTS: u32 = 80;
 const TAKES: u32 = 160;
 
 /// Begins a put or a take, runs turns, and makes any call. The keys of these puts rise, as times do,
-/// so that the tree grows deep.
+/// so that the tree grows deep; some are equal, with other tags or the same.
 fn go_on(random: &mut Random, queue: &mut Queue, calls_before: u32) {
     let shape = queue.shape();
     let thread = random.among(1..=shape.threads);
     if calls_before < PUTS {
-        both::put(random, &mut queue.bytes, thread, 10 + calls_before, 0);
+        let (key, tag) = (10 + calls_before / 3, random.among(0..=3));
+        both::put(random, &mut queue.bytes, thread, key, tag);
     } else {
         both::take(random, &mut queue.bytes, thread);
     }
@@ -128,4 +130,27 @@ fn a_take_alone_makes_the_accesses_of_its_figure() {
     assert!(came_up.keys().copied().eq(all), "not each level at each depth came up");
     let rare = came_up.iter().find(|&(_, &times)| times < 5);
     assert_eq!(rare, None, "came up less than 5 times");
+}
+
+/// A clean queue of depth 2 that holds key 0 at its root, before a rest of the first value, and lists
+/// of the others at the children.
+fn with_rest_and_children(values: [Value; 3]) -> Queue {
+    let mut queue = Queue::with_thread_at(place::IDLE, &[(OWN_CELL, 0)], values);
+    let [rest, ..] = queue.node(1);
+    queue.set_word(PRESENT_DEPTH, 2);
+    queue.set_words(queue.node_at(1), [4, 0, 9]);
+    queue.set_words(queue.cell_at(4), [0, 0, rest]);
+    queue
+}
+
+#[test]
+fn a_rest_of_each_value_over_children_of_each_value() {
+    let random = &mut Random::new(121);
+    for values in triples() {
+        let [rest, left, right] = values.map(rank);
+        let due = if left.min(right) < rest { 2 } else { 1 };
+        let queue = with_rest_and_children(values);
+        assert_eq!(take_alone(random, &queue, 1), due, "rest and children {values:?}");
+        assert_eq!(queue.take_cost(), figure(due, 2));
+    }
 }

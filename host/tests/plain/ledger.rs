@@ -1,5 +1,5 @@
-//! Demand 3 as a referee: the plain bag of items, told the calls and the turns of a queue. Beside it
-//! what a take costs, request 3.
+//! Demand 3 as a referee, with request 2's order: the plain bag of items, told the calls and the turns
+//! of a queue. Beside it what a take costs, request 3.
 
 use mound::{Answer, Refusal};
 
@@ -23,7 +23,7 @@ pub enum Disagreement {
     EmptyAnswer,
     /// An item was taken that the bag does not hold.
     NotHeld(Item),
-    /// An item was taken while the bag holds a lesser key.
+    /// An item was taken while the bag holds a lesser one.
     NotLeast(Item),
     /// A take answered another item than it removed.
     OtherAnswer { got: Item, due: Item },
@@ -56,7 +56,7 @@ pub enum Order {
 #[derive(Clone, PartialEq, Eq, Hash)]
 pub struct Ledger {
     order: Order,
-    /// The items in the bag, sorted.
+    /// The items in the bag, sorted by key, then by tag.
     bag: Vec<Item>,
     operations: Vec<Operation>,
 }
@@ -152,7 +152,7 @@ impl Ledger {
             return Ok(());
         }
         let at = self.bag.binary_search(&item).map_err(|_| Disagreement::NotHeld(item))?;
-        if self.bag[0].0 < item.0 {
+        if self.bag[0] < item {
             return Err(Disagreement::NotLeast(item));
         }
         self.bag.remove(at);

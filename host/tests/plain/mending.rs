@@ -6,20 +6,20 @@ use crate::fields::place::{E1, E2, IDLE, M1, M2, M3, M4, M5, M6};
 use crate::fields::{
     AFTER, COPIES, D, NODE, PERMISSION, PLACE, PRESENT_DEPTH, RESULT_KEY, RESULT_TAG, WAITING,
 };
-use crate::queue::{Queue, EMPTY};
+use crate::queue::Queue;
 
 /// The word of a node, or of a node copy, that tells whether it is dirty.
 const DIRTY: usize = 1;
 
 fn at(place: u32, fields: &[(usize, u32)]) -> Queue {
-    Queue::with_thread_at(place, fields, [5, 6, 7])
+    Queue::with_thread_at(place, fields, [5, 6, 7].map(|key| Some((key, 0))))
 }
 
 #[test]
 fn e1_mends_a_dirty_root_and_comes_back() {
-    for key in [5, EMPTY] {
+    for value in [Some((5, 0)), None] {
         let fields = [(NODE, 6), (AFTER, 1)];
-        let mut queue = Queue::with_thread_at(E1, &fields, [key, EMPTY, EMPTY]);
+        let mut queue = Queue::with_thread_at(E1, &fields, [value, None, None]);
         queue.set_word(queue.node_at(1) + DIRTY, 1);
         let left = queue.moved([PLACE, NODE, AFTER, COPIES[0] + DIRTY]);
         assert_eq!(left, [M1, 1, 0, 1]);

@@ -5,11 +5,11 @@ use mound::{plain, Answer, Refusal};
 
 use crate::fields::place::{E1, E2, I1, I2, I3, I4, I5, I6, I7, I8, IDLE, M1, M2, M3, M4, M5, M6};
 use crate::fields::{AFTER, COPIES, D, HI, KEY, LEAF, LO, NODE, OWN_CELL, PLACE, RESULT_KEY};
-use crate::queue::{Queue, EMPTY};
+use crate::queue::Queue;
 
-/// Thread 1 at a place with these fields; the root and node 2 hold keys 5 and 6.
+/// Thread 1 at a place with these fields; the root and node 2 hold keys 5 and 6, tags 0.
 fn queue_with_thread_at(place: u32, fields: &[(usize, u32)]) -> Queue {
-    Queue::with_thread_at(place, fields, [5, 6, EMPTY])
+    Queue::with_thread_at(place, fields, [Some((5, 0)), Some((6, 0)), None])
 }
 
 /// Serves a turn of thread 1, which is refused and leaves every byte.
@@ -75,7 +75,7 @@ fn a_copied_head_that_does_not_exist() {
     assert_eq!(queue_with_thread_at(E2, &[(COPIES[0], 0)]).moved([PLACE]), [E1]);
     // An empty root, copied as empty and equal; 7 comes before 11.
     for counter in [0, u32::MAX] {
-        let mut queue = Queue::with_thread_at(E2, &[], [EMPTY; 3]);
+        let mut queue = Queue::with_thread_at(E2, &[], [None; 3]);
         queue.set_word(queue.node_at(1) + 2, counter);
         queue.match_copies(1);
         assert_eq!(refused(&queue), Refusal::Unreadable);

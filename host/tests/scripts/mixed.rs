@@ -12,6 +12,7 @@ fn script(random: &mut Random) -> String {
     let threads = random.among(1..=6);
     let threshold = random.among(1..=3);
     let permission = random.one_of(&[0, 1, 2, 3, 3, 3, 3, 3, 3, 4]);
+    let greatest_key = random.one_of(&[0, 5, 50]);
     let mut script = String::from("depth cells threads threshold permission\n");
     write!(script, "{depth} {cells} {threads} {threshold} {permission}\nwhat thread a b\n")
         .expect("a string grows");
@@ -21,7 +22,10 @@ fn script(random: &mut Random) -> String {
             _ => random.among(1..=threads),
         };
         let line = match random.among(0..=9) {
-            0 => format!("put {thread} {} {}\n", random.among(0..=50), random.among(0..=9)),
+            0 => {
+                let (key, tag) = (random.among(0..=greatest_key), random.among(0..=9));
+                format!("put {thread} {key} {tag}\n")
+            }
             1 => format!("take {thread} 0 0\n"),
             _ => format!("turn {thread} {} 0\n", random.among_or_extreme(0..=u32::MAX)),
         };

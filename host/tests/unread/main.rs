@@ -26,8 +26,7 @@ const SHAPE_WORDS: usize = 4;
 /// (below 0 it is the greatest number) and at the one above.
 fn try_each_word(memory: &mut Memory, region: &Words) {
     let mut bytes = region.bytes();
-    let ranged = |&at: &usize| region.field(at) != Field::Free;
-    for at in (SHAPE_WORDS..region.words.len()).filter(ranged) {
+    for at in (SHAPE_WORDS..region.words.len()).filter(|&at| region.has_range(at)) {
         for value in [region.least(at).wrapping_sub(1), region.greatest(at) + 1] {
             bytes[4 * at..][..4].copy_from_slice(&value.to_le_bytes());
             let read = 4 * words_to_read(region, at, value);

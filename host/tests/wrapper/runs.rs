@@ -101,23 +101,25 @@ fn every_answer_has_words_of_its_own() {
 }
 
 /// Eight threads put 800 items, each thread its next one as soon as it is idle; then they all come
-/// out in the order of their keys.
+/// out in the order of their keys, and those of one key in the order of their tags. No two items are
+/// equal.
 #[test]
 fn wake_ups_come_out_in_order() -> Result<(), Refusal> {
     let shape = Shape { depth: 11, cells: 1024, threads: 8, threshold: 2 };
     let mut bytes = vec![0; shape.byte_len()?];
     let mut region = Region::layout(&mut bytes, shape, &[Permission::PUT_AND_TAKE; 8])?;
-    let mut keys: Vec<u32> = (0..800u32).map(|n| n.wrapping_mul(2_654_435_761) >> 8).collect();
+    let mut items: Vec<(u32, u32)> =
+        (0..800u32).map(|n| (n.wrapping_mul(2_654_435_761) >> 24, n * 77 % 800)).collect();
     let turns: Vec<Turn> =
         (0..64u32).map(|n| Turn { thread: n % 8 + 1, choice: n.wrapping_mul(40_503) }).collect();
 
     let mut run = Run::default();
     let (mut idle, mut inserted) = ((1..=8).collect::<Vec<u32>>(), 0);
-    let mut waiting = keys.iter();
-    while inserted < keys.len() {
+    let mut waiting = items.iter();
+    while inserted < items.len() {
         for thread in idle.drain(..) {
-            if let Some(&key) = waiting.next() {
-                region.put(thread, key, key & 0xffff)?;
+            if let Some(&(key, tag)) = waiting.next() {
+                region.put(thread, key, tag)?;
             }
         }
         region.run_into(&mut run, &turns, u32::MAX)?;
@@ -126,12 +128,12 @@ fn wake_ups_come_out_in_order() -> Result<(), Refusal> {
         inserted += idle.len();
     }
 
-    keys.sort_unstable();
-    for key in keys {
+    items.sort_unstable();
+    for (key, tag) in items {
         region.take(3)?;
         region.run_into(&mut run, [Turn { thread: 3, choice: 0 }; 5 * 11], u32::MAX)?;
-        let took = Answer::Took { key, tag: key & 0xffff };
-        assert!(run.answers().any(|answer| answer == took), "{key} did not come");
+        let took = Answer::Took { key, tag };
+        assert!(run.answers().any(|answer| answer == took), "{key} {tag} did not come");
     }
     Ok(())
 }

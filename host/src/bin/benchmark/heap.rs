@@ -7,20 +7,20 @@ use std::sync::Mutex;
 use std::time::Instant;
 
 use crate::measure::{median, ROUNDS};
+use crate::play::Item;
 use crate::record::Random;
 use crate::work::PAIRS;
 
-/// Nanoseconds of a push and a pop in a heap that holds so many items of random keys.
+/// Nanoseconds of a push and a pop in a heap that holds so many random items.
 pub fn pair(items: u32) -> f64 {
     let mut random = Random::new();
-    let held: BinaryHeap<Reverse<(u32, u32)>> =
-        (0..items).map(|_| Reverse((random.next(), 0))).collect();
-    let keys: Vec<u32> = (0..PAIRS).map(|_| random.next()).collect();
+    let held: BinaryHeap<Reverse<Item>> = (0..items).map(|_| Reverse(random.next_item())).collect();
+    let pushed: Vec<Item> = (0..PAIRS).map(|_| random.next_item()).collect();
     let round = |_| {
         let heap = Mutex::new(held.clone());
         let start = Instant::now();
-        for &key in &keys {
-            heap.lock().expect("no one has panicked").push(Reverse((key, 0)));
+        for &item in &pushed {
+            heap.lock().expect("no one has panicked").push(Reverse(item));
             black_box(heap.lock().expect("no one has panicked").pop());
         }
         start.elapsed().as_nanos() as f64 / f64::from(PAIRS)

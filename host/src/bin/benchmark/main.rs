@@ -16,7 +16,7 @@ const LARGE: Shape = Shape { threshold: 2, ..Shape::LARGEST };
 
 const TURNS: &str = "
 A turn in a run. The share is that of the turns that make an access; the others are idle. Puts
-that find no leaf are always given the same one, which holds a lesser key, and go on for ever.";
+that find no leaf are always given the same one, which holds a lesser item, and go on for ever.";
 
 const PAIRS_OF_CALLS: &str = "
 A put and a take by one thread, T 4, half of the cells in use: four calls, each run with just the

@@ -7,12 +7,15 @@ use mound::{calls, plain};
 
 use crate::work::Work;
 
+/// A key with a tag.
+pub type Item = (u32, u32);
+
 /// A call on a region.
 #[derive(Clone)]
 pub enum Call {
     Put {
         thread: u32,
-        key: u32,
+        item: Item,
     },
     Take {
         thread: u32,
@@ -24,7 +27,7 @@ pub enum Call {
 
 /// An implementation of the calls. What they answer is looked at by no one, but computed.
 pub trait Queue {
-    fn put(region: &mut [u8], thread: u32, key: u32);
+    fn put(region: &mut [u8], thread: u32, item: Item);
     fn take(region: &mut [u8], thread: u32);
     fn run(region: &mut [u8], schedule: &[u8], answers: &mut [u8]);
     fn check(region: &[u8]);
@@ -34,8 +37,8 @@ pub trait Queue {
 pub struct Library;
 
 impl Queue for Library {
-    fn put(region: &mut [u8], thread: u32, key: u32) {
-        black_box(calls::put(region, thread, key, 0));
+    fn put(region: &mut [u8], thread: u32, (key, tag): Item) {
+        black_box(calls::put(region, thread, key, tag));
     }
 
     fn take(region: &mut [u8], thread: u32) {
@@ -55,8 +58,8 @@ impl Queue for Library {
 pub struct Plain;
 
 impl Queue for Plain {
-    fn put(region: &mut [u8], thread: u32, key: u32) {
-        _ = black_box(plain::put(region, thread, key, 0));
+    fn put(region: &mut [u8], thread: u32, (key, tag): Item) {
+        _ = black_box(plain::put(region, thread, key, tag));
     }
 
     fn take(region: &mut [u8], thread: u32) {
@@ -76,7 +79,7 @@ impl Queue for Plain {
 pub fn play<Q: Queue>(work: &Work, region: &mut [u8], answers: &mut [u8]) {
     for call in &work.calls {
         match call {
-            Call::Put { thread, key } => Q::put(region, *thread, *key),
+            Call::Put { thread, item } => Q::put(region, *thread, *item),
             Call::Take { thread } => Q::take(region, *thread),
             Call::Run(turns) => {
                 Q::run(region, &work.schedule[8 * turns.start..8 * turns.end], answers)

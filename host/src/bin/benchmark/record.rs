@@ -3,23 +3,34 @@
 
 use mound::{plain, Answer, Shape};
 
-use crate::play::Call;
+use crate::play::{Call, Item};
 use crate::work::Work;
 
 /// Numbers that are the same in each run of the program: a linear congruential generator.
 pub struct Random {
     state: u64,
+    /// The key of the last item.
+    key: u32,
 }
 
 impl Random {
     pub fn new() -> Random {
-        Random { state: 1 }
+        Random { state: 1, key: 0 }
     }
 
     /// Any number but the greatest, which is no key.
     pub fn next(&mut self) -> u32 {
         self.state = self.state.wrapping_mul(6_364_136_223_846_793_005).wrapping_add(1);
         ((self.state >> 32) as u32).min(u32::MAX - 1)
+    }
+
+    /// Any item. One in four has the key of the item before it, as timers for one second have.
+    pub fn next_item(&mut self) -> Item {
+        let same_key = self.next().is_multiple_of(4);
+        if !same_key {
+            self.key = self.next();
+        }
+        (self.key, self.next() & 0xffff)
     }
 }
 
@@ -32,7 +43,7 @@ pub struct Recorder {
 }
 
 impl Recorder {
-    /// A queue that holds so many items of random keys.
+    /// A queue that holds so many random items.
     pub fn holding(shape: Shape, items: u32) -> Recorder {
         let mut recorder = Recorder::laid_out(shape);
         for _ in 0..items {
@@ -45,7 +56,7 @@ impl Recorder {
     pub fn with_leftmost_path(shape: Shape) -> Recorder {
         let mut recorder = Recorder::laid_out(shape);
         for key in 1..=shape.depth {
-            recorder.put(1, key);
+            recorder.put(1, (key, 0));
             recorder.run_until(|recorder| recorder.turn(1, 0) == Answer::Inserted);
         }
         recorder.started()
@@ -73,16 +84,16 @@ impl Recorder {
             if thread % 2 == 1 {
                 self.take(thread);
             } else {
-                let key = self.random.next();
-                self.put(thread, key);
+                let item = self.random.next_item();
+                self.put(thread, item);
             }
         }
     }
 
-    /// Begins a put of the greatest key with every thread.
+    /// Begins a put of the greatest item with every thread.
     pub fn begin_greatest_puts(&mut self) {
         for thread in 1..=self.shape.threads {
-            self.put(thread, u32::MAX - 1);
+            self.put(thread, (u32::MAX - 1, 0xffff));
         }
     }
 
@@ -112,10 +123,10 @@ impl Recorder {
         });
     }
 
-    /// Puts an item of a random key by thread 1.
+    /// Puts a random item by thread 1.
     pub fn put_and_run(&mut self) {
-        let key = self.random.next();
-        self.put(1, key);
+        let item = self.random.next_item();
+        self.put(1, item);
         self.run_until(|recorder| {
             let choice = recorder.random.next();
             recorder.turn(1, choice) == Answer::Inserted
@@ -128,9 +139,9 @@ impl Recorder {
         self.run_until(|recorder| matches!(recorder.turn(1, 0), Answer::Took { .. }));
     }
 
-    fn put(&mut self, thread: u32, key: u32) {
-        plain::put(&mut self.region, thread, key, 0).expect("it is idle and a cell is free");
-        self.work.calls.push(Call::Put { thread, key });
+    fn put(&mut self, thread: u32, item @ (key, tag): Item) {
+        plain::put(&mut self.region, thread, key, tag).expect("it is idle and a cell is free");
+        self.work.calls.push(Call::Put { thread, item });
     }
 
     fn take(&mut self, thread: u32) {

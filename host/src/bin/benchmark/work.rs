@@ -34,7 +34,7 @@ impl Work {
     }
 
     /// One run of puts that never end: their choice is always the leftmost leaf, which holds a lesser
-    /// key.
+    /// item.
     pub fn endless_puts(shape: Shape, turns: u32) -> Work {
         let mut recorder = Recorder::with_leftmost_path(shape);
         recorder.begin_greatest_puts();

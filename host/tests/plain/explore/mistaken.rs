@@ -1,9 +1,10 @@
-//! Document 01's mistakes with good looks, put into the machine from outside: each is an edit of the
-//! bytes around a call, after which the machine does what a mistaken one would do.
+//! Document 01's mistakes with good looks, and that of comparing keys alone, put into the machine from
+//! outside: each is an edit of the bytes around a call, after which the machine does what a mistaken
+//! one would do.
 
 use mound::{Answer, Refusal};
 
-use crate::fields::{place, FIRST_FREE_CELL, OWN_CELL, PERMISSION};
+use crate::fields::{place, Field, Words, FIRST_FREE_CELL, OWN_CELL, PERMISSION};
 use crate::ledger::Order;
 use crate::queue::{Call, Queue};
 
@@ -20,6 +21,9 @@ pub enum Mistake {
     ParentNotTested,
     /// Freeing a cell at the answer instead of E2.
     FreedAtAnswer,
+    /// Comparing keys alone at these places, where request 2 compares items. At I2 and I3 the bag
+    /// cannot tell: I5 compares with the node once more.
+    KeysAlone { at: &'static [u32] },
 }
 
 /// The machine, with a mistake or without.
@@ -58,6 +62,9 @@ impl Machine {
                 queue.set_words(copy, queue.node(parent));
             }
             Some(Mistake::FreedAtAnswer) => return turn_that_frees_late(queue, thread, choice),
+            Some(Mistake::KeysAlone { at }) if at.contains(&queue.place(thread)) => {
+                return turn_that_sees_no_tags(queue, thread, choice);
+            }
             _ => {}
         }
         queue.turn(thread, choice)
@@ -79,5 +86,18 @@ fn turn_that_frees_late(queue: &mut Queue, thread: u32, choice: u32) -> Answer {
         queue.set_words(queue.cell_at(kept), [0, 0, first_free]);
         queue.set_word(FIRST_FREE_CELL, kept);
     }
+    answer
+}
+
+/// A turn among tags that are all 0; then each tag is what the turn would have left. No place that
+/// compares values answers a tag.
+fn turn_that_sees_no_tags(queue: &mut Queue, thread: u32, choice: u32) -> Answer {
+    let mut seeing = queue.clone();
+    seeing.turn(thread, choice);
+    let region = Words::of(&queue.bytes);
+    let tags = (4..region.words.len()).filter(|&at| region.field(at) == Field::Tag);
+    tags.clone().for_each(|at| queue.set_word(at, 0));
+    let answer = queue.turn(thread, choice);
+    tags.for_each(|at| queue.set_word(at, seeing.word(at)));
     answer
 }

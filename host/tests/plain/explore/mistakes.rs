@@ -5,10 +5,11 @@ use mound::{Refusal, Shape};
 
 use super::mistaken::{Machine, Mistake};
 use super::search::{explore, Counterexample, Step, Workload};
+use crate::fields::place::{I2, I3, I5, I7, M4, M5};
 use crate::ledger::Disagreement;
-use crate::queue::{Call, SMALL};
+use crate::queue::{Call, Item, SMALL};
 
-/// Two threads with these calls on a queue of depth 1 or 2 that holds key 5 at its root.
+/// Two threads with these calls on a queue of that depth at most that holds key 5, tag 0, at its root.
 fn workload(depth: u32, calls: [&[Call]; 2]) -> Workload {
     Workload {
         shape: Shape { depth, cells: 1 << (depth - 1), ..SMALL },
@@ -70,4 +71,50 @@ fn a_cell_freed_at_the_answer() {
     let found = find(Mistake::FreedAtAnswer, &workload(1, calls));
     let refused = Err(Refusal::NoFreeCell);
     assert_eq!(found.disagreement, Disagreement::Beginning { got: refused, due: Ok(()) });
+}
+
+/// Three items of one key.
+const TAG_0: Item = (5, 0);
+const TAG_2: Item = (5, 2);
+const TAG_9: Item = (5, 9);
+
+/// Keys compared where items should be: of one key, tag 9 is taken before tag 2 or 0.
+fn find_keys_alone(at: &'static [u32], workload: &Workload) {
+    let found = find(Mistake::KeysAlone { at }, workload);
+    assert_eq!(found.disagreement, Disagreement::NotLeast(TAG_9));
+}
+
+/// A put comes to stand before a held item of a smaller tag.
+#[test]
+fn keys_alone_at_every_place() {
+    let calls: [&[Call]; 2] = [&[Call::Put(TAG_9)], &[Call::Take]];
+    find_keys_alone(&[I2, I3, I5, I7, M4, M5], &workload(2, calls));
+}
+
+/// The root is empty when the put of tag 9 looks for a node, and holds tag 2 when I5 reads it.
+#[test]
+fn keys_alone_at_i5() {
+    let calls: [&[Call]; 2] = [&[Call::Put(TAG_9)], &[Call::Put(TAG_2), Call::Take]];
+    find_keys_alone(&[I5], &Workload { held: vec![], ..workload(2, calls) });
+}
+
+/// The root holds tag 0 when the put of tag 2 looks for a node, and tag 9 when I7 reads it.
+#[test]
+fn keys_alone_at_i7() {
+    let others = [Call::Take, Call::Put(TAG_9), Call::Take];
+    find_keys_alone(&[I7], &workload(2, [&[Call::Put(TAG_2)], &others]));
+}
+
+/// Tag 2 stays below a root whose list starts with tag 9 once tag 0 is taken.
+#[test]
+fn keys_alone_at_m4() {
+    let calls = [Call::Put(TAG_2), Call::Take, Call::Take];
+    find_keys_alone(&[M4], &Workload { held: vec![TAG_9, TAG_0], ..workload(3, [&calls, &[]]) });
+}
+
+/// Of the root's children the left one, tag 9, goes up and not the right one, tag 2.
+#[test]
+fn keys_alone_at_m5() {
+    let calls = [Call::Put(TAG_9), Call::Put(TAG_2), Call::Take, Call::Take];
+    find_keys_alone(&[M5], &workload(3, [&calls, &[]]));
 }

@@ -9,8 +9,9 @@ use super::search::{explore, Explored, Workload};
 use crate::fields::place::{E1, E2, I1, I2, I3, I4, I5, I6, I7, I8, IDLE, M1, M2, M3, M4, M5, M6};
 use crate::queue::{Call, Item};
 
-/// The items that a queue holds at the start: the first few of these.
-const HELD: [Item; 4] = [(5, 0), (6, 0), (7, 0), (8, 0)];
+/// The items that a queue holds at the start: the first few of these. A thread's number, which is the
+/// tag of its puts, is less than their tag.
+const HELD: [Item; 4] = [(5, 9), (6, 9), (7, 9), (8, 9)];
 
 /// From each place, the places where document 01 lets a turn go on.
 const WAYS: [(u32, &[u32]); 16] = [
@@ -59,11 +60,24 @@ fn workloads(shape: Shape, held: usize, key: u32, longest: u32) -> impl Iterator
     })
 }
 
-/// Explores each workload. The turns go every way that document 01 lets them go, but for those that
-/// these workloads do not lead to, and no other.
+/// The workload with one key for all items and their keys as tags: threads then put items that
+/// wholly equal each other's, and some that equal items held.
+fn with_one_key(mut workload: Workload) -> Workload {
+    let put = workload.calls.iter_mut().flatten().filter_map(|call| match call {
+        Call::Put(item) => Some(item),
+        Call::Take => None,
+    });
+    for item in workload.held.iter_mut().chain(put) {
+        *item = (5, item.0);
+    }
+    workload
+}
+
+/// Explores each workload, as it is and with one key. The turns go every way that document 01 lets
+/// them go, but for those that these workloads do not lead to, and no other.
 fn agree_going_every_way_but(not_gone: &[(u32, u32)], workloads: impl Iterator<Item = Workload>) {
     let mut all = Explored::default();
-    for workload in workloads {
+    for workload in workloads.flat_map(|workload| [with_one_key(workload.clone()), workload]) {
         match explore(&workload, Machine { mistake: None }) {
             Ok(explored) => {
                 all.states += explored.states;
@@ -88,7 +102,7 @@ fn two_threads_at_depth_2() {
 #[cfg_attr(debug_assertions, ignore = "slow without --release")]
 fn two_threads_at_depth_3() {
     let workloads = (0..=4).flat_map(|held| workloads(shape(3, 2, 1), held, 6, 2));
-    agree_going_every_way_but(&[(I2, I1), (I2, I2)], workloads);
+    agree_going_every_way_but(&[(I2, I2)], workloads);
 }
 
 #[test]
@@ -102,7 +116,7 @@ fn three_threads_at_depth_2() {
 #[cfg_attr(debug_assertions, ignore = "slow without --release")]
 fn three_threads_at_depth_3() {
     let workloads = (0..=2).flat_map(|held| workloads(shape(3, 3, 1), held, 6, 1));
-    agree_going_every_way_but(&[(I2, I1), (I2, I2), (I3, I3)], workloads);
+    agree_going_every_way_but(&[(I2, I2)], workloads);
 }
 
 #[test]
@@ -116,5 +130,5 @@ fn two_threads_at_depth_2_with_three_calls_each() {
 #[ignore = "about a minute, and a gigabyte"]
 fn three_threads_at_depth_3_with_more_items() {
     let workloads = (2..=4).flat_map(|held| workloads(shape(3, 3, 1), held, 7, 1));
-    agree_going_every_way_but(&[(I2, I1), (I2, I2), (I2, I5)], workloads);
+    agree_going_every_way_but(&[(I2, I2), (I2, I5)], workloads);
 }

@@ -1,0 +1,79 @@
+-- A bag has one least item; and what has another item's key and a greater tag stays behind it. From the ledger's clauses and the laws of the
+-- order alone. Assumes nothing.
+use Prim.Native.Nat.{ℕ, _+_, _-_, _≤_, _<_}
+use native.Mathlib.Omega.{arith}
+use mathlib.Core.Path.{_≡_, refl, sym, ap, subst, subst₂, _∙_}
+use mathlib.Core.Bool.{Bool, true, false, true≢false}
+use mathlib.Core.List.{List, [], _∷_}
+use borrow.Author.Tests.{not-true}
+use Rattle.region.specs.Pick.{pick}
+use Rattle.region.specs.declared.record.Item.{Item}
+use Rattle.access.specs.Order.{itemLe, itemLt}
+use Rattle.access.proofs.OrderLaws.{item-antisym, item-by-tag, item-key, item-refl, item-total}
+use Rattle.bag.specs.Demand3.{Agrees, HoldsTheSame}
+use Rattle.bag.specs.History.{Moment}
+use Rattle.bag.specs.Ledger.{Ledger, Least, Follows, still, put-begins, take-begins, put-decides, take-decides, empty-decides, take-answers, oneMore, oneLess}
+use Rattle.bag.specs.Moments.{EachMoment}
+use Rattle.bag.specs.Theorems.{LeastHasLeastKey, LeastIsOne, StaysBehind}
+use Rattle.bag.specs.Told.{Told}
+use Rattle.bag.specs.Tree.{sameItem}
+use Rattle.bag.proofs.Sorted.{item-same, same-item}
+
+-- no other item that the bag holds is at most its least
+least-below : (bag : Item → ℕ) (i j : Item) → Least bag i → 1 ≤ bag j → (j ≡ i → ⊥) → itemLe j i ≡ false
+unfolding itemLt
+least-below bag i j l h n = not-true (itemLe j i) (l .others-greater j h n)
+
+-- the least is at most every item that the bag holds
+least-most : (bag : Item → ℕ) (i j : Item) → Least bag i → 1 ≤ bag j → itemLe i j ≡ true
+least-most bag i j l h = go (sameItem j i) refl
+  where
+    go : (q : Bool) → sameItem j i ≡ q → itemLe i j ≡ true
+    go true e = subst (λ x. itemLe i x ≡ true) (sym (same-item j i e)) (item-refl i)
+    go false e =
+        item-total j i
+        (least-below bag i j l h (λ k. true≢false (sym (subst (λ x. sameItem j x ≡ true) k (item-same j)) ∙ e)))
+
+pub least-is-one : LeastIsOne
+least-is-one bag i j li lj = item-antisym i j (least-most bag i j li (lj .held)) (least-most bag j i lj (li .held))
+
+pub least-has-least-key : LeastHasLeastKey
+least-has-least-key bag i j l h = item-key i j (least-most bag i j l h)
+
+-- what follows takes no copy of an item away while one with its key and a smaller tag is there
+module _ (i j : Item) (key : i .key ≡ j .key) (tag : i .tag < j .tag) where
+  stays : {x : Told} {l l′ : Ledger} → Follows x l l′ → 1 ≤ l .bag i → l .bag j ≤ l′ .bag j
+  unfolding oneMore oneLess pick
+  stays still h = omega arith
+  stays (put-begins e) h = omega arith
+  stays (take-begins e) h = omega arith
+  stays (put-decides {l = l} {i = k} e) h = go (sameItem k j)
+    where
+      go : (q : Bool) → l .bag j ≤ pick q (l .bag j + 1) (l .bag j)
+      go true = omega arith
+      go false = omega arith
+  stays (take-decides {l = l} {i = k} e least) h = go (sameItem k j) refl
+    where
+      go : (q : Bool) → sameItem k j ≡ q → l .bag j ≤ pick q (l .bag j - 1) (l .bag j)
+      go true s =
+          let kj = same-item k j s in
+          let n : i ≡ k → ⊥ = λ z. omega (arith, tag, ap (λ y. y .tag) (z ∙ kj)) in
+          absurd (true≢false (sym (subst (λ y. itemLe i y ≡ true) (sym kj) (item-by-tag i j key (omega (arith, tag))))
+          ∙ least-below (l .bag) k i least h n))
+      go false s = omega arith
+  stays (empty-decides e z) h = omega arith
+  stays (take-answers e) h = omega arith
+
+now-the-same : (l : Ledger) (b : List ℕ) (ms : List Moment) → Agrees l b ms → HoldsTheSame l b
+now-the-same l b [] a = a
+now-the-same l b (m ∷ ms) a = a .0
+
+-- so it is at every moment where the ledger follows and holds what the tree holds
+pub stays-behind : (l : Ledger) (b : List ℕ) (ms : List Moment) → Agrees l b ms → EachMoment StaysBehind b ms
+stays-behind l b [] a = tt
+stays-behind l b (m ∷ ms) (same, (l′, follows, rest)) = (
+  λ i j key tag h.
+      subst₂ (λ x y. x ≤ y) (same j) (now-the-same l′ (m .region) ms rest j)
+      (stays i j key tag follows (subst (λ x. 1 ≤ x) (sym (same i)) h)),
+  stays-behind l′ (m .region) ms rest,
+)
