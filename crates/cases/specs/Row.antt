@@ -14,7 +14,7 @@ use Rattle.cost.specs.Cost.{takeCost}
 use Rattle.layout.specs.Layout.{layoutRefusal, layoutBytes}
 use Rattle.readable.specs.Readable.{checkAnswer}
 use Rattle.machine.specs.Begin.{frameIn, putBytes, putRefusal, takeBytes, takeRefusal}
-use Rattle.machine.specs.Run.{runResult}
+use Rattle.machine.specs.Run.{Served, runResult}
 
 -- what is called on a laid-out region: a put of an item by a thread, a take, a run of these threads' turns, and a check of a copy with
 -- these words from a word on; what is asked of it: the cost of a take, and the present depth; and what no call does: these words are
@@ -57,27 +57,34 @@ abbrev pub saysOf : {A : Type 0} → (A → Says) → List (Does × A) → List 
 saysOf says [] = []
 saysOf says ((d, x) ∷ rest) = says x ∷ saysOf says rest
 
-abbrev saidOf : List ℕ → Does → Says
-saidOf b (putsItem t i) = answered (putRefusal b t i)
-saidOf b (takes t) = answered (takeRefusal b t)
-saidOf b (turns ts) = served (wordsAt (runResult b (schedule ts) 1000 (replicate (12 * length ts) 0) .answers) 0 (3 * length ts))
-saidOf b (checks at ws) = answered (checkAnswer (setWords b at ws))
-saidOf b costs = answered (takeCost (sharedIn (frameIn b) b))
-saidOf b depths = answered (word b 4)
-saidOf b (writes at ws) = answered (checkAnswer (setWords b at ws))
+-- what is said, and the region afterwards
+pub record Outcome : Type 0 where
+  pub says : Says
+  pub region : List ℕ
 
-abbrev leftBy : List ℕ → Does → List ℕ
-leftBy b (putsItem t i) = putBytes b t i
-leftBy b (takes t) = takeBytes b t
-leftBy b (turns ts) = runResult b (schedule ts) 1000 (replicate (12 * length ts) 0) .region
-leftBy b (checks at ws) = b
-leftBy b costs = b
-leftBy b depths = b
-leftBy b (writes at ws) = setWords b at ws
+abbrev leaving : List ℕ → Says → Outcome
+leaving b x = record { says = x; region = b }
+
+-- of a run of n turns
+abbrev ran : ℕ → Served → Outcome
+ran n r = leaving (r .region) (served (wordsAt (r .answers) 0 (3 * n)))
+
+abbrev outcomeOf : List ℕ → Does → Outcome
+outcomeOf b (putsItem t i) = leaving (putBytes b t i) (answered (putRefusal b t i))
+outcomeOf b (takes t) = leaving (takeBytes b t) (answered (takeRefusal b t))
+outcomeOf b (turns ts) = ran (length ts) (runResult b (schedule ts) 1000 (replicate (12 * length ts) 0))
+outcomeOf b (checks at ws) = leaving b (answered (checkAnswer (setWords b at ws)))
+outcomeOf b costs = leaving b (answered (takeCost (sharedIn (frameIn b) b)))
+outcomeOf b depths = leaving b (answered (word b 4))
+outcomeOf b (writes at ws) = leaving (setWords b at ws) (answered (checkAnswer (setWords b at ws)))
+
+-- what is said first, then what the rest says on the region afterwards
+abbrev followedBy : (List ℕ → List Says) → Outcome → List Says
+followedBy rest x = x .says ∷ rest (x .region)
 
 abbrev said : List ℕ → List Does → List Says
 said b [] = []
-said b (d ∷ ds) = saidOf b d ∷ said (leftBy b d) ds
+said b (d ∷ ds) = followedBy (λ l. said l ds) (outcomeOf b d)
 
 -- a layout of a slice of zero bytes, then these calls: layout's answer, and theirs
 pub record Row : Type 0 where

@@ -49,17 +49,17 @@ fn main() {
 fn turns() {
     println!("{TURNS}");
     println!("{:<42}{:>6}{:>7}{:>9}{:>9}{:>8}", "", "turns", "share", "library", "plain", "ratio");
-    let answered = Work::crossing_operations(SMALL, 4096).accesses;
-    let long = |shape| Work::crossing_operations(shape, 4096);
+    let crossing = Work::crossing_operations;
     let endless = |shape| Work::endless_puts(shape, 4096);
-    let single = |shape, turns| Work::crossing_operations(shape, turns).one_turn_a_run();
+    // The turns until all operations are answered.
+    let [small, large] = [SMALL, LARGE].map(|shape| crossing(shape, 4096).accesses);
     row("D 4 T 4: puts that find no leaf", 4096, endless(SMALL));
-    row("D 4 T 4: 2 puts and 2 takes, then idle", 4096, long(SMALL));
-    row("D 4 T 4: 2 puts and 2 takes", answered, Work::crossing_operations(SMALL, answered));
-    row("D 4 T 4: 2 puts and 2 takes", 1, single(SMALL, answered));
+    row("D 4 T 4: 2 puts and 2 takes, then idle", 4096, crossing(SMALL, 4096));
+    row("D 4 T 4: 2 puts and 2 takes", small, crossing(SMALL, small));
+    row("D 4 T 4: 2 puts and 2 takes", 1, crossing(SMALL, small).one_turn_a_run());
     row("D 12 T 64: puts that find no leaf", 4096, endless(LARGE));
-    row("D 12 T 64: 32 puts and 32 takes", 4096, long(LARGE));
-    row("D 12 T 64: 32 puts and 32 takes", 1, single(LARGE, 64));
+    row("D 12 T 64: 32 puts and 32 takes", large, crossing(LARGE, large));
+    row("D 12 T 64: 32 puts and 32 takes", 1, crossing(LARGE, 64).one_turn_a_run());
 }
 
 fn row(name: &str, turns: u32, work: Work) {
