@@ -45,12 +45,12 @@ use Rattle.cost.specs.Cost.{lesserChild, levelsDown, withoutHead}
 use Rattle.cost.proofs.Laws.{goes-down, lesser-is-child, levels-same, rests-deepest, rests-there, swaps-as-placed, tests-as-placed}
 use Rattle.preserved.proofs.Proved.{turn-good}
 use Rattle.preserved.proofs.TreeLevels.{level-child, twice}
+use Rattle.mound.specs.Tree.{listFrom}
+use Rattle.mound.proofs.Sorted.{valueAt}
 use Rattle.bag.specs.Alone.{EndsAt, NoneSpent, Step, last, moved-then, stepOf}
 use Rattle.bag.specs.History.{rootItem}
 use Rattle.bag.specs.TakeCost.{LeavesList, listOf, rootHead}
-use Rattle.bag.specs.Tree.{listFrom}
 use Rattle.bag.proofs.Carried.{turn-decides, turn-shared, turn-threads}
-use Rattle.bag.proofs.Sorted.{valueAt}
 
 -- thread t's turns with these choices, each on the bytes that the one before left
 unfoldable pub alone : Frame → List ℕ → ℕ → List ℕ → List Step

@@ -20,7 +20,7 @@ use Rattle.region.specs.declared.thread.Thread.{Thread}
 use Rattle.region.proofs.Picks.{pick-good, upd-same}
 use Rattle.access.specs.Plan.{plan, moved, onTo, refused}
 use Rattle.access.specs.declared.effect.Effect.{Effect}
-use Rattle.access.specs.declared.effect.Effect.the-variants.{Nothing, Grow, Push, Pop, Exchange, Clean}
+use Rattle.access.specs.declared.effect.Effect.the-variants.{Nothing, Push, Pop, Clean}
 use Rattle.access.specs.declared.plan.Plan.{Plan}
 use Rattle.insert.specs.Insert.{readDepth, readLeaf, readAncestor, growDepth, readTarget, insertAt, insertAtRoot, readParent, insertBelow}
 use Rattle.extract.specs.Extract.{readRoot, removeHead}
@@ -28,27 +28,12 @@ use Rattle.moundify.specs.Moundify.{returning, mendReadNode, mendReadDepth, men
 use Rattle.readable.proofs.Laws.{Good}
 use Rattle.machine.specs.Run.{Turn}
 use Rattle.machine.specs.Turn.{decide, decideAt, staysPut, turnAnswer, turnPlan}
+use Rattle.mound.specs.Told.{nothing, decidesPut}
+use Rattle.mound.proofs.Steps.{effectTells, quietTells}
 use Rattle.bag.specs.Demand3.{Says, moved as says-moved, idle, refused as says-refused, inserted, empty, took, removed}
 use Rattle.bag.specs.History.{ServedTurn, turned, rootItem, servedOn}
-use Rattle.bag.specs.Told.{Told, nothing, decidesPut, decidesTake, decidesEmpty, answersTook, answerTells, stands, tells}
+use Rattle.bag.specs.Told.{answerTells, stands, tells}
 use Rattle.bag.proofs.Carried.{turn-threads}
-
--- what an effect and an answer tell: a pushed cell is a successful I6 or I8, a popped one a successful E2
-abbrev pub quietTells : ℕ → Answer → Told
-quietTells t Moved = nothing
-quietTells t AnswersIdle = nothing
-quietTells t Inserted = nothing
-quietTells t (Took i) = answersTook t i
-quietTells t Empty = decidesEmpty t
-quietTells t (Refused n) = nothing
-
-abbrev pub effectTells : Item → ℕ → Answer → Effect → Told
-effectTells i t a Nothing = quietTells t a
-effectTells i t a (Grow d) = quietTells t a
-effectTells i t a (Push n v c x) = decidesPut t
-effectTells i t a (Pop v c) = decidesTake t i
-effectTells i t a (Exchange n v k w) = quietTells t a
-effectTells i t a (Clean n v) = quietTells t a
 
 -- the turn of thread u, with i as the root's item, from the place p on by the plan x
 module _ (i : Item) (u : ℕ) where

@@ -9,9 +9,10 @@ use Rattle.region.specs.declared.record.Item.{Item}
 use Rattle.layout.specs.Layout.{layoutBytes}
 use Rattle.cases.specs.Row.{schedule}
 use Rattle.computes.specs.Computes.{computes}
+use Rattle.mound.specs.Told.{Told, nothing, beginsPut, beginsTake, decidesPut, decidesTake, decidesEmpty, answersTook}
 use Rattle.bag.specs.Calls.{Call, put, take, run, after, refusalOf}
 use Rattle.bag.specs.History.{Moment, servedOn, turnMoments, servedMoments, callMoments, history}
-use Rattle.bag.specs.Told.{Told, nothing, beginsPut, beginsTake, decidesPut, decidesTake, decidesEmpty, answersTook, tells}
+use Rattle.bag.specs.Told.{tells}
 
 -- a run of these threads' turns, with an answer slice for it
 abbrev runs : List ℕ → Call

@@ -19,10 +19,11 @@ use Rattle.readable.specs.Readable.{checkAnswer, shapeIn}
 use Rattle.machine.specs.Begin.{frameIn, putBytes, putRefusal, takeBytes, takeRefusal}
 use Rattle.machine.specs.Run.{Served, Turn, runRefusal, runResult, serve, serveAll, soFar, turnsFrom}
 use Rattle.machine.specs.Turn.{turnBytes}
+use Rattle.mound.specs.Told.{nothing}
 use Rattle.bag.specs.Calls.{Call, layout, put, take, run, check, NoAcceptedLayout, after, refusalOf}
 use Rattle.bag.specs.History.{Event, called, turned, Moment, callMoments, history, servedMoments, servedOn, turnMoments}
 use Rattle.bag.specs.Moments.{regionAfter}
-use Rattle.bag.specs.Told.{nothing, callTells}
+use Rattle.bag.specs.Told.{callTells}
 
 refused-layout : (b : List ℕ) (x : Shape) (ps : List ℕ) → (layoutRefusal x ps (length b) ≡ done → ⊥) → layoutBytes x ps b ≡ b
 unfolding layoutBytes pick

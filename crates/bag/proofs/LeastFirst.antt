@@ -10,14 +10,14 @@ use Rattle.region.specs.Pick.{pick}
 use Rattle.region.specs.declared.record.Item.{Item}
 use Rattle.access.specs.Order.{itemLe, itemLt}
 use Rattle.access.proofs.OrderLaws.{item-antisym, item-by-tag, item-key, item-refl, item-total}
+use Rattle.mound.specs.Ledger.{Ledger, Least, Follows, still, put-begins, take-begins, put-decides, take-decides, empty-decides, take-answers, oneMore, oneLess}
+use Rattle.mound.specs.Told.{Told}
+use Rattle.mound.specs.Tree.{sameItem}
+use Rattle.mound.proofs.Sorted.{item-same, same-item}
 use Rattle.bag.specs.Demand3.{Agrees, HoldsTheSame}
 use Rattle.bag.specs.History.{Moment}
-use Rattle.bag.specs.Ledger.{Ledger, Least, Follows, still, put-begins, take-begins, put-decides, take-decides, empty-decides, take-answers, oneMore, oneLess}
 use Rattle.bag.specs.Moments.{EachMoment}
 use Rattle.bag.specs.Theorems.{LeastHasLeastKey, LeastIsOne, StaysBehind}
-use Rattle.bag.specs.Told.{Told}
-use Rattle.bag.specs.Tree.{sameItem}
-use Rattle.bag.proofs.Sorted.{item-same, same-item}
 
 -- no other item that the bag holds is at most its least
 least-below : (bag : Item → ℕ) (i j : Item) → Least bag i → 1 ≤ bag j → (j ≡ i → ⊥) → itemLe j i ≡ false

@@ -1,27 +1,16 @@
--- The theory of demand 3, from cells and trees up to the theorems.
+-- Demand 3 on histories: the theory of the mound on the bytes, and the theorems.
 pub mod Account
 pub mod Alone
 pub mod Answers
 pub mod Carried
 pub mod CaseJ
-pub mod Cells
-pub mod Chains
-pub mod Counts
-pub mod Effects
 pub mod EmptyList
 pub mod Exported
-pub mod Facts
-pub mod Held
 pub mod Histories
 pub mod LeastFirst
 pub mod Operations
-pub mod Order
-pub mod Plans
 pub mod Proved
 pub mod Regions
-pub mod Sorted
 pub mod Start
-pub mod Steps
-pub mod Sums
 pub mod TakeCost
 pub mod Theorems

@@ -11,11 +11,12 @@ use Rattle.region.specs.Pick.{pick, upd}
 use Rattle.region.specs.declared.answer.Answer.{Answer}
 use Rattle.region.proofs.Shapes.{and-left, and-right}
 use Rattle.machine.specs.Turn.{ends}
+use Rattle.mound.specs.Ledger.{Ledger, Operation, none, putting, taking, holding, Follows, still, put-begins, take-begins, put-decides, take-decides, empty-decides, take-answers}
+use Rattle.mound.specs.Told.{Told}
 use Rattle.bag.specs.Demand3.{AnswerSays, Says, moved, removed, idle, inserted, took, empty, refused}
 use Rattle.bag.specs.History.{Event, called, turned, Moment}
-use Rattle.bag.specs.Ledger.{Ledger, Operation, none, putting, taking, holding, Follows, still, put-begins, take-begins, put-decides, take-decides, empty-decides, take-answers}
 use Rattle.bag.specs.Operations.{AnsweredDecidesOnce, DecidesAtMostOnce, answered, beginning, begins, count, deciding, decides}
-use Rattle.bag.specs.Told.{Told, tells}
+use Rattle.bag.specs.Told.{tells}
 
 -- Counting one more at the end.
 count-last : (test : Event → Bool) (ms : List Moment) (m : Moment)

@@ -20,13 +20,13 @@ use Rattle.readable.proofs.Laws.{Good}
 use Rattle.machine.specs.Begin.{frameIn, acceptedPut, putBytes, putRefusal, takeBytes, takeRefusal}
 use Rattle.machine.proofs.Laws.{is-idle, may-put, may-take}
 use Rattle.preserved.proofs.Proved.{put-free, put-good, put-key, put-least, put-most, put-passed, put-tag, take-good, take-passed}
+use Rattle.mound.specs.Ledger.{Ledger, Follows, emptyLedger, still}
+use Rattle.mound.specs.Told.{Told, nothing, beginsPut, beginsTake}
 use Rattle.bag.specs.Calls.{Call, NoAcceptedLayout}
-use Rattle.bag.specs.Demand3.{Agrees, AnswerSays, HoldsTheSame, RegionIsABag}
+use Rattle.bag.specs.Demand3.{Agrees, AnswerSays, HoldsTheSame, RegionIsABag, inTree}
 use Rattle.bag.specs.History.{Event, called, Moment, history, servedOn}
-use Rattle.bag.specs.Ledger.{Ledger, Follows, emptyLedger, still}
 use Rattle.bag.specs.Moments.{EachMoment, InEveryHistory}
-use Rattle.bag.specs.Told.{Told, nothing, beginsPut, beginsTake, callTells, tells}
-use Rattle.bag.specs.Tree.{inTree}
+use Rattle.bag.specs.Told.{callTells, tells}
 use Rattle.bag.proofs.Answers.{turn-says}
 use Rattle.bag.proofs.EmptyList.{empty-list-changes-nothing}
 use Rattle.bag.proofs.Histories.{Kept, Next, calls-kept}

@@ -39,16 +39,17 @@ use Rattle.machine.specs.Run.{Turn}
 use Rattle.machine.specs.Turn.{staysPut, turnBytes, turnPlan}
 use Rattle.preserved.proofs.EffectsGood.{cell-fit}
 use Rattle.preserved.proofs.Proved.{begun-put-good, begun-take-good, free-few, next-few, turn-good}
+use Rattle.mound.specs.Ledger.{Operation, none, putting, taking, Ledger, Follows, still, put-begins, take-begins}
+use Rattle.mound.specs.Told.{Told, nothing, beginsPut, beginsTake}
+use Rattle.mound.proofs.Effects.{Mound, begin-counts, begin-keeps, rely-same}
+use Rattle.mound.proofs.Facts.{At}
+use Rattle.mound.proofs.Plans.{Allowed, OwnAfter, Planned, Speaks, rests, refuses, moves, reads, grows, swaps, cleans, inserts, removes, empties, answers, cleans-answers, planned}
+use Rattle.mound.proofs.Steps.{Invariant, Stepped, effectTells, owns, quietTells, step, stepped-invariant, turned-invariant}
 use Rattle.bag.specs.History.{rootItem, servedOn, turned}
-use Rattle.bag.specs.Ledger.{Operation, none, putting, taking, Ledger, Follows, still, put-begins, take-begins}
-use Rattle.bag.specs.Told.{Told, nothing, beginsPut, beginsTake, tells}
-use Rattle.bag.proofs.Answers.{effectTells, quietTells, turn-tells}
+use Rattle.bag.specs.Told.{tells}
+use Rattle.bag.proofs.Answers.{turn-tells}
 use Rattle.bag.proofs.Carried.{turn-decides, turn-shared, turn-stays, turn-threads}
-use Rattle.bag.proofs.Effects.{Mound, begin-counts, begin-keeps, rely-same}
-use Rattle.bag.proofs.Facts.{At}
 use Rattle.bag.proofs.Histories.{Next}
-use Rattle.bag.proofs.Plans.{Allowed, OwnAfter, Planned, Speaks, rests, refuses, moves, reads, grows, swaps, cleans, inserts, removes, empties, answers, cleans-answers, planned}
-use Rattle.bag.proofs.Steps.{Invariant, Stepped, owns, step, stepped-invariant, turned-invariant}
 
 -- a readable region on which the invariant holds
 pub record Region (s : Shape) (b : List ℕ) (l : Ledger) : Type 0 where
@@ -83,8 +84,7 @@ module _ (s : Shape) (b : List ℕ) (l : Ledger) (g : Region s b l) where
       → Planned s m (owns th) t (th t .own) (l .operation t) (turnPlan (frameOf s) b t c)
   plan-fits t c lt ut =
       subst (Planned s m (owns th) t (th t .own) (l .operation t)) (sym (turn-decides s b t c lt ut))
-      (planned s (g .good .range) m (owns th) (g .holds .mound) t (th t) refl (l .operation t) (good-thread s b (g .good) t)
-      (g .holds .at t) c)
+      (planned s (g .good .range) m (owns th) (g .holds .mound) t (th t) refl (l .operation t) (g .holds .at t) c)
 
   -- a turn that changes nothing tells nothing
   module _ (t c : ℕ) where
@@ -113,7 +113,7 @@ module _ (s : Shape) (b : List ℕ) (l : Ledger) (g : Region s b l) where
           let v = p .thread in
           let own′ = owns (upd th t v) in
           let now : upd th t v t .own ≡ v .own = ap (λ x. x .own) (upd-same th t v) in
-          let st = step s (frameOf s) b (owns th) own′ l (g .holds .mound) (g .holds .bag) t lt ut
+          let st = step s m (owns th) own′ l (g .holds .mound) (g .holds .bag) t lt ut
           (λ u n. ap (λ x. x .own) (upd-other th t u v n)) (l .operation t) op′ refl (p .effect) (p .answer) al sp
           (subst (OwnAfter (p .effect) (th t .own)) (sym now) ow)
           in

@@ -27,17 +27,17 @@ use Rattle.layout.specs.Layout.{layoutRefusal, layoutBytes}
 use Rattle.layout.proofs.LayoutReads.{laid-cell, laid-depth, laid-free, laid-no-thread, laid-node, laid-thread, next-in-chain, next-past, nextFree}
 use Rattle.readable.proofs.Laws.{Good, good}
 use Rattle.queue.proofs.LaidOutIsReadable.{laid-out-is-readable, same-shape}
-use Rattle.bag.specs.Ledger.{emptyLedger, none}
-use Rattle.bag.specs.Tree.{sameItem}
-use Rattle.bag.proofs.Chains.{Chain, ends, link, among, items}
-use Rattle.bag.proofs.Counts.{inChain}
-use Rattle.bag.proofs.Effects.{Mound}
-use Rattle.bag.proofs.Facts.{At}
-use Rattle.bag.proofs.Held.{Held, nodeLength, threadLength, counted, counts, head-free, heads}
+use Rattle.mound.specs.Ledger.{emptyLedger, none}
+use Rattle.mound.specs.Tree.{sameItem}
+use Rattle.mound.proofs.Chains.{Chain, ends, link, among, items}
+use Rattle.mound.proofs.Counts.{inChain}
+use Rattle.mound.proofs.Effects.{Mound}
+use Rattle.mound.proofs.Facts.{At}
+use Rattle.mound.proofs.Held.{Held, nodeLength, threadLength, counted, counts, head-free, heads}
+use Rattle.mound.proofs.Sorted.{AtMost, Sorted, valueAt}
+use Rattle.mound.proofs.Steps.{owns}
+use Rattle.mound.proofs.Sums.{sum-zero}
 use Rattle.bag.proofs.Regions.{Region}
-use Rattle.bag.proofs.Sorted.{AtMost, Sorted, valueAt}
-use Rattle.bag.proofs.Steps.{owns}
-use Rattle.bag.proofs.Sums.{sum-zero}
 
 -- cells k, k + 1, .. , n of them, and the first of them
 from : ℕ → ℕ → List ℕ

@@ -36,14 +36,14 @@ use Rattle.machine.specs.Turn.{staysPut, turnAnswer, turnBytes}
 use Rattle.cost.specs.Cost.{levelsDown, restLevel, takeCost, withoutHead}
 use Rattle.cost.proofs.Laws.{cost-ceiling, cost-counted, cost-empty, cost-full, levels-same, rest-most}
 use Rattle.preserved.proofs.Proved.{begun-take-good, take-good, take-passed}
+use Rattle.mound.specs.Tree.{listFrom}
+use Rattle.mound.proofs.Chains.{list-behind, next-apart}
+use Rattle.mound.proofs.Effects.{Mound, PopAsks, in-tree, pop-others, root-there}
+use Rattle.mound.proofs.Held.{few-cells, node-chain}
 use Rattle.bag.specs.Alone.{AllClean, EndsAt, NoOtherMoves, NoneSpent, Step, last, moved-then, stepOf, stepsOf, takeSteps}
 use Rattle.bag.specs.TakeCost.{LastAccess, TakesCost, TakesEnd, listOf, rootHead}
-use Rattle.bag.specs.Tree.{listFrom}
 use Rattle.bag.proofs.Alone.{Rests, alone, empty-ends, end, popped, root-rests}
 use Rattle.bag.proofs.Carried.{turn-stays}
-use Rattle.bag.proofs.Chains.{list-behind, next-apart}
-use Rattle.bag.proofs.Effects.{Mound, PopAsks, in-tree, pop-others, root-there}
-use Rattle.bag.proofs.Held.{few-cells, node-chain}
 
 length-alone : (f : Frame) (t : ℕ) (cs b : List ℕ) → length (alone f b t cs) ≡ length cs
 unfolding alone

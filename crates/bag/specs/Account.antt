@@ -1,42 +1,25 @@
 -- Where the cells are: in the tree, with a put that is begun and not answered, or in the free chain. These are all C, so a put
 -- that nothing else refuses is refused 10 exactly when tree and begun puts hold all C. Proved in proofs/Account.antt.
-use Prim.Native.Nat.{ℕ, zero, suc, _+_}
+use Prim.Native.Nat.{ℕ, _+_}
 use mathlib.Core.Path.{_≡_}
-use mathlib.Core.Bool.{Bool, true}
+use mathlib.Core.Bool.{true}
 use mathlib.Core.List.{List}
 use Rattle.region.specs.Answer.{done, noFreeCell}
-use Rattle.region.specs.Pick.{pick}
-use Rattle.region.specs.Place.{placeNumber}
 use Rattle.region.specs.Shape.{between, nodeCount}
 use Rattle.region.specs.Shared.{sharedIn, threadIn}
 use Rattle.region.specs.declared.frame.Frame.{Frame}
-use Rattle.region.specs.declared.place.Place.{Place}
-use Rattle.region.specs.declared.place.Place.the-variants.{ReadDepth, InsertBelow}
 use Rattle.region.specs.declared.record.Item.{Item}
-use Rattle.region.specs.declared.thread.Thread.{Thread}
 use Rattle.readable.specs.Readable.{readable, shapeIn}
 use Rattle.machine.specs.Begin.{frameIn, isIdle, isItem, mayPut, putRefusal}
-use Rattle.bag.specs.Tree.{inList, inNodes}
-
--- the test that every item passes, so that all cells count
-abbrev pub anyItem : Item → Bool
-anyItem i = true
+use Rattle.mound.specs.Account.{anyItem, putsAmong}
+use Rattle.mound.specs.Tree.{inList, inNodes}
 
 -- "in the lists of nodes 1 to 2^D − 1, each list .. at most C of them"
 unfoldable pub treeCells : Frame → List ℕ → ℕ
 unfolding inNodes
 treeCells f b = inNodes (sharedIn f b) anyItem (f .shape .cells) (nodeCount (f .shape))
 
--- "Put of v": I1 to I8, where a put stands from its beginning, at I1, to its answer
-unfoldable pub isPutPlace : Place → Bool
-isPutPlace p = between (placeNumber ReadDepth) (placeNumber p) (placeNumber InsertBelow)
-
--- "An operation begins with a put .. call that is not refused.": the threads among 1 to n with a put that is begun and not answered
-unfoldable pub putsAmong : (ℕ → Thread) → ℕ → ℕ
-unfolding isPutPlace
-putsAmong th zero = 0
-putsAmong th (suc n) = putsAmong th n + pick (isPutPlace (th (suc n) .place)) 1 0
-
+-- the puts that are begun and not answered
 unfoldable pub begunPuts : Frame → List ℕ → ℕ
 unfolding putsAmong
 begunPuts f b = putsAmong (threadIn f b) (f .shape .threads)

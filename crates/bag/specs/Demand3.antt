@@ -5,18 +5,27 @@ use mathlib.Core.Bool.{Bool, true, false}
 use mathlib.Core.List.{List, [], _∷_}
 use lib.Dec.{eqb}
 use lib.ListN.{getD}
+use Rattle.region.specs.Shape.{nodeCount}
+use Rattle.region.specs.Shared.{sharedIn}
 use Rattle.region.specs.declared.answer.Answer.{Answer}
 use Rattle.region.specs.declared.answer.Answer.the-variants.{Moved, Idle, Inserted, Took, Empty, Refused}
+use Rattle.region.specs.declared.frame.Frame.{Frame}
 use Rattle.region.specs.declared.record.Item.{Item}
 use Rattle.region.specs.declared.shape.Shape.{Shape}
 use Rattle.machine.specs.Begin.{frameIn}
+use Rattle.mound.specs.Ledger.{Ledger, Follows, emptyLedger}
+use Rattle.mound.specs.Told.{Told, nothing, decidesPut, decidesTake, decidesEmpty, answersTook}
+use Rattle.mound.specs.Tree.{inNodes, sameItem}
 use Rattle.bag.specs.Calls.{layout, put, take, run, check}
 use Rattle.bag.specs.History.{Event, called, turned, Moment}
-use Rattle.bag.specs.Ledger.{Ledger, Follows, emptyLedger}
 use Rattle.bag.specs.Moments.{InEveryHistory, EachMoment}
 use Rattle.bag.specs.Operations.{AnsweredDecidesOnce, DecidesAtMostOnce}
-use Rattle.bag.specs.Told.{Told, nothing, decidesPut, decidesTake, decidesEmpty, answersTook, tells}
-use Rattle.bag.specs.Tree.{inTree}
+use Rattle.bag.specs.Told.{tells}
+
+-- copies of i in the tree
+unfoldable pub inTree : Frame → List ℕ → Item → ℕ
+unfolding inNodes sameItem
+inTree f b i = inNodes (sharedIn f b) (sameItem i) (f .shape .cells) (nodeCount (f .shape))
 
 -- the bag holds exactly what the tree of the region holds
 abbrev pub HoldsTheSame : Ledger → List ℕ → Type 0

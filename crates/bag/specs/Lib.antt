@@ -5,10 +5,8 @@ pub mod Calls
 pub mod Demand3
 pub mod Exported
 pub mod History
-pub mod Ledger
 pub mod Moments
 pub mod Operations
 pub mod TakeCost
 pub mod Theorems
 pub mod Told
-pub mod Tree

@@ -8,8 +8,9 @@ use mathlib.Core.List.{List, [], _∷_, _++_}
 use lib.Dec.{eqb}
 use Rattle.region.specs.Pick.{pick}
 use Rattle.machine.specs.Turn.{ends}
+use Rattle.mound.specs.Told.{Told, nothing, beginsPut, beginsTake, decidesPut, decidesTake, decidesEmpty, answersTook}
 use Rattle.bag.specs.History.{Event, called, turned, Moment}
-use Rattle.bag.specs.Told.{Told, nothing, beginsPut, beginsTake, decidesPut, decidesTake, decidesEmpty, answersTook, tells}
+use Rattle.bag.specs.Told.{tells}
 
 -- an operation of thread t begins, or decides
 abbrev pub beginning : ℕ → Told → Bool

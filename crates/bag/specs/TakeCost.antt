@@ -12,9 +12,9 @@ use Rattle.region.specs.declared.place.Place.the-variants.{MendClean}
 use Rattle.cost.specs.Cost.{restLevel, takeCost}
 use Rattle.machine.specs.Begin.{frameIn}
 use Rattle.machine.specs.Run.{Turn}
+use Rattle.mound.specs.Tree.{Listed, listFrom}
 use Rattle.bag.specs.Alone.{AllClean, Alone, EndsAt, Step, takeSteps}
 use Rattle.bag.specs.History.{rootItem}
-use Rattle.bag.specs.Tree.{Listed, listFrom}
 
 -- node n's list: its cells with their items
 abbrev pub listOf : Frame → List ℕ → ℕ → List Listed

@@ -10,12 +10,12 @@ use Rattle.region.specs.declared.record.Item.{Item}
 use Rattle.readable.specs.Readable.{readable, shapeIn}
 use Rattle.machine.specs.Begin.{frameIn}
 use Rattle.machine.specs.Turn.{turnAnswer}
+use Rattle.mound.specs.Ledger.{Least}
 use Rattle.bag.specs.Account.{AllCellsAccounted, PutsRefusedWhenFull}
+use Rattle.bag.specs.Demand3.{inTree}
 use Rattle.bag.specs.History.{Moment}
-use Rattle.bag.specs.Ledger.{Least}
 use Rattle.bag.specs.Moments.{EachMoment, InEveryHistory, Throughout}
 use Rattle.bag.specs.TakeCost.{TakesCost, TakesEnd}
-use Rattle.bag.specs.Tree.{inTree}
 
 -- the region is readable, and its first words are the layout's still
 abbrev pub StaysReadable : Type 0

@@ -1,6 +1,4 @@
--- What the bag is told of a moment: "It is told the calls' arguments, the deciding accesses in the order of the served turns, and the item
--- that an E2 takes; it sees nothing else."
-use Prim.Native.Nat.{ℕ}
+-- What the bag is told of a moment: beginnings from calls, deciding accesses and a take's answer from places and answers.
 use mathlib.Core.Bool.{Bool, _&&_, _||_}
 use lib.Dec.{eqb}
 use Rattle.region.specs.Answer.{done}
@@ -10,19 +8,9 @@ use Rattle.region.specs.declared.answer.Answer.{Answer}
 use Rattle.region.specs.declared.answer.Answer.the-variants.{Moved, Idle, Inserted, Took, Empty, Refused}
 use Rattle.region.specs.declared.place.Place.{Place}
 use Rattle.region.specs.declared.place.Place.the-variants.{InsertAtRoot, InsertBelow, ReadRoot, RemoveHead, MendReadNode}
-use Rattle.region.specs.declared.record.Item.{Item}
+use Rattle.mound.specs.Told.{Told, nothing, beginsPut, beginsTake, decidesPut, decidesTake, decidesEmpty, answersTook}
 use Rattle.bag.specs.Calls.{Call, layout, put, take, run, check}
 use Rattle.bag.specs.History.{Event, called, turned, ServedTurn}
-
--- each with the thread whose operation it is
-pub data Told : Type 0 where
-  nothing : Told
-  beginsPut : ℕ → Item → Told
-  beginsTake : ℕ → Told
-  decidesPut : ℕ → Told
-  decidesTake : ℕ → Item → Told
-  decidesEmpty : ℕ → Told
-  answersTook : ℕ → Item → Told
 
 -- "An operation begins with a put or take call that is not refused."
 abbrev pub callTells : Call → Told

@@ -17,12 +17,12 @@ use Rattle.region.specs.declared.record.Node.{Node}
 use Rattle.region.specs.declared.shape.Shape.{Shape}
 use Rattle.access.specs.Order.{topItem, val, valueOf}
 use Rattle.access.specs.Read.{readNode}
-use Rattle.bag.specs.Tree.{inNodes, sameItem}
-use Rattle.bag.proofs.Cells.{Chains, Moved, Exchanged, move, exchange}
-use Rattle.bag.proofs.Chains.{Chain, among, first-owned, items}
-use Rattle.bag.proofs.Counts.{inChain, tree-counts}
-use Rattle.bag.proofs.Sorted.{AtMost, Proper, Sorted, from-head, head-least, head-proper, head-counted, top-value}
-use Rattle.bag.proofs.Sums.{sum, sum-same, sum-has, sum-but, sum-exchange, sum-some}
+use Rattle.mound.specs.Tree.{inNodes, sameItem}
+use Rattle.mound.proofs.Cells.{Chains, Moved, Exchanged, move, exchange}
+use Rattle.mound.proofs.Chains.{Chain, among, first-owned, items}
+use Rattle.mound.proofs.Counts.{inChain, tree-counts}
+use Rattle.mound.proofs.Sorted.{AtMost, Proper, Sorted, from-head, head-least, head-proper, head-counted, top-value}
+use Rattle.mound.proofs.Sums.{sum, sum-same, sum-has, sum-but, sum-exchange, sum-some}
 
 -- the first cell of each holder: 0 is the free chain, 2n node n, 2t + 1 thread t
 unfoldable pub heads : ℕ → (ℕ → Node) → (ℕ → ℕ) → ℕ → ℕ

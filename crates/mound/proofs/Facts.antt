@@ -19,9 +19,9 @@ use Rattle.region.specs.declared.thread.Search.{Search}
 use Rattle.region.specs.declared.thread.Thread.{Thread}
 use Rattle.access.specs.Order.{itemLe, val, valueOf}
 use Rattle.access.specs.Read.{readNode}
-use Rattle.bag.specs.Ledger.{Operation, none, putting, taking, holding}
-use Rattle.bag.proofs.Effects.{Rely}
-use Rattle.bag.proofs.Sorted.{AtMost, Proper}
+use Rattle.mound.specs.Ledger.{Operation, none, putting, taking, holding}
+use Rattle.mound.proofs.Effects.{Rely}
+use Rattle.mound.proofs.Sorted.{AtMost, Proper}
 
 -- a copy q of node n: counters never fall, and an equal counter means an unchanged node
 pub record Sound (m : Shared) (n : ℕ) (q : NodeCopy) : Type 0 where

@@ -5,9 +5,7 @@ use mathlib.Core.Bool.{Bool, _&&_}
 use mathlib.Core.List.{List, [], _∷_}
 use lib.Dec.{eqb}
 use Rattle.region.specs.Pick.{pick}
-use Rattle.region.specs.Shape.{nodeCount}
-use Rattle.region.specs.Shared.{Shared, sharedIn}
-use Rattle.region.specs.declared.frame.Frame.{Frame}
+use Rattle.region.specs.Shared.{Shared}
 use Rattle.region.specs.declared.record.Cell.{Cell}
 use Rattle.region.specs.declared.record.Item.{Item}
 
@@ -40,8 +38,3 @@ unfoldable pub inNodes : Shared → (Item → Bool) → ℕ → ℕ → ℕ
 unfolding inList
 inNodes m test l zero = 0
 inNodes m test l (suc n) = inNodes m test l n + inList m test l (m .node (suc n) .first)
-
--- copies of i in the tree
-unfoldable pub inTree : Frame → List ℕ → Item → ℕ
-unfolding inNodes sameItem
-inTree f b i = inNodes (sharedIn f b) (sameItem i) (f .shape .cells) (nodeCount (f .shape))

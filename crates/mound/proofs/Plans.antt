@@ -1,8 +1,8 @@
 -- Every plan of a thread in its place: its effect is one that the mound allows, what it tells fits the thread's operation, and
 -- the facts of its next place hold; or the turn is refused 11 for a counter that is spent, and never 7. Assumes nothing.
-use Prim.Native.Nat.{ℕ, _+_, _-_, _*_, _/_, _^_, _≤_, _<_}
+use Prim.Native.Nat.{ℕ, zero, suc, _+_, _-_, _*_, _/_, _^_, _≤_, _<_}
 use native.Mathlib.Decide.{decLt}
-use native.Mathlib.Nat.{div-le-self, le-div-iff-mul-le, mod-lt}
+use native.Mathlib.Nat.{div-le-self, le-div-iff-mul-le, mod-lt, pow-suc}
 use native.Mathlib.Omega.{arith}
 use mathlib.Core.Path.{_≡_, refl, sym, ap, subst, _∙_}
 use mathlib.Core.Bool.{Bool, true, false, not, _&&_, _||_, true≢false}
@@ -11,7 +11,7 @@ use borrow.Author.Tests.{ltb-true, eqb-true, eqb-false, ne-eqb, lt-ltb, le-ltb}
 use lib.Dec.{ltb, eqb}
 use lib.Pow.{pow-mono, pow-pos}
 use Rattle.region.specs.Answer.{counterSpent}
-use Rattle.region.specs.Level.{ancestor, level, mark}
+use Rattle.region.specs.Level.{ancestor, digits, level, mark}
 use Rattle.region.specs.Pick.{pick}
 use Rattle.region.specs.Shape.{between, nodeCount}
 use Rattle.region.specs.Inner.{InRange}
@@ -42,14 +42,12 @@ use Rattle.insert.proofs.Laws.{node-same, parent-same}
 use Rattle.extract.specs.Extract.{rootRead, readRoot, headRemoved, removeHead}
 use Rattle.moundify.specs.Moundify.{returning, mendReadNode, depthRead, mendReadDepth, mendReadLeft, marked, lessBelow, childLess, childrenRead, mendReadRight, exchangeAt, nodeAndChildSame, exchangeWith, mendSwap, cleanAt, mendClean}
 use Rattle.machine.specs.Turn.{decide, decideAt}
-use Rattle.readable.proofs.Stores.{PlaceGood, ThreadGood, WaitsAbove}
-use Rattle.preserved.proofs.TreeLevels.{fits, level-unique, twice}
-use Rattle.bag.specs.Ledger.{Operation, none, putting, taking, holding}
-use Rattle.bag.proofs.Effects.{Mound, PushAsks, PopAsks, ExchangeAsks, CleanAsks, in-tree}
-use Rattle.bag.proofs.Facts.{At, AnyValue, Child, ChildRead, Dirty, InTree, Inner, LevelRead, Mended, Mends, Parent, Puts, RootRead, Searching, Sound, Swappable, Takes, Target, mendingFor, sound-read}
-use Rattle.bag.proofs.Held.{val-top}
-use Rattle.bag.proofs.Order.{Above, below-children}
-use Rattle.bag.proofs.Sorted.{AtMost, valueAt}
+use Rattle.mound.specs.Ledger.{Operation, none, putting, taking, holding}
+use Rattle.mound.proofs.Effects.{Mound, PushAsks, PopAsks, ExchangeAsks, CleanAsks, in-tree}
+use Rattle.mound.proofs.Facts.{At, AnyValue, Child, ChildRead, Dirty, InTree, Inner, LevelRead, Mended, Mends, Parent, Puts, RootRead, Searching, Sound, Swappable, Takes, Target, mendingFor, sound-read}
+use Rattle.mound.proofs.Held.{val-top}
+use Rattle.mound.proofs.Order.{Above, below-children}
+use Rattle.mound.proofs.Sorted.{AtMost, valueAt}
 
 -- what an effect of thread t asks of the mound
 abbrev pub Allowed : Shape → Shared → (ℕ → ℕ) → ℕ → Effect → Type 0
@@ -88,7 +86,28 @@ pub data Planned (s : Shape) (m : Shared) (own : ℕ → ℕ) (t : ℕ) (o : ℕ
   moves : (op′ : Operation) → Allowed s m own t (p .effect) → Speaks m op op′ (p .effect) (p .answer)
       → OwnAfter (p .effect) o (p .thread .own) → At s m (p .thread) op′ (p .thread .place) → Planned s m own t o op p
 
--- Where n lies.
+-- Where n lies. Each level has twice the nodes of the one above.
+doubled : (d : ℕ) → 1 ≤ d → 2 ^ d ≡ 2 ^ (d - 1) * 2
+doubled d p =
+    let e : d ≡ suc (d - 1) = omega arith in
+    ap (λ j. 2 ^ j) e ∙ pow-suc 2 (d - 1)
+
+-- no level is 0 but that of node 0
+level-some : (n : ℕ) → 1 ≤ n → 1 ≤ level n
+unfolding level digits
+level-some zero p = absurd (omega arith)
+level-some (suc n) p = omega arith
+
+-- a node that level j has lies no higher
+level-least : (n j : ℕ) → 1 ≤ n → n < 2 ^ 32 → 2 ^ (j - 1) ≤ n → j ≤ level n
+level-least n j p few h = go (decLt (level n) j)
+  where
+    go : Dec (level n < j) → j ≤ level n
+    go (yes k) =
+        let b = pow-mono {i = level n} {j = j - 1} (omega arith) in
+        absurd (omega (arith, level-holds n p few .most, b, h))
+    go (no k) = omega arith
+
 ancestor-some : (n j : ℕ) → 1 ≤ n → n < 2 ^ 32 → 1 ≤ j → 1 ≤ ancestor n j
 unfolding ancestor
 ancestor-some n j p few l =
@@ -104,24 +123,18 @@ ancestor-most n j = div-le-self n (2 ^ (level n - j))
 children-inside : (n d : ℕ) → 1 ≤ n → n < 2 ^ 32 → n < 2 ^ d → (level n ≡ d → ⊥) → 2 * n + 1 < 2 ^ d
 children-inside n d p few h ne = go (decLt d (level n))
   where
-    at : level n - 1 + 1 ≡ level n
-    at = omega (arith, level-holds n p few .some)
-
     go : Dec (d < level n) → 2 * n + 1 < 2 ^ d
     go (yes k) =
         let b = pow-mono {i = d} {j = level n - 1} (omega arith) in
         absurd (omega (arith, level-holds n p few .least, b, h))
     go (no k) =
-        let b = pow-mono {i = level n + 1} {j = d} (omega arith) in
-        let c = twice (level n + 1) (omega arith) in
-        let e : level n + 1 - 1 ≡ level n = omega arith in
-        let c′ = ap (λ j. 2 ^ j) e in
-        omega (arith, level-holds n p few .most, b, c, c′)
+        let b = pow-mono {i = suc (level n)} {j = d} (omega arith) in
+        omega (arith, level-holds n p few .most, b, pow-suc 2 (level n))
 
 children-deeper : (n d : ℕ) → 1 ≤ n → n < 2 ^ 32 → level n ≡ d → 2 ^ d ≤ 2 * n
 children-deeper n d p few e =
     let a = level-holds n p few in
-    let b = twice (level n) (a .some) in
+    let b = doubled (level n) (a .some) in
     let c = ap (λ j. 2 ^ j) e in
     omega (arith, a .least, b, c)
 
@@ -211,7 +224,7 @@ module _ (s : Shape) (r : InRange s) (m : Shared) (own : ℕ → ℕ) (g : Mound
     module _ (choice : ℕ) where
       leaf-most : leafOf (th .depth) choice < 2 ^ th .depth
       unfolding leafOf
-      leaf-most = omega (arith, mod-lt choice (pow-pos (th .depth - 1)), twice (th .depth) (l .0))
+      leaf-most = omega (arith, mod-lt choice (pow-pos (th .depth - 1)), doubled (th .depth) (l .0))
 
       leaf-in-tree : InTree m (leafOf (th .depth) choice)
       unfolding leafOf
@@ -220,11 +233,11 @@ module _ (s : Shape) (r : InRange s) (m : Shared) (own : ℕ → ℕ) (g : Mound
         omega (arith, leaf-most, pow-mono {i = th .depth} {j = m .depth} (l .1)),
       )
 
-      leaf-level : level (leafOf (th .depth) choice) ≡ th .depth
+      leaf-level : th .depth ≤ level (leafOf (th .depth) choice)
       unfolding leafOf
       leaf-level =
-          level-unique (leafOf (th .depth) choice) (th .depth) (l .0) (omega arith) leaf-most
-          (few-nodes (leafOf (th .depth) choice) (leaf-in-tree .1))
+          let leaf = leafOf (th .depth) choice in
+          level-least leaf (th .depth) (leaf-in-tree .0) (few-nodes leaf (leaf-in-tree .1)) (omega arith)
 
       leaf-planned : Fits (readLeaf s m th choice)
       unfolding readLeaf leafRead leafFailed failedPlace withFirst withCopies withSearch
@@ -234,8 +247,7 @@ module _ (s : Shape) (r : InRange s) (m : Shared) (own : ℕ → ℕ) (g : Mound
           pick-good Fits (isLevel s (th .depth))
           (λ a. pick-good Fits (itemLe (th .item) (valueOf q))
           (λ b. search-planned (withFirst (withSearch th (searching leaf (th .search .tries) 1 (th .depth))) q) refl h
-          (omega arith) (l .0)
-          (omega (arith, leaf-level)) leaf-in-tree)
+          (omega arith) (l .0) leaf-level leaf-in-tree)
           (λ b. let u = withFirst (withSearch th (searching leaf (nextTries s th) (th .search .lo) (th .search .hi))) q in
           goes-on u (failedPlace s th) refl
           (pick-good (At s m u op) (ltb (nextTries s th) (s .threshold)) (λ k. (h, l))
@@ -389,18 +401,15 @@ module _ (s : Shape) (r : InRange s) (m : Shared) (own : ℕ → ℕ) (g : Mound
       (record { operation = refl; permitted = h .permitted; none = h .none }, root-in-tree))))
       (λ y. goes-on th ReadRoot refl h)
 
-  -- Mending, with the waiting levels w above the node's.
-  module _ (w : ℕ) (hw : WaitsAbove (th .node) w) where
+  -- Mending, with the waiting levels w.
+  module _ (w : ℕ) where
     -- a return, after no effect or a cleaning
-    return-planned : (e : Effect) (u : Thread) → u .own ≡ th .own → u .node ≡ th .node → Mends m u op → Allowed s m own t e
+    return-planned : (e : Effect) (u : Thread) → u .own ≡ th .own → Mends m u op → Allowed s m own t e
         → ((o : ℕ) → o ≡ th .own → OwnAfter e (th .own) o) → ((o : Operation) → o ≡ op → Speaks m op o e Moved)
         → ((i : Item) → op ≡ holding i → Speaks m op none e (Took i)) → Fits (returning e u w)
     unfolding returning returned returnAnswer plan mending atPlace withNode goneIdle pick
-    return-planned e u eo en h al ow quiet tell = go (eqb w 0) refl (eqb (u .after) 1) refl
+    return-planned e u eo h al ow quiet tell = go (eqb w 0) refl (eqb (u .after) 1) refl
       where
-        waits : WaitsAbove (u .node) w
-        waits = subst (λ k. WaitsAbove k w) (sym en) hw
-
         few : u .node < 2 ^ 32
         few = few-nodes (u .node) (h .1 .1)
 
@@ -417,11 +426,10 @@ module _ (s : Shape) (r : InRange s) (m : Shared) (own : ℕ → ℕ) (g : Mound
             (record { operation = for false ea; permitted = h .0 .permitted; none = h .0 .none })
         go false eq a ea =
             let nw = eqb-false w 0 eq in
-            let l = level-holds w (omega arith) (fits (u .node) w few nw waits) .some in
             moves op al (quiet op refl) (ow (u .own) eo) (
               h .0,
               (
-                ancestor-some (u .node) (level w) (h .1 .0) few l,
+                ancestor-some (u .node) (level w) (h .1 .0) few (level-some w (omega arith)),
                 omega (arith, ancestor-most (u .node) (level w), h .1 .1),
               ),
             )
@@ -463,7 +471,7 @@ module _ (s : Shape) (r : InRange s) (m : Shared) (own : ℕ → ℕ) (g : Mound
         ))
         (λ y. goes-on u (MendReadLeft w) refl
         (h, (di, children-inside n (m .depth) (h .1 .0) few (h .1 .1) (eqb-false (level n) (m .depth) y))))))
-        (λ d. return-planned Nothing u refl refl h tt (λ o z. z) (λ o z. reads z) (λ i z. answers z refl))
+        (λ d. return-planned Nothing u refl h tt (λ o z. z) (λ o z. reads z) (λ i z. answers z refl))
 
     -- M3
     child-in-tree : (c : ℕ) → 1 ≤ c → c ≤ 2 * th .node + 1 → Inner m (th .node) (th .copies .first) → isNode s c ≡ true
@@ -654,7 +662,7 @@ module _ (s : Shape) (r : InRange s) (m : Shared) (own : ℕ → ℕ) (g : Mound
         let fn = found-node n q f in
         let l = b .left (ap (λ v. v .counter) fn) in
         let r′ = b .right (ap (λ v. v .counter) fn) in
-        return-planned (Clean n (updated (q .node) (q .node .first) 0)) th refl refl h
+        return-planned (Clean n (updated (q .node) (q .node .first) 0)) th refl h
         (record {
           some = h .1 .0;
           few = h .1 .1;
@@ -669,26 +677,26 @@ module _ (s : Shape) (r : InRange s) (m : Shared) (own : ℕ → ℕ) (g : Mound
         (λ y. goes-on th (MendReadNode w) refl h))
 
   -- every place
-  place-planned : (choice : ℕ) (p : Place) → PlaceGood s th p → At s m th op p → Fits (decideAt s m th choice p)
+  place-planned : (choice : ℕ) (p : Place) → At s m th op p → Fits (decideAt s m th choice p)
   unfolding plan
-  place-planned choice Idle w h = rests refl refl
-  place-planned choice ReadDepth w h = depth-planned h
-  place-planned choice ReadLeaf w h = leaf-planned (h .0) (h .1) choice
-  place-planned choice ReadAncestor w h = ancestor-planned (h .0) (h .1)
-  place-planned choice GrowDepth w h = grow-planned (h .0) (h .1) (h .2)
-  place-planned choice ReadTarget w h = target-planned (h .0) (h .1)
-  place-planned choice InsertAtRoot w h = at-root-planned (h .0) (h .1)
-  place-planned choice ReadParent w h = parent-planned (h .0) (h .1) (h .2) (h .3)
-  place-planned choice InsertBelow w h = below-planned (h .0) (h .1) (h .2) (h .3) (h .4)
-  place-planned choice ReadRoot w h = root-planned h
-  place-planned choice RemoveHead w h = head-planned (h .0) (h .1)
-  place-planned choice (MendReadNode v) w h = node-planned v w h
-  place-planned choice (MendReadDepth v) w h = mend-depth-planned v w (h .0) (h .1)
-  place-planned choice (MendReadLeft v) w h = left-planned v w (h .0) (h .1)
-  place-planned choice (MendReadRight v) w h = right-planned v w (h .0) (h .1) (h .2)
-  place-planned choice (MendSwap v) w h = swap-planned v w (h .0) (h .1) (h .2)
-  place-planned choice (MendClean v) w h = clean-planned v w (h .0) (h .1) (h .2)
+  place-planned choice Idle h = rests refl refl
+  place-planned choice ReadDepth h = depth-planned h
+  place-planned choice ReadLeaf h = leaf-planned (h .0) (h .1) choice
+  place-planned choice ReadAncestor h = ancestor-planned (h .0) (h .1)
+  place-planned choice GrowDepth h = grow-planned (h .0) (h .1) (h .2)
+  place-planned choice ReadTarget h = target-planned (h .0) (h .1)
+  place-planned choice InsertAtRoot h = at-root-planned (h .0) (h .1)
+  place-planned choice ReadParent h = parent-planned (h .0) (h .1) (h .2) (h .3)
+  place-planned choice InsertBelow h = below-planned (h .0) (h .1) (h .2) (h .3) (h .4)
+  place-planned choice ReadRoot h = root-planned h
+  place-planned choice RemoveHead h = head-planned (h .0) (h .1)
+  place-planned choice (MendReadNode v) h = node-planned v h
+  place-planned choice (MendReadDepth v) h = mend-depth-planned v (h .0) (h .1)
+  place-planned choice (MendReadLeft v) h = left-planned v (h .0) (h .1)
+  place-planned choice (MendReadRight v) h = right-planned v (h .0) (h .1) (h .2)
+  place-planned choice (MendSwap v) h = swap-planned v (h .0) (h .1) (h .2)
+  place-planned choice (MendClean v) h = clean-planned v (h .0) (h .1) (h .2)
 
-  pub planned : ThreadGood s th → At s m th op (th .place) → (choice : ℕ) → Fits (decide s m th choice)
+  pub planned : At s m th op (th .place) → (choice : ℕ) → Fits (decide s m th choice)
   unfolding decide
-  planned gt h choice = place-planned choice (th .place) (gt .place) h
+  planned h choice = place-planned choice (th .place) h

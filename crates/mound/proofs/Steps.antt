@@ -5,12 +5,10 @@ use native.Mathlib.Decide.{ℕ-discrete}
 use native.Mathlib.Omega.{arith}
 use mathlib.Core.Path.{_≡_, refl, sym, ap, subst, fun-ext, _∙_}
 use mathlib.Core.Bool.{Bool, true, false, true≢false}
-use mathlib.Core.List.{List}
 use Rattle.region.specs.Pick.{pick, upd}
-use Rattle.region.specs.Shared.{Shared, sharedIn}
+use Rattle.region.specs.Shared.{Shared}
 use Rattle.region.specs.declared.answer.Answer.{Answer}
-use Rattle.region.specs.declared.answer.Answer.the-variants.{Moved, Inserted, Took, Empty}
-use Rattle.region.specs.declared.frame.Frame.{Frame}
+use Rattle.region.specs.declared.answer.Answer.the-variants.{Moved, Idle, Inserted, Took, Empty, Refused}
 use Rattle.region.specs.declared.record.Item.{Item}
 use Rattle.region.specs.declared.shape.Shape.{Shape}
 use Rattle.region.specs.declared.thread.Thread.{Thread}
@@ -21,16 +19,15 @@ use Rattle.access.specs.Read.{readNode}
 use Rattle.access.specs.declared.effect.Effect.{Effect}
 use Rattle.access.specs.declared.effect.Effect.the-variants.{Nothing, Grow, Push, Pop, Exchange, Clean}
 use Rattle.access.proofs.OrderLaws.{item-less, item-trans}
-use Rattle.bag.specs.History.{rootItem}
-use Rattle.bag.specs.Ledger.{Operation, none, holding, Ledger, Follows, still, put-decides, take-decides, empty-decides, take-answers, oneMore, oneLess}
-use Rattle.bag.specs.Tree.{sameItem}
-use Rattle.bag.proofs.Answers.{effectTells}
-use Rattle.bag.proofs.Effects.{Keeps, Mound, in-tree, root-there, value-there, rely-same, grow-keeps, grow-counts, push-keeps, push-counts, pop-keeps, pop-counts, pop-own, exchange-keeps, exchange-counts, clean-keeps, clean-counts}
-use Rattle.bag.proofs.Facts.{At, stays}
-use Rattle.bag.proofs.Held.{counted, held-by, head-held}
-use Rattle.bag.proofs.Order.{root-above}
-use Rattle.bag.proofs.Plans.{Allowed, OwnAfter, Speaks, reads, grows, swaps, cleans, inserts, removes, empties, answers, cleans-answers}
-use Rattle.bag.proofs.Sorted.{AtMost, same-item, item-same, valueAt}
+use Rattle.mound.specs.Ledger.{Operation, none, holding, Ledger, Follows, still, put-decides, take-decides, empty-decides, take-answers, oneMore, oneLess}
+use Rattle.mound.specs.Told.{Told, nothing, decidesPut, decidesTake, decidesEmpty, answersTook}
+use Rattle.mound.specs.Tree.{sameItem}
+use Rattle.mound.proofs.Effects.{Keeps, Mound, in-tree, root-there, value-there, rely-same, grow-keeps, grow-counts, push-keeps, push-counts, pop-keeps, pop-counts, pop-own, exchange-keeps, exchange-counts, clean-keeps, clean-counts}
+use Rattle.mound.proofs.Facts.{At, stays}
+use Rattle.mound.proofs.Held.{counted, held-by, head-held}
+use Rattle.mound.proofs.Order.{root-above}
+use Rattle.mound.proofs.Plans.{Allowed, OwnAfter, Speaks, reads, grows, swaps, cleans, inserts, removes, empties, answers, cleans-answers}
+use Rattle.mound.proofs.Sorted.{AtMost, same-item, item-same, valueAt}
 
 -- each thread's own cell
 abbrev pub owns : (ℕ → Thread) → ℕ → ℕ
@@ -111,13 +108,27 @@ pub record Stepped (s : Shape) (m m′ : Shared) (own own′ : ℕ → ℕ) (l l
   pub now : l′ .operation t ≡ op′
   pub bag : (i : Item) → l′ .bag i ≡ counted s m′ i
 
--- thread t's effect e with answer a
-module _ (s : Shape) (f : Frame) (b : List ℕ) (own own′ : ℕ → ℕ) (l : Ledger) (g : Mound s (sharedIn f b) own)
-    (bag : (i : Item) → l .bag i ≡ counted s (sharedIn f b) i) (t : ℕ) (lt : 1 ≤ t) (ut : t ≤ s .threads)
-    (still-own : (u : ℕ) → (u ≡ t → ⊥) → own′ u ≡ own u) where
-  abbrev m : Shared
-  m = sharedIn f b
+-- what thread t's effect and answer tell, i being the item of the root's head: a pushed cell is a successful I6 or I8, a popped one a
+-- successful E2
+abbrev pub quietTells : ℕ → Answer → Told
+quietTells t Moved = nothing
+quietTells t Idle = nothing
+quietTells t Inserted = nothing
+quietTells t (Took i) = answersTook t i
+quietTells t Empty = decidesEmpty t
+quietTells t (Refused n) = nothing
 
+abbrev pub effectTells : Item → ℕ → Answer → Effect → Told
+effectTells i t a Nothing = quietTells t a
+effectTells i t a (Grow d) = quietTells t a
+effectTells i t a (Push n v c x) = decidesPut t
+effectTells i t a (Pop v c) = decidesTake t i
+effectTells i t a (Exchange n v k w) = quietTells t a
+effectTells i t a (Clean n v) = quietTells t a
+
+-- thread t's effect e with answer a
+module _ (s : Shape) (m : Shared) (own own′ : ℕ → ℕ) (l : Ledger) (g : Mound s m own) (bag : (i : Item) → l .bag i ≡ counted s m i)
+    (t : ℕ) (lt : 1 ≤ t) (ut : t ≤ s .threads) (still-own : (u : ℕ) → (u ≡ t → ⊥) → own′ u ≡ own u) where
   -- all own cells as before
   same-own : own′ t ≡ own t → own′ ≡ own
   same-own e = fun-ext λ u. go u (ℕ-discrete u t)
@@ -144,7 +155,7 @@ module _ (s : Shape) (f : Frame) (b : List ℕ) (own own′ : ℕ → ℕ) (l : 
 
   pub record Step (e : Effect) (a : Answer) (op′ : Operation) : Type 0 where
     pub after : Ledger
-    pub follows : Follows (effectTells (rootItem f b) t a e) l after
+    pub follows : Follows (effectTells (m .cell (m .node 1 .first) .item) t a e) l after
     pub stepped : Stepped s m (effectShared m e) own own′ l after t op′
     -- a cell that the thread still owns is as before
     pub mine : 1 ≤ own′ t → effectShared m e .cell (own′ t) ≡ m .cell (own′ t)

@@ -20,10 +20,10 @@ use Rattle.access.specs.Order.{val, valueOf}
 use Rattle.access.specs.Read.{readNode, updated}
 use Rattle.access.specs.declared.effect.Effect.the-variants.{Grow, Push, Pop, Exchange, Clean}
 use Rattle.access.proofs.OrderLaws.{item-refl, item-trans}
-use Rattle.bag.specs.Tree.{sameItem}
-use Rattle.bag.proofs.Held.{Held, counted, first-owner, own-owner, free-owner, held-same, counted-same, held-begin, counted-begin, held-push, counted-push, held-pop, counted-pop, held-exchange, counted-exchange}
-use Rattle.bag.proofs.Order.{Above, Ordered, above-le, push-ordered, pop-ordered, clean-ordered, exchange-ordered}
-use Rattle.bag.proofs.Sorted.{AtMost, Proper, valueAt}
+use Rattle.mound.specs.Tree.{sameItem}
+use Rattle.mound.proofs.Held.{Held, counted, first-owner, own-owner, free-owner, held-same, counted-same, held-begin, counted-begin, held-push, counted-push, held-pop, counted-pop, held-exchange, counted-exchange}
+use Rattle.mound.proofs.Order.{Above, Ordered, above-le, push-ordered, pop-ordered, clean-ordered, exchange-ordered}
+use Rattle.mound.proofs.Sorted.{AtMost, Proper, valueAt}
 
 -- a clean node's value is at most that of every node below it
 abbrev pub InOrder : Shared → Type 0

@@ -6,8 +6,8 @@ use mathlib.Core.Bool.{true}
 use Rattle.region.specs.Pick.{pick, upd}
 use Rattle.region.specs.declared.record.Item.{Item}
 use Rattle.access.specs.Order.{itemLt}
-use Rattle.bag.specs.Told.{Told, nothing, beginsPut, beginsTake, decidesPut, decidesTake, decidesEmpty, answersTook}
-use Rattle.bag.specs.Tree.{sameItem}
+use Rattle.mound.specs.Told.{Told, nothing, beginsPut, beginsTake, decidesPut, decidesTake, decidesEmpty, answersTook}
+use Rattle.mound.specs.Tree.{sameItem}
 
 -- a thread's operation begun last, as far as it goes
 pub data Operation : Type 0 where
