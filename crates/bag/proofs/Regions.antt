@@ -1,8 +1,7 @@
 -- The invariant on the bytes of a region: a turn and the two beginnings keep it, and the ledger follows what they tell. Assumes nothing.
 use Prim.Native.Nat.{ℕ, _≤_, _<_, _^_}
-use native.Mathlib.Decide.{ℕ-discrete}
 use native.Mathlib.Omega.{arith}
-use mathlib.Core.Path.{_≡_, refl, sym, ap, subst, subst₂, fun-ext, _∙_}
+use mathlib.Core.Path.{_≡_, refl, sym, ap, subst, subst₂, _∙_}
 use mathlib.Core.Bool.{Bool, true, false}
 use mathlib.Core.List.{List}
 use lib.ListN.{length}
@@ -14,7 +13,7 @@ use Rattle.region.specs.Inner.{Within}
 use Rattle.region.specs.Pick.{pick, upd}
 use Rattle.region.specs.Shape.{between}
 use Rattle.region.specs.Shared.{Shared, putCell, putFree, cellIn, setCellIn, threadIn, setThreadIn, sharedIn}
-use Rattle.region.specs.Thread.{atPlace, begunPut, begunTake, idleThread, withItem, withOwn}
+use Rattle.region.specs.Thread.{begunPut, begunTake, idleThread}
 use Rattle.region.specs.declared.answer.Answer.{Answer}
 use Rattle.region.specs.declared.answer.Answer.the-variants.{Idle as AnswersIdle, Refused}
 use Rattle.region.specs.declared.place.Place.the-variants.{Idle}
@@ -23,12 +22,9 @@ use Rattle.region.specs.declared.record.Item.{Item}
 use Rattle.region.specs.declared.shape.Shape.{Shape}
 use Rattle.region.specs.declared.thread.Thread.{Thread}
 use Rattle.region.proofs.Frames.{frame-parted}
-use Rattle.region.proofs.Picks.{upd-same, upd-other}
 use Rattle.region.proofs.Shapes.{between-least, between-most, sizes}
 use Rattle.region.proofs.Views.{length-setCellIn, shared-setCell, shared-setFree, shared-setThread, threads-setCell, threads-setFree, threads-setThread}
-use Rattle.access.specs.Effect.{effectShared}
 use Rattle.access.specs.Plan.{plan, refused}
-use Rattle.access.specs.declared.effect.Effect.{Effect}
 use Rattle.access.specs.declared.effect.Effect.the-variants.{Nothing}
 use Rattle.access.specs.declared.plan.Plan.{Plan}
 use Rattle.access.proofs.OrderLaws.{item-below-top}
@@ -39,12 +35,11 @@ use Rattle.machine.specs.Run.{Turn}
 use Rattle.machine.specs.Turn.{staysPut, turnBytes, turnPlan}
 use Rattle.preserved.proofs.EffectsGood.{cell-fit}
 use Rattle.preserved.proofs.Proved.{begun-put-good, begun-take-good, free-few, next-few, turn-good}
-use Rattle.mound.specs.Ledger.{Operation, none, putting, taking, Ledger, Follows, still, put-begins, take-begins}
+use Rattle.mound.specs.Ledger.{Operation, Ledger, Follows, still}
 use Rattle.mound.specs.Told.{Told, nothing, beginsPut, beginsTake}
-use Rattle.mound.proofs.Effects.{Mound, begin-counts, begin-keeps, rely-same}
 use Rattle.mound.proofs.Facts.{At}
-use Rattle.mound.proofs.Plans.{Allowed, OwnAfter, Planned, Speaks, rests, refuses, moves, reads, grows, swaps, cleans, inserts, removes, empties, answers, cleans-answers, planned}
-use Rattle.mound.proofs.Steps.{Invariant, Stepped, effectTells, owns, quietTells, step, stepped-invariant, turned-invariant}
+use Rattle.mound.proofs.Plans.{Allowed, OwnAfter, Planned, Speaks, rests, refuses, moves, planned, speaks-moves}
+use Rattle.mound.proofs.Steps.{Invariant, NextState, effectTells, owns, put-starts, quietTells, take-starts, turn-moves}
 use Rattle.bag.specs.History.{rootItem, servedOn, turned}
 use Rattle.bag.specs.Told.{tells}
 use Rattle.bag.proofs.Answers.{turn-tells}
@@ -60,17 +55,15 @@ pub record Region (s : Shape) (b : List ℕ) (l : Ledger) : Type 0 where
 abbrev pub Follow : (s : Shape) → Ledger → Told → List ℕ → Type 0
 Follow s l told b = Next (Region s) Follows l told b
 
--- an effect that speaks is carried out
-pub speaks-moves : {m : Shared} {op op′ : Operation} {e : Effect} {a : Answer} → Speaks m op op′ e a → staysPut a ≡ false
-speaks-moves (reads k) = refl
-speaks-moves (grows k) = refl
-speaks-moves (swaps k) = refl
-speaks-moves (cleans k) = refl
-speaks-moves (inserts i x y z) = refl
-speaks-moves (removes x y) = refl
-speaks-moves (empties x y z w) = refl
-speaks-moves (answers x y) = refl
-speaks-moves (cleans-answers x y) = refl
+-- what follows of the state follows of a region that reads so
+followed : {s : Shape} {l : Ledger} {told : Told} {b : List ℕ} {m : Shared} {th : ℕ → Thread} → Good s b
+    → sharedIn (frameOf s) b ≡ m → threadIn (frameOf s) b ≡ th → NextState s l told m th → Follow s l told b
+followed {s} good em eth n =
+    record {
+      next = n .next;
+      follows = n .follows;
+      region = record { good = good; holds = subst₂ (λ x y. Invariant s x y (n .next)) (sym em) (sym eth) (n .holds) };
+    }
 
 module _ (s : Shape) (b : List ℕ) (l : Ledger) (g : Region s b l) where
   abbrev m : Shared
@@ -110,28 +103,9 @@ module _ (s : Shape) (b : List ℕ) (l : Ledger) (g : Region s b l) where
           → Follow s l (effectTells (rootItem (frameOf s) b) t (p .answer) (p .effect)) (turnBytes (frameOf s) b t c)
       unfolding p
       moving-turn op′ al sp ow at =
-          let v = p .thread in
-          let own′ = owns (upd th t v) in
-          let now : upd th t v t .own ≡ v .own = ap (λ x. x .own) (upd-same th t v) in
-          let st = step s m (owns th) own′ l (g .holds .mound) (g .holds .bag) t lt ut
-          (λ u n. ap (λ x. x .own) (upd-other th t u v n)) (l .operation t) op′ refl (p .effect) (p .answer) al sp
-          (subst (OwnAfter (p .effect) (th t .own)) (sym now) ow)
-          in
+          let n = turn-moves s m th l (g .holds) t lt ut p op′ al sp ow at in
           let e = speaks-moves sp in
-          let inv = turned-invariant s m (effectShared m (p .effect)) th l (st .after) t v op′ (g .holds .at) (st .stepped) at
-          (λ k. subst (λ o. 1 ≤ o → effectShared m (p .effect) .cell o ≡ m .cell o) now (st .mine) k)
-          in
-          record {
-            next = st .after;
-            follows = st .follows;
-            region =
-                record {
-                  good = turn-good s b (g .good) t c;
-                  holds =
-                      subst₂ (λ x y. Invariant s x y (st .after)) (sym (turn-shared s b t c (g .good) e))
-                      (sym (turn-threads s b t c (g .good) e)) inv;
-                };
-          }
+          followed (turn-good s b (g .good) t c) (turn-shared s b t c (g .good) e) (turn-threads s b t c (g .good) e) n
 
       there : Planned s m (owns th) t (th t .own) (l .operation t) p
           → Follow s l (effectTells (rootItem (frameOf s) b) t (p .answer) (p .effect)) (turnBytes (frameOf s) b t c)
@@ -164,9 +138,6 @@ module _ (s : Shape) (b : List ℕ) (l : Ledger) (g : Region s b l) where
 -- Beginnings, on a region of shape s.
 module _ (s : Shape) (b : List ℕ) (l : Ledger) (g : Region s b l) (t : ℕ) (lt : 1 ≤ t) (ut : t ≤ s .threads)
     (idle : threadIn (frameOf s) b t .place ≡ Idle) where
-  at-rest : At s (m s b l g) (th s b l g t) (l .operation t) Idle
-  at-rest = subst (At s (m s b l g) (th s b l g t) (l .operation t)) idle (g .holds .at t)
-
   -- a take
   module _ (may : 1 ≤ threadIn (frameOf s) b t .permission) where
     abbrev taker : Thread
@@ -181,43 +152,8 @@ module _ (s : Shape) (b : List ℕ) (l : Ledger) (g : Region s b l) (t : ℕ) (l
         threads-setThread (frameOf s) b (good-within s b (g .good)) (frame-parted s) t taker lt ut
         (thread-fit s (g .good .range) taker (begun-take-good s (th s b l g t) (good-thread s b (g .good) t)))
 
-    same-owns : owns (upd (th s b l g) t taker) ≡ owns (th s b l g)
-    unfolding begunTake atPlace
-    same-owns = fun-ext λ u. go u (ℕ-discrete u t)
-      where
-        go : (u : ℕ) → Dec (u ≡ t) → upd (th s b l g) t taker u .own ≡ th s b l g u .own
-        go u (yes e) =
-            ap (λ y. upd (th s b l g) t taker y .own) e ∙ ap (λ y. y .own) (upd-same (th s b l g) t taker)
-            ∙ ap (λ y. th s b l g y .own) (sym e)
-        go u (no n) = ap (λ y. y .own) (upd-other (th s b l g) t u taker n)
-
-    abbrev takes : Ledger
-    takes = record { bag = l .bag; operation = upd (l .operation) t taking }
-
-    take-begun : Invariant s (m s b l g) (upd (th s b l g) t taker) takes
-    unfolding begunTake atPlace
-    take-begun =
-        stepped-invariant s (m s b l g) (m s b l g) (th s b l g) l takes t taker taking (g .holds .at)
-        (record {
-          keeps =
-              record {
-                mound = subst (Mound s (m s b l g)) (sym same-owns) (g .holds .mound);
-                rely = rely-same (m s b l g) (m s b l g) (omega arith) (λ y p. refl);
-                kept = λ u n p. refl;
-              };
-          others = λ u n. upd-other (l .operation) t u taking n;
-          now = upd-same (l .operation) t taking;
-          bag = g .holds .bag;
-        })
-        (record { operation = refl; permitted = may; none = at-rest .1 })
-
     pub take-next : Good s (setThreadIn (frameOf s) b t taker) → Follow s l (beginsTake t) (setThreadIn (frameOf s) b t taker)
-    take-next good =
-        record {
-          next = takes;
-          follows = take-begins (at-rest .0);
-          region = record { good = good; holds = subst₂ (λ y z. Invariant s y z takes) (sym take-shared) (sym take-threads) take-begun };
-        }
+    take-next good = followed good take-shared take-threads (take-starts s (m s b l g) (th s b l g) l (g .holds) t lt ut idle may)
 
   -- a put
   module _ (may : 1 ≤ threadIn (frameOf s) b t .permission) (i : Item) (key : i .key ≤ 4294967294) (tag : i .tag ≤ 65535)
@@ -269,51 +205,8 @@ module _ (s : Shape) (b : List ℕ) (l : Ledger) (g : Region s b l) (t : ℕ) (l
         (threads-setCell (frameOf s) (setWord b (frameOf s .free) next) within-free (frame-parted s) c mine
         ∙ threads-setFree (frameOf s) b (good-within s b (g .good)) (frame-parted s) next)
 
-    abbrev begins : Ledger
-    begins = record { bag = l .bag; operation = upd (l .operation) t (putting i) }
-
-    own-now : upd (th s b l g) t putter t .own ≡ c
-    unfolding begunPut atPlace withOwn withItem
-    own-now = ap (λ y. y .own) (upd-same (th s b l g) t putter)
-
-    still-own : (u : ℕ) → (u ≡ t → ⊥) → upd (th s b l g) t putter u .own ≡ th s b l g u .own
-    still-own u n = ap (λ y. y .own) (upd-other (th s b l g) t u putter n)
-
-    put-stepped : Stepped s (m s b l g) begun (owns (th s b l g)) (owns (upd (th s b l g) t putter)) l begins t (putting i)
-    unfolding begun sharedIn
-    put-stepped =
-        let elsewhere : (d : ℕ) → (d ≡ c → ⊥) → begun .cell d ≡ m s b l g .cell d = λ d n. upd-other (m s b l g .cell) c d mine n in
-        let ended : begun .cell c .next ≡ 0 = ap (λ y. y .next) (upd-same (m s b l g .cell) c mine) in
-        record {
-          keeps =
-              begin-keeps s (m s b l g) begun (owns (th s b l g)) (owns (upd (th s b l g) t putter)) (g .holds .mound) t c lt ut
-              (omega arith) refl
-              (at-rest .1) elsewhere ended refl refl refl own-now still-own;
-          others = λ u n. upd-other (l .operation) t u (putting i) n;
-          now = upd-same (l .operation) t (putting i);
-          bag = λ j. g .holds .bag j ∙ sym
-              (begin-counts s (m s b l g) begun (owns (th s b l g)) (owns (upd (th s b l g) t putter))
-              (g .holds .mound) t c lt ut (omega arith) refl
-              (at-rest .1) elsewhere ended refl refl refl own-now still-own j);
-        }
-
-    put-begun : Invariant s begun (upd (th s b l g) t putter) begins
-    unfolding begun begunPut atPlace withOwn withItem
-    put-begun =
-        stepped-invariant s (m s b l g) begun (th s b l g) l begins t putter (putting i) (g .holds .at) put-stepped
-        (record {
-          operation = refl;
-          permitted = may;
-          some = omega arith;
-          item = ap (λ y. y .item) (upd-same (m s b l g .cell) c mine);
-          ended = ap (λ y. y .next) (upd-same (m s b l g .cell) c mine);
-          proper = item-below-top i (omega arith) tag;
-        })
-
     pub put-next : Good s (acceptedPut (frameOf s) b t i) → Follow s l (beginsPut t i) (acceptedPut (frameOf s) b t i)
+    unfolding begun sharedIn
     put-next good =
-        record {
-          next = begins;
-          follows = put-begins (at-rest .0);
-          region = record { good = good; holds = subst₂ (λ y z. Invariant s y z begins) (sym put-shared) (sym put-threads) put-begun };
-        }
+        followed good put-shared put-threads
+        (put-starts s (m s b l g) (th s b l g) l (g .holds) t lt ut idle may i (item-below-top i (omega arith) tag) (omega arith))

@@ -20,7 +20,7 @@ use Rattle.readable.proofs.Stores.{good-shared}
 use Rattle.machine.specs.Turn.{staysPut, turnAnswer, turnPlan}
 use Rattle.mound.specs.Ledger.{Ledger, Operation, emptyLedger}
 use Rattle.mound.proofs.Effects.{Mound}
-use Rattle.mound.proofs.Plans.{Planned, moves, refuses, rests}
+use Rattle.mound.proofs.Plans.{Planned, moves, refuses, rests, speaks-moves}
 use Rattle.mound.proofs.Steps.{owns}
 use Rattle.bag.specs.History.{history}
 use Rattle.bag.specs.Moments.{Throughout, regionAfter}
@@ -29,7 +29,7 @@ use Rattle.bag.proofs.Account.{all-cells-accounted, puts-refused-when-f
 use Rattle.bag.proofs.Histories.{Kept, kept-after}
 use Rattle.bag.proofs.LeastFirst.{stays-behind}
 use Rattle.bag.proofs.Proved.{Moves, history-kept, region-is-a-bag}
-use Rattle.bag.proofs.Regions.{Region, plan-fits, nowhere, speaks-moves}
+use Rattle.bag.proofs.Regions.{Region, plan-fits, nowhere}
 use Rattle.bag.proofs.Start.{laid-region}
 use Rattle.bag.proofs.TakeCost.{costs-end, take-costs}
 pub use Rattle.bag.proofs.Proved.{region-is-a-bag}

@@ -41,7 +41,7 @@ use Rattle.insert.specs.Insert.{searching, readDepth, searchOn, leafOf, nextTri
 use Rattle.insert.proofs.Laws.{node-same, parent-same}
 use Rattle.extract.specs.Extract.{rootRead, readRoot, headRemoved, removeHead}
 use Rattle.moundify.specs.Moundify.{returning, mendReadNode, depthRead, mendReadDepth, mendReadLeft, marked, lessBelow, childLess, childrenRead, mendReadRight, exchangeAt, nodeAndChildSame, exchangeWith, mendSwap, cleanAt, mendClean}
-use Rattle.machine.specs.Turn.{decide, decideAt}
+use Rattle.machine.specs.Turn.{decide, decideAt, staysPut}
 use Rattle.mound.specs.Ledger.{Operation, none, putting, taking, holding}
 use Rattle.mound.proofs.Effects.{Mound, PushAsks, PopAsks, ExchangeAsks, CleanAsks, in-tree}
 use Rattle.mound.proofs.Facts.{At, AnyValue, Child, ChildRead, Dirty, InTree, Inner, LevelRead, Mended, Mends, Parent, Puts, RootRead, Searching, Sound, Swappable, Takes, Target, mendingFor, sound-read}
@@ -70,6 +70,18 @@ pub data Speaks (m : Shared) (op op′ : Operation) : Effect → Answer → Type
   empties : op ≡ taking → op′ ≡ none → m .node 1 .dirty ≡ 0 → m .node 1 .first ≡ 0 → Speaks m op op′ Nothing Empty
   answers : {i : Item} → op ≡ holding i → op′ ≡ none → Speaks m op op′ Nothing (Took i)
   cleans-answers : {n : ℕ} {v : Node} {i : Item} → op ≡ holding i → op′ ≡ none → Speaks m op op′ (Clean n v) (Took i)
+
+-- an effect that speaks is carried out
+pub speaks-moves : {m : Shared} {op op′ : Operation} {e : Effect} {a : Answer} → Speaks m op op′ e a → staysPut a ≡ false
+speaks-moves (reads k) = refl
+speaks-moves (grows k) = refl
+speaks-moves (swaps k) = refl
+speaks-moves (cleans k) = refl
+speaks-moves (inserts i x y z) = refl
+speaks-moves (removes x y) = refl
+speaks-moves (empties x y z w) = refl
+speaks-moves (answers x y) = refl
+speaks-moves (cleans-answers x y) = refl
 
 -- the own cell afterwards: a push takes it, nothing else changes it
 abbrev pub OwnAfter : Effect → ℕ → ℕ → Type 0

@@ -6,9 +6,11 @@ use native.Mathlib.Omega.{arith}
 use mathlib.Core.Path.{_≡_, refl, sym, ap, subst, fun-ext, _∙_}
 use mathlib.Core.Bool.{Bool, true, false, true≢false}
 use Rattle.region.specs.Pick.{pick, upd}
-use Rattle.region.specs.Shared.{Shared}
+use Rattle.region.specs.Shared.{Shared, putCell, putFree}
+use Rattle.region.specs.Thread.{atPlace, begunPut, begunTake, withItem, withOwn}
 use Rattle.region.specs.declared.answer.Answer.{Answer}
 use Rattle.region.specs.declared.answer.Answer.the-variants.{Moved, Idle, Inserted, Took, Empty, Refused}
+use Rattle.region.specs.declared.place.Place.the-variants.{Idle as AtRest}
 use Rattle.region.specs.declared.record.Item.{Item}
 use Rattle.region.specs.declared.shape.Shape.{Shape}
 use Rattle.region.specs.declared.thread.Thread.{Thread}
@@ -18,16 +20,17 @@ use Rattle.access.specs.Order.{topItem, val, valueOf}
 use Rattle.access.specs.Read.{readNode}
 use Rattle.access.specs.declared.effect.Effect.{Effect}
 use Rattle.access.specs.declared.effect.Effect.the-variants.{Nothing, Grow, Push, Pop, Exchange, Clean}
+use Rattle.access.specs.declared.plan.Plan.{Plan}
 use Rattle.access.proofs.OrderLaws.{item-less, item-trans}
-use Rattle.mound.specs.Ledger.{Operation, none, holding, Ledger, Follows, still, put-decides, take-decides, empty-decides, take-answers, oneMore, oneLess}
-use Rattle.mound.specs.Told.{Told, nothing, decidesPut, decidesTake, decidesEmpty, answersTook}
+use Rattle.mound.specs.Ledger.{Operation, none, putting, taking, holding, Ledger, Follows, still, put-begins, take-begins, put-decides, take-decides, empty-decides, take-answers, oneMore, oneLess}
+use Rattle.mound.specs.Told.{Told, nothing, beginsPut, beginsTake, decidesPut, decidesTake, decidesEmpty, answersTook}
 use Rattle.mound.specs.Tree.{sameItem}
-use Rattle.mound.proofs.Effects.{Keeps, Mound, in-tree, root-there, value-there, rely-same, grow-keeps, grow-counts, push-keeps, push-counts, pop-keeps, pop-counts, pop-own, exchange-keeps, exchange-counts, clean-keeps, clean-counts}
+use Rattle.mound.proofs.Effects.{Keeps, Mound, in-tree, root-there, value-there, rely-same, begin-keeps, begin-counts, grow-keeps, grow-counts, push-keeps, push-counts, pop-keeps, pop-counts, pop-own, exchange-keeps, exchange-counts, clean-keeps, clean-counts}
 use Rattle.mound.proofs.Facts.{At, stays}
 use Rattle.mound.proofs.Held.{counted, held-by, head-held}
 use Rattle.mound.proofs.Order.{root-above}
 use Rattle.mound.proofs.Plans.{Allowed, OwnAfter, Speaks, reads, grows, swaps, cleans, inserts, removes, empties, answers, cleans-answers}
-use Rattle.mound.proofs.Sorted.{AtMost, same-item, item-same, valueAt}
+use Rattle.mound.proofs.Sorted.{AtMost, Proper, same-item, item-same, valueAt}
 
 -- each thread's own cell
 abbrev pub owns : (ℕ → Thread) → ℕ → ℕ
@@ -108,6 +111,10 @@ pub record Stepped (s : Shape) (m m′ : Shared) (own own′ : ℕ → ℕ) (l l
   pub now : l′ .operation t ≡ op′
   pub bag : (i : Item) → l′ .bag i ≡ counted s m′ i
 
+-- the item of the root's head
+abbrev pub headOfRoot : Shared → Item
+headOfRoot m = m .cell (m .node 1 .first) .item
+
 -- what thread t's effect and answer tell, i being the item of the root's head: a pushed cell is a successful I6 or I8, a popped one a
 -- successful E2
 abbrev pub quietTells : ℕ → Answer → Told
@@ -126,17 +133,17 @@ effectTells i t a (Pop v c) = decidesTake t i
 effectTells i t a (Exchange n v k w) = quietTells t a
 effectTells i t a (Clean n v) = quietTells t a
 
+-- all own cells as before
+same-own : (own own′ : ℕ → ℕ) (t : ℕ) → ((u : ℕ) → (u ≡ t → ⊥) → own′ u ≡ own u) → own′ t ≡ own t → own′ ≡ own
+same-own own own′ t others e = fun-ext λ u. go u (ℕ-discrete u t)
+  where
+    go : (u : ℕ) → Dec (u ≡ t) → own′ u ≡ own u
+    go u (yes k) = ap own′ k ∙ e ∙ ap own (sym k)
+    go u (no n) = others u n
+
 -- thread t's effect e with answer a
 module _ (s : Shape) (m : Shared) (own own′ : ℕ → ℕ) (l : Ledger) (g : Mound s m own) (bag : (i : Item) → l .bag i ≡ counted s m i)
     (t : ℕ) (lt : 1 ≤ t) (ut : t ≤ s .threads) (still-own : (u : ℕ) → (u ≡ t → ⊥) → own′ u ≡ own u) where
-  -- all own cells as before
-  same-own : own′ t ≡ own t → own′ ≡ own
-  same-own e = fun-ext λ u. go u (ℕ-discrete u t)
-    where
-      go : (u : ℕ) → Dec (u ≡ t) → own′ u ≡ own u
-      go u (yes k) = ap own′ k ∙ e ∙ ap own (sym k)
-      go u (no n) = still-own u n
-
   abbrev later : Operation → Ledger
   later op = record { bag = l .bag; operation = upd (l .operation) t op }
 
@@ -147,7 +154,7 @@ module _ (s : Shape) (m : Shared) (own own′ : ℕ → ℕ) (l : Ledger) (g : M
       → Stepped s m (effectShared m e) own own′ l l′ t op′
   quiet e l′ op′ eo keeps counts same others now =
       record {
-        keeps = subst (λ o. Keeps s m (effectShared m e) own o t) (sym (same-own eo)) keeps;
+        keeps = subst (λ o. Keeps s m (effectShared m e) own o t) (sym (same-own own own′ t still-own eo)) keeps;
         others = others;
         now = now;
         bag = λ i. same i ∙ bag i ∙ sym (counts i);
@@ -155,7 +162,7 @@ module _ (s : Shape) (m : Shared) (own own′ : ℕ → ℕ) (l : Ledger) (g : M
 
   pub record Step (e : Effect) (a : Answer) (op′ : Operation) : Type 0 where
     pub after : Ledger
-    pub follows : Follows (effectTells (m .cell (m .node 1 .first) .item) t a e) l after
+    pub follows : Follows (effectTells (headOfRoot m) t a e) l after
     pub stepped : Stepped s m (effectShared m e) own own′ l after t op′
     -- a cell that the thread still owns is as before
     pub mine : 1 ≤ own′ t → effectShared m e .cell (own′ t) ≡ m .cell (own′ t)
@@ -221,7 +228,7 @@ module _ (s : Shape) (m : Shared) (own own′ : ℕ → ℕ) (l : Ledger) (g : M
           mine = λ p. absurd (omega arith);
         }
     step (Pop v c) Moved al (removes eo en) ow =
-        let i = m .cell (m .node 1 .first) .item in
+        let i = headOfRoot m in
         let ic : m .cell c .item ≡ i = ap (λ k. m .cell k .item) (sym (al .head)) in
         record {
           after = record { bag = oneLess (l .bag) i; operation = upd (l .operation) t (holding i) };
@@ -233,7 +240,7 @@ module _ (s : Shape) (m : Shared) (own own′ : ℕ → ℕ) (l : Ledger) (g : M
               });
           stepped =
               record {
-                keeps = subst (λ o. Keeps s m (effectShared m (Pop v c)) own o t) (sym (same-own ow)) (pop-keeps s m own g v c al t);
+                keeps = subst (λ o. Keeps s m (effectShared m (Pop v c)) own o t) (sym (same-own own own′ t still-own ow)) (pop-keeps s m own g v c al t);
                 others = λ u y. upd-other (l .operation) t u (holding i) y;
                 now = upd-same (l .operation) t (holding i) ∙ ap holding (sym ic) ∙ sym en;
                 bag = λ j.
@@ -293,3 +300,115 @@ module _ (s : Shape) (m m′ : Shared) (th : ℕ → Thread) (l l′ : Ledger) (
   -- a turn's own facts were found before its effect
   pub turned-invariant : At s m v op′ (v .place) → (1 ≤ v .own → m′ .cell (v .own) ≡ m .cell (v .own)) → Invariant s m′ (upd th t v) l′
   turned-invariant now mine = stepped-invariant (stays m m′ (st .keeps .rely) v op′ mine s (v .place) now)
+
+-- what follows where this was told: the ledger after it, and the invariant of what was left
+pub record NextState (s : Shape) (l : Ledger) (told : Told) (m : Shared) (th : ℕ → Thread) : Type 0 where
+  pub next : Ledger
+  pub follows : Follows told l next
+  pub holds : Invariant s m th next
+
+-- Thread t's turns and beginnings.
+module _ (s : Shape) (m : Shared) (th : ℕ → Thread) (l : Ledger) (inv : Invariant s m th l) (t : ℕ) (lt : 1 ≤ t) (ut : t ≤ s .threads) where
+  -- own cells where thread t's record is v
+  own-now : (v : Thread) → upd th t v t .own ≡ v .own
+  own-now v = ap (λ x. x .own) (upd-same th t v)
+
+  own-still : (v : Thread) (u : ℕ) → (u ≡ t → ⊥) → upd th t v u .own ≡ th u .own
+  own-still v u n = ap (λ x. x .own) (upd-other th t u v n)
+
+  -- a turn whose plan has an effect that the mound allows
+  pub turn-moves : (p : Plan) (op′ : Operation) → Allowed s m (owns th) t (p .effect)
+      → Speaks m (l .operation t) op′ (p .effect) (p .answer) → OwnAfter (p .effect) (th t .own) (p .thread .own)
+      → At s m (p .thread) op′ (p .thread .place)
+      → NextState s l (effectTells (headOfRoot m) t (p .answer) (p .effect)) (effectShared m (p .effect)) (upd th t (p .thread))
+  turn-moves p op′ al sp ow at =
+      let v = p .thread in
+      let st = step s m (owns th) (owns (upd th t v)) l (inv .mound) (inv .bag) t lt ut (own-still v) (l .operation t) op′ refl (p .effect)
+      (p .answer) al sp (subst (OwnAfter (p .effect) (th t .own)) (sym (own-now v)) ow) in
+      record {
+        next = st .after;
+        follows = st .follows;
+        holds =
+            turned-invariant s m (effectShared m (p .effect)) th l (st .after) t v op′ (inv .at) (st .stepped) at
+            (subst (λ o. 1 ≤ o → effectShared m (p .effect) .cell o ≡ m .cell o) (own-now v) (st .mine));
+      }
+
+  module _ (idle : th t .place ≡ AtRest) (may : 1 ≤ th t .permission) where
+    resting : At s m (th t) (l .operation t) AtRest
+    resting = subst (At s m (th t) (l .operation t)) idle (inv .at t)
+
+    begins : Operation → Ledger
+    begins op = record { bag = l .bag; operation = upd (l .operation) t op }
+
+    -- a take begins
+    pub take-starts : NextState s l (beginsTake t) m (upd th t (begunTake (th t)))
+    unfolding begins begunTake atPlace
+    take-starts =
+        let v = begunTake (th t) in
+        record {
+          next = begins taking;
+          follows = take-begins (resting .0);
+          holds =
+              stepped-invariant s m m th l (begins taking) t v taking (inv .at)
+              (record {
+                keeps =
+                    record {
+                      mound = subst (Mound s m) (sym (same-own (owns th) (owns (upd th t v)) t (own-still v) (own-now v))) (inv .mound);
+                      rely = rely-same m m (omega arith) (λ y p. refl);
+                      kept = λ u n p. refl;
+                    };
+                others = λ u n. upd-other (l .operation) t u taking n;
+                now = upd-same (l .operation) t taking;
+                bag = inv .bag;
+              })
+              (record { operation = refl; permitted = may; none = resting .1 });
+        }
+
+    -- a put of i begins: the first free cell becomes the thread's own, with the item
+    module _ (i : Item) (proper : Proper i) (free : 1 ≤ m .free) where
+      abbrev pub begun : Shared
+      begun = putCell (putFree m (m .cell (m .free) .next)) (m .free) (record { item = i; next = 0 })
+
+      abbrev putter : Thread
+      putter = begunPut (th t) i (m .free)
+
+      own-cell : upd th t putter t .own ≡ m .free
+      unfolding begunPut atPlace withOwn withItem
+      own-cell = own-now putter
+
+      filled : begun .cell (m .free) ≡ record { item = i; next = 0 }
+      filled = upd-same (m .cell) (m .free) (record { item = i; next = 0 })
+
+      put-stepped : Stepped s m begun (owns th) (owns (upd th t putter)) l (begins (putting i)) t (putting i)
+      unfolding begins
+      put-stepped =
+          let elsewhere : (d : ℕ) → (d ≡ m .free → ⊥) → begun .cell d ≡ m .cell d = λ d n. upd-other (m .cell) (m .free) d _ n in
+          let ended : begun .cell (m .free) .next ≡ 0 = ap (λ y. y .next) filled in
+          record {
+            keeps =
+                begin-keeps s m begun (owns th) (owns (upd th t putter)) (inv .mound) t (m .free) lt ut free refl (resting .1) elsewhere
+                ended refl refl refl own-cell (own-still putter);
+            others = λ u n. upd-other (l .operation) t u (putting i) n;
+            now = upd-same (l .operation) t (putting i);
+            bag = λ j. inv .bag j ∙ sym
+                (begin-counts s m begun (owns th) (owns (upd th t putter)) (inv .mound) t (m .free) lt ut free refl (resting .1) elsewhere
+                ended refl refl refl own-cell (own-still putter) j);
+          }
+
+      pub put-starts : NextState s l (beginsPut t i) begun (upd th t putter)
+      unfolding begins begunPut atPlace withOwn withItem
+      put-starts =
+          record {
+            next = begins (putting i);
+            follows = put-begins (resting .0);
+            holds =
+                stepped-invariant s m begun th l (begins (putting i)) t putter (putting i) (inv .at) put-stepped
+                (record {
+                  operation = refl;
+                  permitted = may;
+                  some = free;
+                  item = ap (λ y. y .item) filled;
+                  ended = ap (λ y. y .next) filled;
+                  proper = proper;
+                });
+          }
