@@ -99,7 +99,7 @@ module _ (s : Shape) (b : List ℕ) (l : Ledger) (g : Region s b l) where
 
     module _ (lt : 1 ≤ t) (ut : t ≤ s .threads) where
       moving-turn : (op′ : Operation) → Allowed s m (owns th) t (p .effect) → Speaks m (l .operation t) op′ (p .effect) (p .answer)
-          → OwnAfter (p .effect) (th t .own) (p .thread .own) → At s m (p .thread) op′ (p .thread .place)
+          → OwnAfter m (p .effect) (th t .own) (p .thread .own) → At s m (p .thread) op′ (p .thread .place)
           → Follow s l (effectTells (rootItem (frameOf s) b) t (p .answer) (p .effect)) (turnBytes (frameOf s) b t c)
       unfolding p
       moving-turn op′ al sp ow at =

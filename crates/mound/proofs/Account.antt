@@ -3,7 +3,8 @@
 -- Assumes nothing.
 use Prim.Native.Nat.{ℕ, zero, suc, _+_, _*_, _≤_}
 use native.Mathlib.Omega.{arith}
-use mathlib.Core.Path.{_≡_, refl, ap, _∙_}
+use mathlib.Core.Path.{_≡_, refl, sym, ap, _∙_}
+use mathlib.Core.Bool.{Bool, true, false}
 use mathlib.Core.List.{List, [], _∷_}
 use lib.ListN.{length}
 use Rattle.region.specs.Pick.{pick}
@@ -12,63 +13,68 @@ use Rattle.region.specs.Shared.{Shared}
 use Rattle.region.specs.declared.place.Place.{Place}
 use Rattle.region.specs.declared.place.Place.the-variants.{Idle, ReadDepth, ReadLeaf, ReadAncestor, GrowDepth, ReadTarget, InsertAtRoot, ReadParent, InsertBelow, ReadRoot, RemoveHead, MendReadNode, MendReadDepth, MendReadLeft, MendReadRight, MendSwap, MendClean}
 use Rattle.region.specs.declared.record.Cell.{Cell}
+use Rattle.region.specs.declared.record.Item.{Item}
 use Rattle.region.specs.declared.shape.Shape.{Shape}
 use Rattle.region.specs.declared.thread.Thread.{Thread}
 use Rattle.mound.specs.Account.{anyItem, isPutPlace, putsAmong}
 use Rattle.mound.specs.Ledger.{Ledger, Operation}
 use Rattle.mound.specs.Tree.{inList, inNodes}
 use Rattle.mound.proofs.Cells.{starts}
-use Rattle.mound.proofs.Chains.{Chain, ends, link, among, items, walk-counts}
+use Rattle.mound.proofs.Chains.{Chain, HasItems, among, items, only-items, walk-counts}
 use Rattle.mound.proofs.Counts.{inChain}
-use Rattle.mound.proofs.Facts.{At, Puts}
+use Rattle.mound.proofs.Facts.{At}
 use Rattle.mound.proofs.Held.{Held, nodeLength, threadLength, counts, free-chain, thread-chain}
 use Rattle.mound.proofs.Steps.{Invariant, owns}
 use Rattle.mound.proofs.Sums.{sum, sum-same}
 
--- every cell has an item
+-- every cell has an item, and every item counts
+length-items : (cell : ℕ → Cell) (cs : List ℕ) → length (items cell cs) ≡ length cs
+unfolding items
+length-items cell [] = refl
+length-items cell (c ∷ cs) = ap suc (length-items cell cs)
+
 all-count : (cell : ℕ → Cell) (cs : List ℕ) → among anyItem (items cell cs) ≡ length cs
 unfolding among items pick
 all-count cell [] = refl
 all-count cell (c ∷ cs) = omega (arith, all-count cell cs)
 
--- What a thread holds: its own cell alone, or nothing.
-module _ {cell : ℕ → Cell} {own rank : ℕ → ℕ} {o : ℕ} where
-  none-held : {c : ℕ} {cs : List ℕ} → Chain cell own rank o c cs → c ≡ 0 → length cs ≡ 0
-  none-held ends e = refl
-  none-held (link d p eo er k) e = absurd (omega arith)
+-- a chain has as many cells as items
+cells-of : {cell : ℕ → Cell} {own rank : ℕ → ℕ} {o c : ℕ} {cs : List ℕ} → Chain cell own rank o c cs → (is : List Item)
+    → HasItems cell c is → length cs ≡ length is
+cells-of {cell = cell} {cs = cs} k is h = sym (length-items cell cs) ∙ ap length (only-items k is h)
 
-  one-held : {c : ℕ} {cs : List ℕ} → Chain cell own rank o c cs → 1 ≤ c → cell c .next ≡ 0 → length cs ≡ 1
-  one-held ends p e = absurd (omega arith)
-  one-held (link d p eo er k) q e = ap suc (none-held k e)
+-- what a thread holds: its put's item at I1 to I8, nothing elsewhere
+inHand : Thread → Place → List Item
+inHand t p = pick (isPutPlace p) (t .item ∷ []) []
 
-module _ (s : Shape) (m : Shared) (t : Thread) (op : Operation) (own rank : ℕ → ℕ) (o : ℕ) (cs : List ℕ)
-    (k : Chain (m .cell) own rank o (t .own) cs) where
-  putting-holds : Puts m t op → length cs ≡ 1
-  putting-holds h = one-held k (h .some) (h .ended)
+in-hand : (s : Shape) (m : Shared) (t : Thread) (op : Operation) (p : Place) → At s m t op p → HasItems (m .cell) (t .own) (inHand t p)
+unfolding inHand isPutPlace between pick
+in-hand s m t op Idle h = h .1
+in-hand s m t op ReadDepth h = h .has
+in-hand s m t op ReadLeaf h = h .0 .has
+in-hand s m t op ReadAncestor h = h .0 .has
+in-hand s m t op GrowDepth h = h .0 .has
+in-hand s m t op ReadTarget h = h .0 .has
+in-hand s m t op InsertAtRoot h = h .0 .has
+in-hand s m t op ReadParent h = h .0 .has
+in-hand s m t op InsertBelow h = h .0 .has
+in-hand s m t op ReadRoot h = h .has
+in-hand s m t op RemoveHead h = h .0 .has
+in-hand s m t op (MendReadNode w) h = h .0 .has
+in-hand s m t op (MendReadDepth w) h = h .0 .0 .has
+in-hand s m t op (MendReadLeft w) h = h .0 .0 .has
+in-hand s m t op (MendReadRight w) h = h .0 .0 .has
+in-hand s m t op (MendSwap w) h = h .0 .0 .has
+in-hand s m t op (MendClean w) h = h .0 .0 .has
 
-  others-hold : t .own ≡ 0 → length cs ≡ 0
-  others-hold e = none-held k e
-
-  -- one cell at I1 to I8, none elsewhere
-  holds : (p : Place) → At s m t op p → length cs ≡ pick (isPutPlace p) 1 0
-  unfolding isPutPlace between pick
-  holds Idle h = others-hold (h .1)
-  holds ReadDepth h = putting-holds h
-  holds ReadLeaf h = putting-holds (h .0)
-  holds ReadAncestor h = putting-holds (h .0)
-  holds GrowDepth h = putting-holds (h .0)
-  holds ReadTarget h = putting-holds (h .0)
-  holds InsertAtRoot h = putting-holds (h .0)
-  holds ReadParent h = putting-holds (h .0)
-  holds InsertBelow h = putting-holds (h .0)
-  holds ReadRoot h = others-hold (h .none)
-  holds RemoveHead h = others-hold (h .0 .none)
-  holds (MendReadNode w) h = others-hold (h .0 .none)
-  holds (MendReadDepth w) h = others-hold (h .0 .0 .none)
-  holds (MendReadLeft w) h = others-hold (h .0 .0 .none)
-  holds (MendReadRight w) h = others-hold (h .0 .0 .none)
-  holds (MendSwap w) h = others-hold (h .0 .0 .none)
-  holds (MendClean w) h = others-hold (h .0 .0 .none)
+-- so one cell at I1 to I8, none elsewhere
+count-in-hand : (t : Thread) (p : Place) → length (inHand t p) ≡ pick (isPutPlace p) 1 0
+unfolding inHand pick
+count-in-hand t p = go (isPutPlace p)
+  where
+    go : (q : Bool) → length (pick q (t .item ∷ []) []) ≡ pick q 1 0
+    go true = refl
+    go false = refl
 
 -- The counts as sums over chains.
 module _ (s : Shape) (m : Shared) (th : ℕ → Thread) (l : Ledger) (inv : Invariant s m th l) where
@@ -84,8 +90,8 @@ module _ (s : Shape) (m : Shared) (th : ℕ → Thread) (l : Ledger) (inv : Inva
 
   thread-holds : (t : ℕ) → length (h .list (2 * t + 1)) ≡ pick (isPutPlace (th t .place)) 1 0
   thread-holds t =
-      holds s m (th t) (l .operation t) (h .owner) (h .rank) (2 * t + 1) (h .list (2 * t + 1))
-      (thread-chain s m (owns th) h t) (th t .place) (inv .at t)
+      cells-of (thread-chain s m (owns th) h t) (inHand (th t) (th t .place)) (in-hand s m (th t) (l .operation t) (th t .place) (inv .at t))
+      ∙ count-in-hand (th t) (th t .place)
 
   puts-sum : (n : ℕ) → putsAmong th n ≡ sum (threadLength (h .list)) n
   unfolding putsAmong sum
@@ -102,7 +108,7 @@ module _ (s : Shape) (m : Shared) (th : ℕ → Thread) (l : Ledger) (inv : Inva
   -- no cell is free exactly when the others hold all
   pub full-without : m .free ≡ 0 → inNodes m anyItem (s .cells) (nodeCount s) + putsAmong th (s .threads) ≡ s .cells
   full-without e =
-      omega (arith, all-cells, free-measured, none-held (free-chain s m (owns th) h) e)
+      omega (arith, all-cells, free-measured, cells-of (free-chain s m (owns th) h) [] e)
 
   pub not-full-with : 1 ≤ m .free → inNodes m anyItem (s .cells) (nodeCount s) + putsAmong th (s .threads) ≡ s .cells → ⊥
   not-full-with p e = omega (arith, all-cells, free-measured, ap length (starts (free-chain s m (owns th) h) p .is), e)

@@ -1,5 +1,5 @@
 -- Lists of cells. A chain's cells all have one owner, and each the number of cells behind it as its rank: so chains of
--- different owners are apart, and none repeats a cell. A change of cells elsewhere leaves a chain alone, walking it counts its
+-- different owners are apart, and none repeats a cell. A change of cells elsewhere leaves a chain and its items alone, walking it counts its
 -- items, and its list without its head is left alone where the head's cell is freed. Assumes nothing.
 use Prim.Native.Nat.{ℕ, zero, suc, _+_, _≤_, _<_}
 use native.Mathlib.Omega.{arith}
@@ -83,7 +83,44 @@ items-left cell cell′ own own′ rank rank′ o o′ c cs h (link d {cs = ds} 
       items-left cell cell′ own own′ rank rank′ o o′ (cell d .next) ds (λ e q r. h e q (omega arith)) k,
     )
 
+-- from cell c by next cells to 0 these items
+abbrev pub HasItems : (ℕ → Cell) → ℕ → List Item → Type 0
+HasItems cell c [] = c ≡ 0
+HasItems cell c (i ∷ is) = (1 ≤ c) × (cell c .item ≡ i) × HasItems cell (cell c .next) is
+
+-- whatever these are, they stay so
+abbrev pub ItemsStay : (ℕ → Cell) → (ℕ → Cell) → ℕ → Type 0
+ItemsStay cell cell′ c = (is : List Item) → HasItems cell c is → HasItems cell′ c is
+
 module _ {cell : ℕ → Cell} {own rank : ℕ → ℕ} {o : ℕ} where
+  -- a chain has the items in its cells, and no others
+  pub has-items : {c : ℕ} {cs : List ℕ} → Chain cell own rank o c cs → HasItems cell c (items cell cs)
+  unfolding items
+  has-items ends = refl
+  has-items (link d p eo er k) = (p, refl, has-items k)
+
+  pub only-items : {c : ℕ} {cs : List ℕ} → Chain cell own rank o c cs → (is : List Item) → HasItems cell c is → items cell cs ≡ is
+  unfolding items
+  only-items ends [] h = refl
+  only-items ends (i ∷ is) h = absurd (omega (arith, h .0))
+  only-items (link d p eo er k) [] h = absurd (omega arith)
+  only-items (link d p eo er k) (i ∷ is) h = cc (h .1, only-items k is (h .2))
+
+module _ {cell : ℕ → Cell} {own rank : ℕ → ℕ} {o : ℕ} where
+  -- a change elsewhere leaves them
+  pub items-stay : (cell′ : ℕ → Cell) {c : ℕ} {cs : List ℕ} → Chain cell own rank o c cs
+      → ((d : ℕ) → own d ≡ o → rank d < length cs → cell′ d ≡ cell d) → ItemsStay cell cell′ c
+  items-stay cell′ {c} {cs} k h is has =
+      let left : Left cell cell′ own own rank rank o o (length cs) = λ d e r. (h d e r, e, refl) in
+      subst (HasItems cell′ c) (items-left cell cell′ own own rank rank o o c cs left k ∙ only-items k is has)
+      (has-items (chain-left cell cell′ own own rank rank o o c cs left k))
+
+  -- a change of the head's cell leaves those behind it
+  pub tail-stays : (cell′ : ℕ → Cell) {c : ℕ} {cs : List ℕ} → Chain cell own rank o c cs → 1 ≤ c
+      → ((d : ℕ) → (d ≡ c → ⊥) → cell′ d ≡ cell d) → ItemsStay cell cell′ (cell c .next)
+  tail-stays cell′ ends l h = absurd (omega arith)
+  tail-stays cell′ (link d p eo er k) l h = items-stay cell′ k (λ e q r. h e (λ z. let q = ap rank z in omega arith))
+
   -- the first cell has all others behind it, and so is not the next of itself
   first-rank : {c : ℕ} {cs : List ℕ} → Chain cell own rank o c cs → 1 ≤ c → suc (rank c) ≡ length cs
   first-rank ends l = absurd (omega arith)

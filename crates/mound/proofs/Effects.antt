@@ -21,7 +21,8 @@ use Rattle.access.specs.Read.{readNode, updated}
 use Rattle.access.specs.declared.effect.Effect.the-variants.{Grow, Push, Pop, Exchange, Clean}
 use Rattle.access.proofs.OrderLaws.{item-refl, item-trans}
 use Rattle.mound.specs.Tree.{sameItem}
-use Rattle.mound.proofs.Held.{Held, counted, first-owner, own-owner, free-owner, held-same, counted-same, held-begin, counted-begin, held-push, counted-push, held-pop, counted-pop, held-exchange, counted-exchange}
+use Rattle.mound.proofs.Chains.{ItemsStay}
+use Rattle.mound.proofs.Held.{Held, counted, first-owner, own-owner, free-owner, hand-stays, rest-stays, held-same, counted-same, held-begin, counted-begin, held-push, counted-push, held-pop, counted-pop, held-exchange, counted-exchange}
 use Rattle.mound.proofs.Order.{Above, Ordered, above-le, push-ordered, pop-ordered, clean-ordered, exchange-ordered}
 use Rattle.mound.proofs.Sorted.{AtMost, Proper, valueAt}
 
@@ -50,11 +51,11 @@ pub record Rely (m m′ : Shared) : Type 0 where
   pub unchanged : (n : ℕ) → 1 ≤ n → m′ .node n .counter ≡ m .node n .counter → readNode m′ n ≡ readNode m n
   pub child : (c : ℕ) → Falls m m′ c
 
--- a step of thread t keeps the mound, with what the others rely on and their own cells
+-- a step of thread t keeps the mound, with what the others rely on and what each of them holds
 pub record Keeps (s : Shape) (m m′ : Shared) (own own′ : ℕ → ℕ) (t : ℕ) : Type 0 where
   pub mound : Mound s m′ own′
   pub rely : Rely m m′
-  pub kept : (u : ℕ) → (u ≡ t → ⊥) → 1 ≤ own u → m′ .cell (own u) ≡ m .cell (own u)
+  pub kept : (u : ℕ) → (u ≡ t → ⊥) → ItemsStay (m .cell) (m′ .cell) (own u)
 
 read-same : (m m′ : Shared) (x : ℕ) → m′ .node x ≡ m .node x → m′ .cell (m .node x .first) ≡ m .cell (m .node x .first)
     → readNode m′ x ≡ readNode m x
@@ -120,7 +121,6 @@ pub record PushAsks (m : Shared) (own : ℕ → ℕ) (t n : ℕ) (v : Node) (c x
   pub few : n < 2 ^ m .depth
   pub mine : own t ≡ c
   pub cell : 1 ≤ c
-  pub ended : m .cell c .next ≡ 0
   pub proper : Proper (m .cell c .item)
   pub least : AtMost (m .cell c .item) (val m n)
   pub parent : 2 ≤ n → AtMost (val m (n / 2)) (m .cell c .item)
@@ -187,7 +187,7 @@ module _ (s : Shape) (m : Shared) (own : ℕ → ℕ) (g : Mound s m own) (d : �
 
   pub grow-keeps : (t : ℕ) → Keeps s m (effectShared m (Grow d)) own own t
   unfolding effectShared
-  grow-keeps t = record { mound = grow-mound; rely = grow-relies; kept = λ u n l. refl }
+  grow-keeps t = record { mound = grow-mound; rely = grow-relies; kept = λ u n is h. h }
 
   pub grow-counts : (i : Item) → counted s (effectShared m (Grow d)) i ≡ counted s m i
   unfolding effectShared
@@ -195,20 +195,27 @@ module _ (s : Shape) (m : Shared) (own : ℕ → ℕ) (g : Mound s m own) (d : �
 
 -- Pushing.
 module _ (s : Shape) (m : Shared) (own own′ : ℕ → ℕ) (g : Mound s m own) (t n : ℕ) (v : Node) (c x : ℕ) (lt : 1 ≤ t) (ut : t ≤ s .threads)
-    (a : PushAsks m own t n v c x) (gone : own′ t ≡ 0) (still : (u : ℕ) → (u ≡ t → ⊥) → own′ u ≡ own u) where
+    (a : PushAsks m own t n v c x) (left : own′ t ≡ m .cell c .next) (still : (u : ℕ) → (u ≡ t → ⊥) → own′ u ≡ own u) where
   abbrev pushed : Shared
   pushed = effectShared m (Push n v c x)
 
+  -- the pushed cell is the thread's, so no other chain has it
+  push-owner : g .held .owner c ≡ 2 * t + 1
+  push-owner =
+      subst (λ y. g .held .owner y ≡ 2 * t + 1) (a .mine) (own-owner s m own (g .held) t (omega (arith, a .mine, a .cell)))
+
+  push-cells : (d : ℕ) → (d ≡ c → ⊥) → pushed .cell d ≡ m .cell d
+  unfolding effectShared
+  push-cells d ne = upd-other (m .cell) c d _ ne
+
   push-others : (y : ℕ) → 1 ≤ y → (y ≡ n → ⊥) → readNode pushed y ≡ readNode m y
   unfolding effectShared
-  push-others y p ne = read-same m pushed y (upd-other (m .node) n y v ne) (upd-other (m .cell) c (m .node y .first) _ apart)
+  push-others y p ne = read-same m pushed y (upd-other (m .node) n y v ne) (push-cells (m .node y .first) apart)
     where
       apart : m .node y .first ≡ c → ⊥
       apart e =
-          let o₁ = first-owner s m own (g .held) y p (omega (arith, e, a .cell)) in
-          let o₂ = own-owner s m own (g .held) t (omega (arith, a .mine, a .cell)) in
-          let k = ap (g .held .owner) (e ∙ sym (a .mine)) in
-          omega (arith, o₁, o₂, k)
+          let o = first-owner s m own (g .held) y p (omega (arith, e, a .cell)) in
+          omega (arith, o, push-owner, ap (g .held .owner) e)
 
   push-node : pushed .node n ≡ v
   unfolding effectShared
@@ -240,9 +247,9 @@ module _ (s : Shape) (m : Shared) (own own′ : ℕ → ℕ) (g : Mound s m own)
   push-held : Held s pushed own′
   unfolding effectShared updated
   push-held =
-      held-push s m pushed own own′ (g .held) t n c lt ut (a .some) (in-tree s m own g n (a .few)) (a .cell) (a .mine) (a .ended)
-      (λ d ne. upd-other (m .cell) c d _ ne) push-item (ap (λ z. z .next) (upd-same (m .cell) c _) ∙ a .onto) refl push-first
-      (λ y ne. ap (λ z. z .first) (upd-other (m .node) n y v ne)) gone still (a .proper) (a .least)
+      held-push s m pushed own own′ (g .held) t n c lt ut (a .some) (in-tree s m own g n (a .few)) (a .cell) (a .mine)
+      push-cells push-item (ap (λ z. z .next) (upd-same (m .cell) c _) ∙ a .onto) refl push-first
+      (λ y ne. ap (λ z. z .first) (upd-other (m .node) n y v ne)) left still (a .proper) (a .least)
 
   push-mound : Mound s pushed own′
   unfolding effectShared
@@ -277,40 +284,47 @@ module _ (s : Shape) (m : Shared) (own own′ : ℕ → ℕ) (g : Mound s m own)
   pub push-counts : (i : Item) → counted s pushed i ≡ counted s m i + pick (sameItem i (m .cell c .item)) 1 0
   unfolding effectShared updated
   push-counts i =
-      counted-push s m pushed own own′ (g .held) t n c lt ut (a .some) (in-tree s m own g n (a .few)) (a .cell) (a .mine) (a .ended)
-      (λ d ne. upd-other (m .cell) c d _ ne) push-item (ap (λ z. z .next) (upd-same (m .cell) c _) ∙ a .onto) refl push-first
-      (λ y ne. ap (λ z. z .first) (upd-other (m .node) n y v ne)) gone still (a .proper) (a .least) i
+      counted-push s m pushed own own′ (g .held) t n c lt ut (a .some) (in-tree s m own g n (a .few)) (a .cell) (a .mine)
+      push-cells push-item (ap (λ z. z .next) (upd-same (m .cell) c _) ∙ a .onto) refl push-first
+      (λ y ne. ap (λ z. z .first) (upd-other (m .node) n y v ne)) left still (a .proper) (a .least) i
 
-  -- own cells of other threads
-  push-own : (u : ℕ) → (u ≡ t → ⊥) → 1 ≤ own u → pushed .cell (own u) ≡ m .cell (own u)
-  unfolding effectShared
-  push-own u ne l = upd-other (m .cell) c (own u) _ apart
-    where
-      apart : own u ≡ c → ⊥
-      apart e =
-          let o₁ = own-owner s m own (g .held) u l in
-          let o₂ = own-owner s m own (g .held) t (omega (arith, a .mine, a .cell)) in
-          let k = ap (g .held .owner) (e ∙ sym (a .mine)) in
-          ne (omega (arith, o₁, o₂, k))
+  -- what the thread still holds
+  pub push-rest : ItemsStay (m .cell) (pushed .cell) (m .cell c .next)
+  push-rest =
+      subst (λ y. ItemsStay (m .cell) (pushed .cell) (m .cell y .next)) (a .mine)
+      (rest-stays s m own (g .held) (pushed .cell) t (omega (arith, a .mine, a .cell))
+      (λ d ne. push-cells d (λ z. ne (z ∙ sym (a .mine)))))
 
   pub push-keeps : Keeps s m pushed own own′ t
-  push-keeps = record { mound = push-mound; rely = push-relies; kept = push-own }
+  push-keeps =
+      record {
+        mound = push-mound;
+        rely = push-relies;
+        kept = λ u ne. hand-stays s m own (g .held) (pushed .cell) c push-cells u (λ e. ne (omega (arith, e, push-owner)));
+      }
 
 -- Popping.
 module _ (s : Shape) (m : Shared) (own : ℕ → ℕ) (g : Mound s m own) (v : Node) (c : ℕ) (a : PopAsks m v c) where
   abbrev popped : Shared
   popped = effectShared m (Pop v c)
 
+  -- the popped cell is the root's, so no other chain has it
+  pop-owner : g .held .owner c ≡ 2
+  pop-owner =
+      subst (λ y. g .held .owner y ≡ 2) (a .head) (first-owner s m own (g .held) 1 (omega arith) (omega (arith, a .head, a .cell)))
+
+  pop-cells : (d : ℕ) → (d ≡ c → ⊥) → popped .cell d ≡ m .cell d
+  unfolding effectShared
+  pop-cells d ne = upd-other (m .cell) c d _ ne
+
   pub pop-others : (y : ℕ) → 1 ≤ y → (y ≡ 1 → ⊥) → readNode popped y ≡ readNode m y
   unfolding effectShared
-  pop-others y p ne = read-same m popped y (upd-other (m .node) 1 y v ne) (upd-other (m .cell) c (m .node y .first) _ apart)
+  pop-others y p ne = read-same m popped y (upd-other (m .node) 1 y v ne) (pop-cells (m .node y .first) apart)
     where
       apart : m .node y .first ≡ c → ⊥
       apart e =
-          let o₁ = first-owner s m own (g .held) y p (omega (arith, e, a .cell)) in
-          let o₂ = first-owner s m own (g .held) 1 (omega arith) (omega (arith, a .head, a .cell)) in
-          let k = ap (g .held .owner) (e ∙ sym (a .head)) in
-          ne (omega (arith, o₁, o₂, k))
+          let o = first-owner s m own (g .held) y p (omega (arith, e, a .cell)) in
+          ne (omega (arith, o, pop-owner, ap (g .held .owner) e))
 
   pop-node : popped .node 1 ≡ v
   unfolding effectShared
@@ -319,8 +333,7 @@ module _ (s : Shape) (m : Shared) (own : ℕ → ℕ) (g : Mound s m own) (v : N
   pop-held : Held s popped own
   unfolding effectShared updated
   pop-held =
-      held-pop s m popped own (g .held) c (in-tree s m own g 1 (root-there s m own g)) (a .cell) (a .head)
-      (λ d ne. upd-other (m .cell) c d _ ne)
+      held-pop s m popped own (g .held) c (in-tree s m own g 1 (root-there s m own g)) (a .cell) (a .head) pop-cells
       (ap (λ z. z .next) (upd-same (m .cell) c _)) refl (ap (λ z. z .first) (pop-node ∙ a .value))
       (λ y ne. ap (λ z. z .first) (upd-other (m .node) 1 y v ne))
 
@@ -350,24 +363,16 @@ module _ (s : Shape) (m : Shared) (own : ℕ → ℕ) (g : Mound s m own) (v : N
   pub pop-counts : (i : Item) → counted s m i ≡ counted s popped i + pick (sameItem i (m .cell c .item)) 1 0
   unfolding effectShared updated
   pop-counts i =
-      counted-pop s m popped own (g .held) c (in-tree s m own g 1 (root-there s m own g)) (a .cell) (a .head)
-      (λ d ne. upd-other (m .cell) c d _ ne)
+      counted-pop s m popped own (g .held) c (in-tree s m own g 1 (root-there s m own g)) (a .cell) (a .head) pop-cells
       (ap (λ z. z .next) (upd-same (m .cell) c _)) refl (ap (λ z. z .first) (pop-node ∙ a .value))
       (λ y ne. ap (λ z. z .first) (upd-other (m .node) 1 y v ne)) i
 
-  pub pop-own : (t : ℕ) → 1 ≤ own t → popped .cell (own t) ≡ m .cell (own t)
-  unfolding effectShared
-  pop-own t l = upd-other (m .cell) c (own t) _ apart
-    where
-      apart : own t ≡ c → ⊥
-      apart e =
-          let o₁ = own-owner s m own (g .held) t l in
-          let o₂ = first-owner s m own (g .held) 1 (omega arith) (omega (arith, a .head, a .cell)) in
-          let k = ap (g .held .owner) (e ∙ sym (a .head)) in
-          omega (arith, o₁, o₂, k)
+  -- what any thread holds
+  pub pop-hands : (t : ℕ) → ItemsStay (m .cell) (popped .cell) (own t)
+  pop-hands t = hand-stays s m own (g .held) (popped .cell) c pop-cells t (λ e. omega (arith, e, pop-owner))
 
   pub pop-keeps : (t : ℕ) → Keeps s m popped own own t
-  pop-keeps t = record { mound = pop-mound; rely = pop-relies; kept = λ u n l. pop-own u l }
+  pop-keeps t = record { mound = pop-mound; rely = pop-relies; kept = λ u n. pop-hands u }
 
 -- Exchanging the lists of node n and its child k, whose sibling is j.
 module _ (s : Shape) (m : Shared) (own : ℕ → ℕ) (g : Mound s m own) (n : ℕ) (v : Node) (k : ℕ) (w : Node) (j : ℕ)
@@ -430,7 +435,7 @@ module _ (s : Shape) (m : Shared) (own : ℕ → ℕ) (g : Mound s m own) (n : �
 
   pub exchange-keeps : (t : ℕ) → Keeps s m swapped own own t
   unfolding effectShared
-  exchange-keeps t = record { mound = exchange-mound; rely = exchange-relies; kept = λ u x l. refl }
+  exchange-keeps t = record { mound = exchange-mound; rely = exchange-relies; kept = λ u x is h. h }
 
   pub exchange-counts : (i : Item) → counted s swapped i ≡ counted s m i
   unfolding effectShared updated
@@ -491,7 +496,7 @@ module _ (s : Shape) (m : Shared) (own : ℕ → ℕ) (g : Mound s m own) (n : �
 
   pub clean-keeps : (t : ℕ) → Keeps s m cleaned own own t
   unfolding effectShared
-  clean-keeps t = record { mound = clean-mound; rely = clean-relies; kept = λ u x l. refl }
+  clean-keeps t = record { mound = clean-mound; rely = clean-relies; kept = λ u x is h. h }
 
   pub clean-counts : (i : Item) → counted s cleaned i ≡ counted s m i
   unfolding effectShared
@@ -499,18 +504,20 @@ module _ (s : Shape) (m : Shared) (own : ℕ → ℕ) (g : Mound s m own) (n : �
 
 -- A put begins.
 module _ (s : Shape) (m m′ : Shared) (own own′ : ℕ → ℕ) (g : Mound s m own) (t c : ℕ) (lt : 1 ≤ t) (ut : t ≤ s .threads) (some : 1 ≤ c)
-    (free : m .free ≡ c) (none : own t ≡ 0) (others : (d : ℕ) → (d ≡ c → ⊥) → m′ .cell d ≡ m .cell d) (ended : m′ .cell c .next ≡ 0)
+    (free : m .free ≡ c) (others : (d : ℕ) → (d ≡ c → ⊥) → m′ .cell d ≡ m .cell d) (onto : m′ .cell c .next ≡ own t)
     (left : m′ .free ≡ m .cell c .next) (nodes : m′ .node ≡ m .node) (depth : m′ .depth ≡ m .depth) (now : own′ t ≡ c)
     (still : (u : ℕ) → (u ≡ t → ⊥) → own′ u ≡ own u) where
+  -- the cell was free, so no other chain has it
+  begin-owner : g .held .owner c ≡ 0
+  begin-owner = subst (λ y. g .held .owner y ≡ 0) free (free-owner s m own (g .held) (omega (arith, free, some)))
+
   begin-reads : (y : ℕ) → 1 ≤ y → readNode m′ y ≡ readNode m y
   begin-reads y p = read-same m m′ y (ap (λ f. f y) nodes) (others (m .node y .first) apart-free)
     where
       apart-free : m .node y .first ≡ c → ⊥
       apart-free e =
-          let o₁ = first-owner s m own (g .held) y p (omega (arith, e, some)) in
-          let o₂ = free-owner s m own (g .held) (omega (arith, free, some)) in
-          let k = ap (g .held .owner) (e ∙ sym free) in
-          omega (arith, o₁, o₂, k)
+          let o = first-owner s m own (g .held) y p (omega (arith, e, some)) in
+          omega (arith, o, begin-owner, ap (g .held .owner) e)
 
   begin-relies : Rely m m′
   begin-relies = rely-same m m′ (omega (arith, depth)) begin-reads
@@ -518,7 +525,7 @@ module _ (s : Shape) (m m′ : Shared) (own own′ : ℕ → ℕ) (g : Mound s m
   begin-mound : Mound s m′ own′
   begin-mound =
       record {
-        held = held-begin s m m′ own own′ (g .held) t c lt ut some free none others ended left nodes now still;
+        held = held-begin s m m′ own own′ (g .held) t c lt ut some free others onto left nodes now still;
         ordered = λ a x p h z.
             subst₂ (λ u w. AtMost u w) (sym (ap valueOf (begin-reads a p)))
             (sym (ap valueOf (begin-reads x (omega (arith, p, above-le a x h)))))
@@ -531,17 +538,12 @@ module _ (s : Shape) (m m′ : Shared) (own own′ : ℕ → ℕ) (g : Mound s m
       }
 
   pub begin-counts : (i : Item) → counted s m′ i ≡ counted s m i
-  begin-counts i = counted-begin s m m′ own own′ (g .held) t c lt ut some free none others ended left nodes now still i
-
-  begin-own : (u : ℕ) → 1 ≤ own u → m′ .cell (own u) ≡ m .cell (own u)
-  begin-own u l = others (own u) apart-own
-    where
-      apart-own : own u ≡ c → ⊥
-      apart-own e =
-          let o₁ = own-owner s m own (g .held) u l in
-          let o₂ = free-owner s m own (g .held) (omega (arith, free, some)) in
-          let k = ap (g .held .owner) (e ∙ sym free) in
-          omega (arith, o₁, o₂, k)
+  begin-counts i = counted-begin s m m′ own own′ (g .held) t c lt ut some free others onto left nodes now still i
 
   pub begin-keeps : Keeps s m m′ own own′ t
-  begin-keeps = record { mound = begin-mound; rely = begin-relies; kept = λ u n l. begin-own u l }
+  begin-keeps =
+      record {
+        mound = begin-mound;
+        rely = begin-relies;
+        kept = λ u n. hand-stays s m own (g .held) (m′ .cell) c others u (λ e. omega (arith, e, begin-owner));
+      }

@@ -4,6 +4,7 @@ use Prim.Native.Nat.{ℕ, _+_, _*_, _/_, _^_, _≤_, _<_}
 use native.Mathlib.Omega.{arith}
 use mathlib.Core.Path.{_≡_, refl, sym, ap, subst, _∙_}
 use mathlib.Core.Bool.{true, false}
+use mathlib.Core.List.{[], _∷_}
 use lib.Dec.{eqb}
 use lib.Pow.{pow-mono}
 use Rattle.region.specs.Level.{level}
@@ -20,6 +21,7 @@ use Rattle.region.specs.declared.thread.Thread.{Thread}
 use Rattle.access.specs.Order.{itemLe, val, valueOf}
 use Rattle.access.specs.Read.{readNode}
 use Rattle.mound.specs.Ledger.{Operation, none, putting, taking, holding}
+use Rattle.mound.proofs.Chains.{HasItems, ItemsStay}
 use Rattle.mound.proofs.Effects.{Rely}
 use Rattle.mound.proofs.Sorted.{AtMost, Proper}
 
@@ -42,20 +44,20 @@ UpTo k v = AtMost v (valueOf k)
 
 -- The facts name the fields that they speak of, so that a step that leaves these leaves the fact.
 
--- a put of item i that has not decided; `own` is its cell
+-- What a thread holds is the chain from its own cell `own`, by its items: a put's item, and nothing for any other operation.
+
+-- a put of item i that has not decided
 pub record Putting (m : Shared) (permission own : ℕ) (i : Item) (op : Operation) : Type 0 where
   pub operation : op ≡ putting i
   pub permitted : 1 ≤ permission
-  pub some : 1 ≤ own
-  pub item : m .cell own .item ≡ i
-  pub ended : m .cell own .next ≡ 0
+  pub has : HasItems (m .cell) own (i ∷ [])
   pub proper : Proper i
 
--- a take that has no cell, and is at this point
-pub record Taking (permission own : ℕ) (at op : Operation) : Type 0 where
+-- a take that is at this point
+pub record Taking (m : Shared) (permission own : ℕ) (at op : Operation) : Type 0 where
   pub operation : op ≡ at
   pub permitted : 1 ≤ permission
-  pub none : own ≡ 0
+  pub has : HasItems (m .cell) own []
 
 -- the operation of a thread that mends: by after
 abbrev pub mendingFor : ℕ → Item → Operation
@@ -122,15 +124,15 @@ pub record Mended (m : Shared) (n : ℕ) (q : NodeCopy) : Type 0 where
 abbrev pub Puts : Shared → Thread → Operation → Type 0
 Puts m t op = Putting m (t .permission) (t .own) (t .item) op
 
-abbrev pub Takes : Thread → Operation → Operation → Type 0
-Takes t at op = Taking (t .permission) (t .own) at op
+abbrev pub Takes : Shared → Thread → Operation → Operation → Type 0
+Takes m t at op = Taking m (t .permission) (t .own) at op
 
 abbrev pub Mends : Shared → Thread → Operation → Type 0
-Mends m t op = Takes t (mendingFor (t .after) (t .result)) op × InTree m (t .node)
+Mends m t op = Takes m t (mendingFor (t .after) (t .result)) op × InTree m (t .node)
 
 -- what holds at each place
 abbrev pub At : Shape → Shared → Thread → Operation → Place → Type 0
-At s m t op Idle = (op ≡ none) × (t .own ≡ 0)
+At s m t op Idle = (op ≡ none) × HasItems (m .cell) (t .own) []
 At s m t op ReadDepth = Puts m t op
 At s m t op ReadLeaf = Puts m t op × LevelRead m (t .depth)
 At s m t op ReadAncestor = Puts m t op × Searching m (t .search)
@@ -141,8 +143,8 @@ At s m t op ReadParent = Puts m t op × InTree m (t .node) × (2 ≤ t .node) ×
 At s m t op InsertBelow =
     Puts m t op × InTree m (t .node) × (2 ≤ t .node) × Target m (t .node) (t .item) (t .copies .first)
     × Parent m (t .node) (t .item) (t .copies .second)
-At s m t op ReadRoot = Takes t taking op
-At s m t op RemoveHead = Takes t taking op × RootRead m (t .copies .first)
+At s m t op ReadRoot = Takes m t taking op
+At s m t op RemoveHead = Takes m t taking op × RootRead m (t .copies .first)
 At s m t op (MendReadNode w) = Mends m t op
 At s m t op (MendReadDepth w) = Mends m t op × Sound m (t .node) (t .copies .first)
 At s m t op (MendReadLeft w) = Mends m t op × Inner m (t .node) (t .copies .first)
@@ -227,23 +229,24 @@ module _ (m m′ : Shared) (r : Rely m m′) where
         right = child-stays n q (2 * n + 1) AnyValue p (omega arith) h (g .right);
       }
 
-  module _ (t : Thread) (op : Operation) (kept : 1 ≤ t .own → m′ .cell (t .own) ≡ m .cell (t .own)) where
+  module _ (t : Thread) (op : Operation) (kept : ItemsStay (m .cell) (m′ .cell) (t .own)) where
     puts-stay : Puts m t op → Puts m′ t op
     puts-stay h =
         record {
           operation = h .operation;
           permitted = h .permitted;
-          some = h .some;
-          item = ap (λ c. c .item) (kept (h .some)) ∙ h .item;
-          ended = ap (λ c. c .next) (kept (h .some)) ∙ h .ended;
+          has = kept (t .item ∷ []) (h .has);
           proper = h .proper;
         }
 
+    takes-stay : (at : Operation) → Takes m t at op → Takes m′ t at op
+    takes-stay at h = record { operation = h .operation; permitted = h .permitted; has = kept [] (h .has) }
+
     mends-stay : Mends m t op → Mends m′ t op
-    mends-stay h = (h .0, in-tree-stays (t .node) (h .1))
+    mends-stay h = (takes-stay _ (h .0), in-tree-stays (t .node) (h .1))
 
     pub stays : (s : Shape) (p : Place) → At s m t op p → At s m′ t op p
-    stays s Idle h = h
+    stays s Idle h = (h .0, kept [] (h .1))
     stays s ReadDepth h = puts-stay h
     stays s ReadLeaf h = (puts-stay (h .0), level-stays (t .depth) (h .1))
     stays s ReadAncestor h = (
@@ -266,9 +269,9 @@ module _ (m m′ : Shared) (r : Rely m m′) where
       target-stays (t .node) (t .item) (t .copies .first) (h .1 .0) (h .3),
       record { sound = sound-stays (t .node / 2) (t .copies .second) (omega (arith, h .2)) (h .4 .sound); most = h .4 .most },
     )
-    stays s ReadRoot h = h
+    stays s ReadRoot h = takes-stay taking h
     stays s RemoveHead h = (
-      h .0,
+      takes-stay taking (h .0),
       record { sound = sound-stays 1 (t .copies .first) (omega arith) (h .1 .sound); clean = h .1 .clean; some = h .1 .some },
     )
     stays s (MendReadNode w) h = mends-stay h

@@ -12,6 +12,7 @@ use lib.ListN.{length}
 use Rattle.region.specs.Pick.{pick}
 use Rattle.region.specs.Shape.{nodeCount}
 use Rattle.region.specs.Shared.{Shared}
+use Rattle.region.specs.declared.record.Cell.{Cell}
 use Rattle.region.specs.declared.record.Item.{Item}
 use Rattle.region.specs.declared.record.Node.{Node}
 use Rattle.region.specs.declared.shape.Shape.{Shape}
@@ -19,7 +20,7 @@ use Rattle.access.specs.Order.{topItem, val, valueOf}
 use Rattle.access.specs.Read.{readNode}
 use Rattle.mound.specs.Tree.{inNodes, sameItem}
 use Rattle.mound.proofs.Cells.{Chains, Moved, Exchanged, move, exchange}
-use Rattle.mound.proofs.Chains.{Chain, among, first-owned, items}
+use Rattle.mound.proofs.Chains.{Chain, ItemsStay, among, first-owned, items, items-stay, tail-stays}
 use Rattle.mound.proofs.Counts.{inChain, tree-counts}
 use Rattle.mound.proofs.Sorted.{AtMost, Proper, Sorted, from-head, head-least, head-proper, head-counted, top-value}
 use Rattle.mound.proofs.Sums.{sum, sum-same, sum-has, sum-but, sum-exchange, sum-some}
@@ -151,6 +152,16 @@ module _ (s : Shape) (m : Shared) (own : ℕ → ℕ) (h : Held s m own) where
   pub free-owner : 1 ≤ m .free → h .owner (m .free) ≡ 0
   free-owner l = first-owned free-chain l
 
+  -- what thread t holds stays where a cell of another holder changes; and where its own head does, what lies behind that
+  pub hand-stays : (cell′ : ℕ → Cell) (c : ℕ) → ((d : ℕ) → (d ≡ c → ⊥) → cell′ d ≡ m .cell d) → (t : ℕ) → (h .owner c ≡ 2 * t + 1 → ⊥)
+      → ItemsStay (m .cell) cell′ (own t)
+  hand-stays cell′ c others t n =
+      items-stay cell′ (thread-chain t) (λ d e r. others d (λ z. n (ap (h .owner) (sym z) ∙ e)))
+
+  pub rest-stays : (cell′ : ℕ → Cell) (t : ℕ) → 1 ≤ own t → ((d : ℕ) → (d ≡ own t → ⊥) → cell′ d ≡ m .cell d)
+      → ItemsStay (m .cell) cell′ (m .cell (own t) .next)
+  rest-stays cell′ t l others = tail-stays cell′ (thread-chain t) l others
+
 -- The same lists in the same cells.
 pub held-same : (s : Shape) (m m′ : Shared) (own : ℕ → ℕ) → Held s m own → m′ .cell ≡ m .cell → m′ .free ≡ m .free
     → ((n : ℕ) → m′ .node n .first ≡ m .node n .first) → Held s m′ own
@@ -176,9 +187,9 @@ counted-same s m m′ own h ec ef en i =
     ∙ ap (λ cell. sum (λ k. among (sameItem i) (items cell (h .list (2 * k)))) (nodeCount s)) ec
     ∙ sym (counts s m own h (sameItem i))
 
--- A put begins: the first free cell c becomes thread t's own.
+-- A put begins: the first free cell c goes to the front of thread t's chain.
 module _ (s : Shape) (m m′ : Shared) (own own′ : ℕ → ℕ) (h : Held s m own) (t c : ℕ) (lt : 1 ≤ t) (ut : t ≤ s .threads) (some : 1 ≤ c)
-    (free : m .free ≡ c) (none : own t ≡ 0) (others : (d : ℕ) → (d ≡ c → ⊥) → m′ .cell d ≡ m .cell d) (ended : m′ .cell c .next ≡ 0)
+    (free : m .free ≡ c) (others : (d : ℕ) → (d ≡ c → ⊥) → m′ .cell d ≡ m .cell d) (onto : m′ .cell c .next ≡ own t)
     (left : m′ .free ≡ m .cell c .next) (nodes : m′ .node ≡ m .node) (now : own′ t ≡ c)
     (still : (u : ℕ) → (u ≡ t → ⊥) → own′ u ≡ own u) where
   begin-move : Moved (m .cell) (m′ .cell) (heads (m′ .free) (m′ .node) own′) (h .list) 0 (2 * t + 1) c
@@ -186,7 +197,7 @@ module _ (s : Shape) (m m′ : Shared) (own own′ : ℕ → ℕ) (h : Held s m 
       move (m .cell) (m′ .cell) (h .owner) (h .rank) (heads (m .free) (m .node) own) (heads (m′ .free) (m′ .node) own′)
       (h .list) (h .chains)
       0 (2 * t + 1) c (λ z. omega arith) some (head-free (m .free) (m .node) own ∙ free) others
-      (ended ∙ sym (head-thread (m .free) (m .node) own t ∙ none))
+      (onto ∙ sym (head-thread (m .free) (m .node) own t))
       (head-free (m′ .free) (m′ .node) own′ ∙ left) (head-thread (m′ .free) (m′ .node) own′ t ∙ now)
       (λ x n k. head-still (m .free) (m .node) own (m′ .free) (m′ .node) own′ x (λ z. absurd (n z)) (λ y p e. ap (λ f. f y .first) nodes)
       (λ u e. still u (λ z. k (e ∙ ap (λ y. 2 * y + 1) z))))
@@ -217,12 +228,12 @@ module _ (s : Shape) (m m′ : Shared) (own own′ : ℕ → ℕ) (h : Held s m 
       (λ k l u. ap (among same) (begin-move .items-x (2 * k) (λ z. omega arith) (λ z. omega arith)))
       ∙ sym (counts s m own h same)
 
--- A push: thread t's own cell c becomes the head of node n's list.
+-- A push: the head c of thread t's chain becomes that of node n's list.
 module _ (s : Shape) (m m′ : Shared) (own own′ : ℕ → ℕ) (h : Held s m own) (t n c : ℕ) (lt : 1 ≤ t) (ut : t ≤ s .threads) (ln : 1 ≤ n)
-    (un : n ≤ nodeCount s) (some : 1 ≤ c) (mine : own t ≡ c) (ended : m .cell c .next ≡ 0)
+    (un : n ≤ nodeCount s) (some : 1 ≤ c) (mine : own t ≡ c)
     (others : (d : ℕ) → (d ≡ c → ⊥) → m′ .cell d ≡ m .cell d) (kept : m′ .cell c .item ≡ m .cell c .item)
     (onto : m′ .cell c .next ≡ m .node n .first) (free : m′ .free ≡ m .free) (first : m′ .node n .first ≡ c)
-    (elsewhere : (x : ℕ) → (x ≡ n → ⊥) → m′ .node x .first ≡ m .node x .first) (gone : own′ t ≡ 0)
+    (elsewhere : (x : ℕ) → (x ≡ n → ⊥) → m′ .node x .first ≡ m .node x .first) (left : own′ t ≡ m .cell c .next)
     (still : (u : ℕ) → (u ≡ t → ⊥) → own′ u ≡ own u) (proper : Proper (m .cell c .item))
     (least : AtMost (m .cell c .item) (val m n)) where
   push-move : Moved (m .cell) (m′ .cell) (heads (m′ .free) (m′ .node) own′) (h .list) (2 * t + 1) (2 * n) c
@@ -231,7 +242,7 @@ module _ (s : Shape) (m m′ : Shared) (own own′ : ℕ → ℕ) (h : Held s m 
       (h .list) (h .chains)
       (2 * t + 1) (2 * n) c (λ z. omega arith) some (head-thread (m .free) (m .node) own t ∙ mine) others
       (onto ∙ sym (head-node (m .free) (m .node) own n ln))
-      (head-thread (m′ .free) (m′ .node) own′ t ∙ gone ∙ sym ended) (head-node (m′ .free) (m′ .node) own′ n ln ∙ first)
+      (head-thread (m′ .free) (m′ .node) own′ t ∙ left) (head-node (m′ .free) (m′ .node) own′ n ln ∙ first)
       (λ x a b. head-still (m .free) (m .node) own (m′ .free) (m′ .node) own′ x (λ z. free)
       (λ y p e. elsewhere y (λ z. b (e ∙ ap (λ k. 2 * k) z))) (λ u e. still u (λ z. a (e ∙ ap (λ k. 2 * k + 1) z))))
 

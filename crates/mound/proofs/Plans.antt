@@ -83,20 +83,20 @@ speaks-moves (empties x y z w) = refl
 speaks-moves (answers x y) = refl
 speaks-moves (cleans-answers x y) = refl
 
--- the own cell afterwards: a push takes it, nothing else changes it
-abbrev pub OwnAfter : Effect → ℕ → ℕ → Type 0
-OwnAfter Nothing o o′ = o′ ≡ o
-OwnAfter (Grow d) o o′ = o′ ≡ o
-OwnAfter (Push n v c x) o o′ = o′ ≡ 0
-OwnAfter (Pop v c) o o′ = o′ ≡ o
-OwnAfter (Exchange n v k w) o o′ = o′ ≡ o
-OwnAfter (Clean n v) o o′ = o′ ≡ o
+-- the own cell afterwards: a push takes it and leaves the one behind it, nothing else changes it
+abbrev pub OwnAfter : Shared → Effect → ℕ → ℕ → Type 0
+OwnAfter m Nothing o o′ = o′ ≡ o
+OwnAfter m (Grow d) o o′ = o′ ≡ o
+OwnAfter m (Push n v c x) o o′ = o′ ≡ m .cell c .next
+OwnAfter m (Pop v c) o o′ = o′ ≡ o
+OwnAfter m (Exchange n v k w) o o′ = o′ ≡ o
+OwnAfter m (Clean n v) o o′ = o′ ≡ o
 
 pub data Planned (s : Shape) (m : Shared) (own : ℕ → ℕ) (t : ℕ) (o : ℕ) (op : Operation) (p : Plan) : Type 0 where
   rests : p .effect ≡ Nothing → p .answer ≡ AnswersIdle → Planned s m own t o op p
   refuses : p .effect ≡ Nothing → p .answer ≡ Refused counterSpent → Planned s m own t o op p
   moves : (op′ : Operation) → Allowed s m own t (p .effect) → Speaks m op op′ (p .effect) (p .answer)
-      → OwnAfter (p .effect) o (p .thread .own) → At s m (p .thread) op′ (p .thread .place) → Planned s m own t o op p
+      → OwnAfter m (p .effect) o (p .thread .own) → At s m (p .thread) op′ (p .thread .place) → Planned s m own t o op p
 
 -- Where n lies. Each level has twice the nodes of the one above.
 doubled : (d : ℕ) → 1 ≤ d → 2 ^ d ≡ 2 ^ (d - 1) * 2
@@ -188,7 +188,7 @@ module _ (s : Shape) (r : InRange s) (m : Shared) (own : ℕ → ℕ) (g : Mound
   unfolding refused plan
   is-refused u = refuses refl refl
 
-  mends-on : (u : Thread) (n w : ℕ) → u .own ≡ th .own → Takes u (mendingFor (u .after) (u .result)) op → InTree m n
+  mends-on : (u : Thread) (n w : ℕ) → u .own ≡ th .own → Takes m u (mendingFor (u .after) (u .result)) op → InTree m n
       → Fits (moved (mending u n w))
   unfolding moved plan mending atPlace withNode
   mends-on u n w e h k = moves op tt (reads refl) e (h, k)
@@ -331,15 +331,14 @@ module _ (s : Shape) (r : InRange s) (m : Shared) (own : ℕ → ℕ) (g : Mound
           some = k .0;
           few = k .1;
           mine = mine;
-          cell = h .some;
-          ended = h .ended;
-          proper = subst (λ i. itemLe topItem i ≡ false) (sym (h .item)) (h .proper);
-          least = subst (λ i. AtMost i (val m n)) (sym (h .item)) (subst (AtMost (th .item)) (sym (ap valueOf f)) (a .least));
-          parent = λ l. subst (AtMost (val m (n / 2))) (sym (h .item)) (under e l);
+          cell = h .has .0;
+          proper = subst (λ i. itemLe topItem i ≡ false) (sym (h .has .1)) (h .proper);
+          least = subst (λ i. AtMost i (val m n)) (sym (h .has .1)) (subst (AtMost (th .item)) (sym (ap valueOf f)) (a .least));
+          parent = λ l. subst (AtMost (val m (n / 2))) (sym (h .has .1)) (under e l);
           value = ap (λ x. updated x (th .own) (x .dirty)) (sym fn);
           onto = ap (λ x. x .first) (sym fn);
         })
-        (inserts (th .item) (h .operation) (h .item) refl) refl (refl, refl)))
+        (inserts (th .item) (h .operation) (h .has .1) refl) (sym (h .has .2)) (refl, refl)))
         (λ e. goes-on th ReadDepth refl h)
 
   root-in-tree : InTree m 1
@@ -348,7 +347,7 @@ module _ (s : Shape) (r : InRange s) (m : Shared) (own : ℕ → ℕ) (g : Mound
   at-root-planned : Puts m th op → Target m 1 (th .item) (th .copies .first) → Fits (insertAtRoot m th)
   unfolding insertAtRoot
   at-root-planned h a =
-      pick-good Fits (eqb (th .own) 0) (λ e. absurd (let z = eqb-true (th .own) 0 e in omega (arith, z, h .some)))
+      pick-good Fits (eqb (th .own) 0) (λ e. absurd (let z = eqb-true (th .own) 0 e in omega (arith, z, h .has .0)))
       (λ e. insert-planned h 1 root-in-tree a (sameNode (m .node 1) (th .copies .first .node)) (λ x. x) (λ x l. absurd (omega arith)))
 
   -- I7
@@ -369,7 +368,7 @@ module _ (s : Shape) (r : InRange s) (m : Shared) (own : ℕ → ℕ) (g : Mound
   below-planned h k l a b =
       pick-good Fits (ltb (th .node) 2 || eqb (th .own) 0)
       (λ e. absurd (true≢false (sym e
-      ∙ neither (ltb (th .node) 2) (eqb (th .own) 0) (le-ltb (th .node) 2 l) (ne-eqb (th .own) 0 (λ z. omega (arith, z, h .some))))))
+      ∙ neither (ltb (th .node) 2) (eqb (th .own) 0) (le-ltb (th .node) 2 l) (ne-eqb (th .own) 0 (λ z. omega (arith, z, h .has .0))))))
       (λ e. insert-planned h (th .node) k a (nodeAndParentSame m th) (node-same m th)
       (λ z w. subst (λ i. AtMost i (th .item))
       (sym (ap valueOf (found (th .node / 2) (th .copies .second) (b .sound) (parent-same m th z)))) (b .most)))
@@ -379,20 +378,20 @@ module _ (s : Shape) (r : InRange s) (m : Shared) (own : ℕ → ℕ) (g : Mound
       neither false q e z = z
 
   -- E1
-  root-planned : Takes th taking op → Fits (readRoot m th)
+  root-planned : Takes m th taking op → Fits (readRoot m th)
   unfolding readRoot rootRead withFirst withCopies withAfter plan goneIdle readNode pick
   root-planned h =
       let q = readNode m 1 in
       pick-good Fits (isDirty (q .node))
       (λ e. mends-on (withAfter (withFirst th q) 0) 1 0 refl h root-in-tree)
       (λ e. pick-good Fits (eqb (q .node .first) 0)
-      (λ z. moves none tt (empties (h .operation) refl (is-clean (q .node) e) (eqb-true (q .node .first) 0 z)) (sym (h .none))
+      (λ z. moves none tt (empties (h .operation) refl (is-clean (q .node) e) (eqb-true (q .node .first) 0 z)) (sym (h .has))
       (refl, refl))
       (λ z. let ne = eqb-false (q .node .first) 0 z in
       goes-on (withFirst th q) RemoveHead refl (h, record { sound = sound-read m 1; clean = is-clean (q .node) e; some = omega arith })))
 
   -- E2
-  head-planned : Takes th taking op → RootRead m (th .copies .first) → Fits (removeHead m th)
+  head-planned : Takes m th taking op → RootRead m (th .copies .first) → Fits (removeHead m th)
   unfolding removeHead headRemoved plan mending atPlace withNode withAfter withResult pick
   head-planned h a =
       let q = th .copies .first in
@@ -410,14 +409,14 @@ module _ (s : Shape) (r : InRange s) (m : Shared) (own : ℕ → ℕ) (g : Mound
         value = ap (λ x. updated x (q .head .next) 1) (sym fn) ∙ ap (λ c. updated (m .node 1) (c .next) 1) (sym fh);
       })
       (removes (h .operation) (ap (λ c. holding (c .item)) (sym fh))) refl
-      (record { operation = refl; permitted = h .permitted; none = h .none }, root-in-tree))))
+      (record { operation = refl; permitted = h .permitted; has = h .has }, root-in-tree))))
       (λ y. goes-on th ReadRoot refl h)
 
   -- Mending, with the waiting levels w.
   module _ (w : ℕ) where
     -- a return, after no effect or a cleaning
     return-planned : (e : Effect) (u : Thread) → u .own ≡ th .own → Mends m u op → Allowed s m own t e
-        → ((o : ℕ) → o ≡ th .own → OwnAfter e (th .own) o) → ((o : Operation) → o ≡ op → Speaks m op o e Moved)
+        → ((o : ℕ) → o ≡ th .own → OwnAfter m e (th .own) o) → ((o : Operation) → o ≡ op → Speaks m op o e Moved)
         → ((i : Item) → op ≡ holding i → Speaks m op none e (Took i)) → Fits (returning e u w)
     unfolding returning returned returnAnswer plan mending atPlace withNode goneIdle pick
     return-planned e u eo h al ow quiet tell = go (eqb w 0) refl (eqb (u .after) 1) refl
@@ -432,10 +431,10 @@ module _ (s : Shape) (r : InRange s) (m : Shared) (own : ℕ → ℕ) (g : Mound
             → Fits (plan e (pick q (pick a (goneIdle u) (atPlace u ReadRoot))
             (mending u (ancestor (u .node) (level w)) (w - mark (level w))))
             (pick (q && a) (Took (u .result)) Moved))
-        go true eq true ea = moves none al (tell (u .result) (for true ea)) (ow 0 (sym (sym eo ∙ h .0 .none))) (refl, refl)
+        go true eq true ea = moves none al (tell (u .result) (for true ea)) (ow 0 (sym (sym eo ∙ h .0 .has))) (refl, refl)
         go true eq false ea =
             moves op al (quiet op refl) (ow (u .own) eo)
-            (record { operation = for false ea; permitted = h .0 .permitted; none = h .0 .none })
+            (record { operation = for false ea; permitted = h .0 .permitted; has = h .0 .has })
         go false eq a ea =
             let nw = eqb-false w 0 eq in
             moves op al (quiet op refl) (ow (u .own) eo) (

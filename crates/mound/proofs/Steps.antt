@@ -25,7 +25,8 @@ use Rattle.access.proofs.OrderLaws.{item-less, item-trans}
 use Rattle.mound.specs.Ledger.{Operation, none, putting, taking, holding, Ledger, Follows, still, put-begins, take-begins, put-decides, take-decides, empty-decides, take-answers, oneMore, oneLess}
 use Rattle.mound.specs.Told.{Told, nothing, beginsPut, beginsTake, decidesPut, decidesTake, decidesEmpty, answersTook}
 use Rattle.mound.specs.Tree.{sameItem}
-use Rattle.mound.proofs.Effects.{Keeps, Mound, in-tree, root-there, value-there, rely-same, begin-keeps, begin-counts, grow-keeps, grow-counts, push-keeps, push-counts, pop-keeps, pop-counts, pop-own, exchange-keeps, exchange-counts, clean-keeps, clean-counts}
+use Rattle.mound.proofs.Chains.{ItemsStay}
+use Rattle.mound.proofs.Effects.{Keeps, Mound, in-tree, root-there, value-there, rely-same, begin-keeps, begin-counts, grow-keeps, grow-counts, push-keeps, push-counts, push-rest, pop-keeps, pop-counts, pop-hands, exchange-keeps, exchange-counts, clean-keeps, clean-counts}
 use Rattle.mound.proofs.Facts.{At, stays}
 use Rattle.mound.proofs.Held.{counted, held-by, head-held}
 use Rattle.mound.proofs.Order.{root-above}
@@ -164,25 +165,25 @@ module _ (s : Shape) (m : Shared) (own own′ : ℕ → ℕ) (l : Ledger) (g : M
     pub after : Ledger
     pub follows : Follows (effectTells (headOfRoot m) t a e) l after
     pub stepped : Stepped s m (effectShared m e) own own′ l after t op′
-    -- a cell that the thread still owns is as before
-    pub mine : 1 ≤ own′ t → effectShared m e .cell (own′ t) ≡ m .cell (own′ t)
+    -- what the thread still holds is as before
+    pub mine : ItemsStay (m .cell) (effectShared m e .cell) (own′ t)
 
   nothing-keeps : Keeps s m (effectShared m Nothing) own own t
   unfolding effectShared
-  nothing-keeps = record { mound = g; rely = rely-same m m (omega arith) (λ x p. refl); kept = λ u n p. refl }
+  nothing-keeps = record { mound = g; rely = rely-same m m (omega arith) (λ x p. refl); kept = λ u n is h. h }
 
   module _ (op op′ : Operation) (is : l .operation t ≡ op) where
     at-rest : op′ ≡ op → l .operation t ≡ op′
     at-rest e = is ∙ sym e
 
-    pub step : (e : Effect) (a : Answer) → Allowed s m own t e → Speaks m op op′ e a → OwnAfter e (own t) (own′ t) → Step e a op′
+    pub step : (e : Effect) (a : Answer) → Allowed s m own t e → Speaks m op op′ e a → OwnAfter m e (own t) (own′ t) → Step e a op′
     unfolding effectShared
     step Nothing Moved al (reads k) ow =
         record {
           after = l;
           follows = still;
           stepped = quiet Nothing l op′ ow nothing-keeps (λ i. refl) (λ i. refl) (λ u n. refl) (at-rest k);
-          mine = λ p. refl;
+          mine = λ is h. h;
         }
     step (Grow d) Moved al (grows k) ow =
         record {
@@ -191,7 +192,7 @@ module _ (s : Shape) (m : Shared) (own own′ : ℕ → ℕ) (l : Ledger) (g : M
           stepped =
               quiet (Grow d) l op′ ow (grow-keeps s m own g d (al .0) (al .1) t)
               (grow-counts s m own g d (al .0) (al .1)) (λ i. refl) (λ u n. refl) (at-rest k);
-          mine = λ p. refl;
+          mine = λ is h. h;
         }
     step (Exchange n v k w) Moved al (swaps q) ow =
         record {
@@ -200,7 +201,7 @@ module _ (s : Shape) (m : Shared) (own own′ : ℕ → ℕ) (l : Ledger) (g : M
           stepped =
               quiet (Exchange n v k w) l op′ ow (exchange-keeps s m own g n v k w (al .0) (al .1) t)
               (exchange-counts s m own g n v k w (al .0) (al .1)) (λ i. refl) (λ u x. refl) (at-rest q);
-          mine = λ p. refl;
+          mine = λ is h. h;
         }
     step (Clean n v) Moved al (cleans k) ow =
         record {
@@ -209,7 +210,7 @@ module _ (s : Shape) (m : Shared) (own own′ : ℕ → ℕ) (l : Ledger) (g : M
           stepped =
               quiet (Clean n v) l op′ ow (clean-keeps s m own g n v al t) (clean-counts s m own g n v al)
               (λ i. refl) (λ u x. refl) (at-rest k);
-          mine = λ p. refl;
+          mine = λ is h. h;
         }
     step (Push n v c x) Inserted al (inserts i eo ei en) ow =
         record {
@@ -225,7 +226,7 @@ module _ (s : Shape) (m : Shared) (own own′ : ℕ → ℕ) (l : Ledger) (g : M
                     let q = one-copy j (m .cell c .item) i ei in
                     omega (arith, one-more (l .bag) i j, bag j, p, q);
               };
-          mine = λ p. absurd (omega arith);
+          mine = subst (ItemsStay (m .cell) (effectShared m (Push n v c x) .cell)) (sym ow) (push-rest s m own own′ g t n v c x lt ut al ow still-own);
         }
     step (Pop v c) Moved al (removes eo en) ow =
         let i = headOfRoot m in
@@ -248,8 +249,7 @@ module _ (s : Shape) (m : Shared) (own own′ : ℕ → ℕ) (l : Ledger) (g : M
                     let q = one-copy j (m .cell c .item) i ic in
                     omega (arith, one-less (l .bag) i j, bag j, p, q);
               };
-          mine = λ p.
-              subst (λ o. effectShared m (Pop v c) .cell o ≡ m .cell o) (sym ow) (pop-own s m own g v c al t (omega (arith, ow)));
+          mine = subst (ItemsStay (m .cell) (effectShared m (Pop v c) .cell)) (sym ow) (pop-hands s m own g v c al t);
         }
     step Nothing Empty al (empties eo en clean nobody) ow =
         record {
@@ -258,7 +258,7 @@ module _ (s : Shape) (m : Shared) (own own′ : ℕ → ℕ) (l : Ledger) (g : M
           stepped =
               quiet Nothing (later none) op′ ow nothing-keeps (λ i. refl) (λ i. refl) (λ u y. upd-other (l .operation) t u none y)
               (upd-same (l .operation) t none ∙ sym en);
-          mine = λ p. refl;
+          mine = λ is h. h;
         }
     step Nothing (Took i) al (answers eo en) ow =
         record {
@@ -267,7 +267,7 @@ module _ (s : Shape) (m : Shared) (own own′ : ℕ → ℕ) (l : Ledger) (g : M
           stepped =
               quiet Nothing (later none) op′ ow nothing-keeps (λ j. refl) (λ j. refl) (λ u y. upd-other (l .operation) t u none y)
               (upd-same (l .operation) t none ∙ sym en);
-          mine = λ p. refl;
+          mine = λ is h. h;
         }
     step (Clean n v) (Took i) al (cleans-answers eo en) ow =
         record {
@@ -276,7 +276,7 @@ module _ (s : Shape) (m : Shared) (own own′ : ℕ → ℕ) (l : Ledger) (g : M
           stepped =
               quiet (Clean n v) (later none) op′ ow (clean-keeps s m own g n v al t) (clean-counts s m own g n v al) (λ j. refl)
               (λ u y. upd-other (l .operation) t u none y) (upd-same (l .operation) t none ∙ sym en);
-          mine = λ p. refl;
+          mine = λ is h. h;
         }
 
 -- The facts of every thread after a step of thread t.
@@ -298,7 +298,7 @@ module _ (s : Shape) (m m′ : Shared) (th : ℕ → Thread) (l l′ : Ledger) (
     stepped-invariant = record { mound = st .keeps .mound; at = λ u. all-at u (ℕ-discrete u t); bag = st .bag }
 
   -- a turn's own facts were found before its effect
-  pub turned-invariant : At s m v op′ (v .place) → (1 ≤ v .own → m′ .cell (v .own) ≡ m .cell (v .own)) → Invariant s m′ (upd th t v) l′
+  pub turned-invariant : At s m v op′ (v .place) → ItemsStay (m .cell) (m′ .cell) (v .own) → Invariant s m′ (upd th t v) l′
   turned-invariant now mine = stepped-invariant (stays m m′ (st .keeps .rely) v op′ mine s (v .place) now)
 
 -- what follows where this was told: the ledger after it, and the invariant of what was left
@@ -318,19 +318,19 @@ module _ (s : Shape) (m : Shared) (th : ℕ → Thread) (l : Ledger) (inv : Inva
 
   -- a turn whose plan has an effect that the mound allows
   pub turn-moves : (p : Plan) (op′ : Operation) → Allowed s m (owns th) t (p .effect)
-      → Speaks m (l .operation t) op′ (p .effect) (p .answer) → OwnAfter (p .effect) (th t .own) (p .thread .own)
+      → Speaks m (l .operation t) op′ (p .effect) (p .answer) → OwnAfter m (p .effect) (th t .own) (p .thread .own)
       → At s m (p .thread) op′ (p .thread .place)
       → NextState s l (effectTells (headOfRoot m) t (p .answer) (p .effect)) (effectShared m (p .effect)) (upd th t (p .thread))
   turn-moves p op′ al sp ow at =
       let v = p .thread in
       let st = step s m (owns th) (owns (upd th t v)) l (inv .mound) (inv .bag) t lt ut (own-still v) (l .operation t) op′ refl (p .effect)
-      (p .answer) al sp (subst (OwnAfter (p .effect) (th t .own)) (sym (own-now v)) ow) in
+      (p .answer) al sp (subst (OwnAfter m (p .effect) (th t .own)) (sym (own-now v)) ow) in
       record {
         next = st .after;
         follows = st .follows;
         holds =
             turned-invariant s m (effectShared m (p .effect)) th l (st .after) t v op′ (inv .at) (st .stepped) at
-            (subst (λ o. 1 ≤ o → effectShared m (p .effect) .cell o ≡ m .cell o) (own-now v) (st .mine));
+            (subst (ItemsStay (m .cell) (effectShared m (p .effect) .cell)) (own-now v) (st .mine));
       }
 
   module _ (idle : th t .place ≡ AtRest) (may : 1 ≤ th t .permission) where
@@ -355,13 +355,13 @@ module _ (s : Shape) (m : Shared) (th : ℕ → Thread) (l : Ledger) (inv : Inva
                     record {
                       mound = subst (Mound s m) (sym (same-own (owns th) (owns (upd th t v)) t (own-still v) (own-now v))) (inv .mound);
                       rely = rely-same m m (omega arith) (λ y p. refl);
-                      kept = λ u n p. refl;
+                      kept = λ u n is h. h;
                     };
                 others = λ u n. upd-other (l .operation) t u taking n;
                 now = upd-same (l .operation) t taking;
                 bag = inv .bag;
               })
-              (record { operation = refl; permitted = may; none = resting .1 });
+              (record { operation = refl; permitted = may; has = resting .1 });
         }
 
     -- a put of i begins: the first free cell becomes the thread's own, with the item
@@ -383,16 +383,16 @@ module _ (s : Shape) (m : Shared) (th : ℕ → Thread) (l : Ledger) (inv : Inva
       unfolding begins
       put-stepped =
           let elsewhere : (d : ℕ) → (d ≡ m .free → ⊥) → begun .cell d ≡ m .cell d = λ d n. upd-other (m .cell) (m .free) d _ n in
-          let ended : begun .cell (m .free) .next ≡ 0 = ap (λ y. y .next) filled in
+          let onto : begun .cell (m .free) .next ≡ th t .own = ap (λ y. y .next) filled ∙ sym (resting .1) in
           record {
             keeps =
-                begin-keeps s m begun (owns th) (owns (upd th t putter)) (inv .mound) t (m .free) lt ut free refl (resting .1) elsewhere
-                ended refl refl refl own-cell (own-still putter);
+                begin-keeps s m begun (owns th) (owns (upd th t putter)) (inv .mound) t (m .free) lt ut free refl elsewhere onto
+                refl refl refl own-cell (own-still putter);
             others = λ u n. upd-other (l .operation) t u (putting i) n;
             now = upd-same (l .operation) t (putting i);
             bag = λ j. inv .bag j ∙ sym
-                (begin-counts s m begun (owns th) (owns (upd th t putter)) (inv .mound) t (m .free) lt ut free refl (resting .1) elsewhere
-                ended refl refl refl own-cell (own-still putter) j);
+                (begin-counts s m begun (owns th) (owns (upd th t putter)) (inv .mound) t (m .free) lt ut free refl elsewhere onto
+                refl refl refl own-cell (own-still putter) j);
           }
 
       pub put-starts : NextState s l (beginsPut t i) begun (upd th t putter)
@@ -406,9 +406,7 @@ module _ (s : Shape) (m : Shared) (th : ℕ → Thread) (l : Ledger) (inv : Inva
                 (record {
                   operation = refl;
                   permitted = may;
-                  some = free;
-                  item = ap (λ y. y .item) filled;
-                  ended = ap (λ y. y .next) filled;
+                  has = (free, ap (λ y. y .item) filled, ap (λ y. y .next) filled);
                   proper = proper;
                 });
           }
