@@ -31,9 +31,9 @@ cell-decides b t i a = rw (a .region, a .thread, a .item, a .permitted, a .idle)
 
 -- Both, of every readable region of which the invariant holds.
 module _ (s : Shape) (b : List ℕ) (l : Ledger) (g : Good s b)
-    (inv : Invariant s (sharedIn (frameOf s) b) (threadIn (frameOf s) b) l) where
-  here : Invariant (shapeIn b) (sharedIn (frameIn b) b) (threadIn (frameIn b) b) l
-  here = subst (λ x. Invariant x (sharedIn (frameOf x) b) (threadIn (frameOf x) b) l) (sym (g .shape)) inv
+    (inv : Invariant s (sharedIn (frameOf s) b) (threadIn (frameOf s) b) l (s .cells)) where
+  here : Invariant (shapeIn b) (sharedIn (frameIn b) b) (threadIn (frameIn b) b) l (shapeIn b .cells)
+  here = subst (λ x. Invariant x (sharedIn (frameOf x) b) (threadIn (frameOf x) b) l (x .cells)) (sym (g .shape)) inv
 
   pub all-cells-accounted : AllCellsAccounted b
   unfolding treeCells begunPuts freeCells frameOf

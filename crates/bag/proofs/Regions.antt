@@ -46,10 +46,10 @@ use Rattle.bag.proofs.Answers.{turn-tells}
 use Rattle.bag.proofs.Carried.{turn-decides, turn-shared, turn-stays, turn-threads}
 use Rattle.bag.proofs.Histories.{Next}
 
--- a readable region on which the invariant holds
+-- a readable region on which the invariant holds, with all cells accounted for
 pub record Region (s : Shape) (b : List ℕ) (l : Ledger) : Type 0 where
   pub good : Good s b
-  pub holds : Invariant s (sharedIn (frameOf s) b) (threadIn (frameOf s) b) l
+  pub holds : Invariant s (sharedIn (frameOf s) b) (threadIn (frameOf s) b) l (s .cells)
 
 -- a call or a turn whose moment the ledger follows
 abbrev pub Follow : (s : Shape) → Ledger → Told → List ℕ → Type 0
@@ -57,12 +57,12 @@ Follow s l told b = Next (Region s) Follows l told b
 
 -- what follows of the state follows of a region that reads so
 followed : {s : Shape} {l : Ledger} {told : Told} {b : List ℕ} {m : Shared} {th : ℕ → Thread} → Good s b
-    → sharedIn (frameOf s) b ≡ m → threadIn (frameOf s) b ≡ th → NextState s l told m th → Follow s l told b
+    → sharedIn (frameOf s) b ≡ m → threadIn (frameOf s) b ≡ th → NextState s l (s .cells) told m th → Follow s l told b
 followed {s} good em eth n =
     record {
       next = n .next;
       follows = n .follows;
-      region = record { good = good; holds = subst₂ (λ x y. Invariant s x y (n .next)) (sym em) (sym eth) (n .holds) };
+      region = record { good = good; holds = subst₂ (λ x y. Invariant s x y (n .next) (s .cells)) (sym em) (sym eth) (n .holds) };
     }
 
 module _ (s : Shape) (b : List ℕ) (l : Ledger) (g : Region s b l) where

@@ -137,7 +137,7 @@ module _ (s : Shape) (ps b : List ℕ) (e : layoutRefusal s ps (length b) ≡ do
   none-at : (n : ℕ) → 1 ≤ n → listed (s .cells) (2 * n) ≡ []
   none-at n p = listed-none (s .cells) (2 * n) (λ z. omega arith)
 
-  held : Held s m (owns th)
+  held : Held s m (owns th) (s .cells)
   unfolding items
   held =
       record {
@@ -152,13 +152,14 @@ module _ (s : Shape) (ps b : List ℕ) (e : layoutRefusal s ps (length b) ≡ do
             (λ k l u. ap length (listed-none (s .cells) (2 * k + 1) (λ z. omega arith))) in
             let f : length (listed (s .cells) 0) ≡ s .cells = ap length (listed-free (s .cells)) ∙ length-from 1 (s .cells) in
             omega (arith, a, c, f);
+        few = omega arith;
       }
 
   no-value : (n : ℕ) → val m n ≡ topItem
   unfolding valueOf readNode pick
   no-value n = ap (valueAt (m .cell)) (ap (λ x. x .first) (laid-node s ps b e n))
 
-  mound : Mound s m (owns th)
+  mound : Mound s m (owns th) (s .cells)
   mound =
       record {
         held = held;

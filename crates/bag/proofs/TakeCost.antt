@@ -147,7 +147,7 @@ module _ (b : List ℕ) (t : ℕ) (choices : List ℕ) (r : readable b ≡ true)
         (takeBytes b t) choices begun-shared begun-thread long
 
     -- any other, with the cells in order
-    module _ (own : ℕ → ℕ) (g : Mound (shapeIn b) (sharedIn (frameIn b) b) own)
+    module _ (own : ℕ → ℕ) {all : ℕ} (g : Mound (shapeIn b) (sharedIn (frameIn b) b) own all)
         (full : sharedIn (frameIn b) b .node 1 .first ≡ 0 → ⊥) where
       abbrev m : Shared
       m = sharedIn (frameIn b) b
@@ -203,7 +203,8 @@ module _ (b : List ℕ) (t : ℕ) (choices : List ℕ) (r : readable b ≡ true)
           (takeBytes b t) choices (take-good b t k) begun-shared begun-thread long spent
 
 -- The figure, on a readable region whose cells are in order.
-pub take-costs : (b : List ℕ) → readable b ≡ true → (own : ℕ → ℕ) → Mound (shapeIn b) (sharedIn (frameIn b) b) own → TakesCost b
+pub take-costs : (b : List ℕ) → readable b ≡ true → (own : ℕ → ℕ) {all : ℕ}
+    → Mound (shapeIn b) (sharedIn (frameIn b) b) own all → TakesCost b
 unfolding sharedIn
 take-costs b r own g t turns a = subst (EndsAt (LastAccess b t) (takeCost m)) (sym same) (go (ℕ-discrete (nodeIn (frameIn b) b 1 .first) 0))
   where

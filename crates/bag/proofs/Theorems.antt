@@ -101,7 +101,7 @@ takes-cost-exactly s ps b e calls n earlier later split =
     let w = holds s ps b e calls n earlier later split in
     let b′ = regionAfter (layoutBytes s ps b) earlier in
     take-costs b′ (stays-readable s ps b e calls n earlier later split .0) (owns (threadIn (frameOf s) b′))
-    (subst (λ x. Mound x (sharedIn (frameOf x) b′) (owns (threadIn (frameOf s) b′))) (sym (w .1 .good .shape)) (w .1 .holds .mound))
+    (subst (λ x. Mound x (sharedIn (frameOf x) b′) (owns (threadIn (frameOf s) b′)) (s .cells)) (sym (w .1 .good .shape)) (w .1 .holds .mound))
 
 -- the ceiling is the figure's
 pub takes-end-in-time : TakesEndInTime

@@ -1,6 +1,6 @@
--- All cells are accounted for: walking each list, and the free chain, counts the cells of its chain; a thread at I1 to I8 holds
--- one cell and any other none; together they are C. So no cell is free exactly when tree and begun puts hold all C.
--- Assumes nothing.
+-- The account of cells: walking each list, and the free chain, counts the cells of its chain; a thread at I1 to I8 holds one cell and any other
+-- none; together they are all that are held. So no cell is free exactly when tree and begun puts hold these. Where they are C, all cells are
+-- accounted for. Assumes nothing.
 use Prim.Native.Nat.{ℕ, zero, suc, _+_, _*_, _≤_}
 use native.Mathlib.Omega.{arith}
 use mathlib.Core.Path.{_≡_, refl, sym, ap, _∙_}
@@ -77,8 +77,8 @@ count-in-hand t p = go (isPutPlace p)
     go false = refl
 
 -- The counts as sums over chains.
-module _ (s : Shape) (m : Shared) (th : ℕ → Thread) (l : Ledger) (inv : Invariant s m th l) where
-  abbrev h : Held s m (owns th)
+module _ (s : Shape) (m : Shared) (th : ℕ → Thread) (l : Ledger) {all : ℕ} (inv : Invariant s m th l all) where
+  abbrev h : Held s m (owns th) all
   h = inv .mound .held
 
   nodes-sum : inNodes m anyItem (s .cells) (nodeCount s) ≡ sum (nodeLength (h .list)) (nodeCount s)
@@ -100,15 +100,15 @@ module _ (s : Shape) (m : Shared) (th : ℕ → Thread) (l : Ledger) (inv : Inva
 
   free-measured : inList m anyItem (s .cells) (m .free) ≡ length (h .list 0)
   free-measured =
-      walk-counts m anyItem (s .cells) (free-chain s m (owns th) h) (omega (arith, h .total)) ∙ all-count (m .cell) (h .list 0)
+      walk-counts m anyItem (s .cells) (free-chain s m (owns th) h) (omega (arith, h .total, h .few)) ∙ all-count (m .cell) (h .list 0)
 
-  pub all-cells : inNodes m anyItem (s .cells) (nodeCount s) + putsAmong th (s .threads) + inList m anyItem (s .cells) (m .free) ≡ s .cells
+  pub all-cells : inNodes m anyItem (s .cells) (nodeCount s) + putsAmong th (s .threads) + inList m anyItem (s .cells) (m .free) ≡ all
   all-cells = omega (arith, h .total, nodes-sum, puts-sum (s .threads), free-measured)
 
   -- no cell is free exactly when the others hold all
-  pub full-without : m .free ≡ 0 → inNodes m anyItem (s .cells) (nodeCount s) + putsAmong th (s .threads) ≡ s .cells
+  pub full-without : m .free ≡ 0 → inNodes m anyItem (s .cells) (nodeCount s) + putsAmong th (s .threads) ≡ all
   full-without e =
       omega (arith, all-cells, free-measured, cells-of (free-chain s m (owns th) h) [] e)
 
-  pub not-full-with : 1 ≤ m .free → inNodes m anyItem (s .cells) (nodeCount s) + putsAmong th (s .threads) ≡ s .cells → ⊥
+  pub not-full-with : 1 ≤ m .free → inNodes m anyItem (s .cells) (nodeCount s) + putsAmong th (s .threads) ≡ all → ⊥
   not-full-with p e = omega (arith, all-cells, free-measured, ap length (starts (free-chain s m (owns th) h) p .is), e)

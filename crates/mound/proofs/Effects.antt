@@ -30,8 +30,8 @@ use Rattle.mound.proofs.Sorted.{AtMost, Proper, valueAt}
 abbrev pub InOrder : Shared → Type 0
 InOrder m = Ordered AtMost item-refl item-trans (val m) (λ n. m .node n .dirty)
 
-pub record Mound (s : Shape) (m : Shared) (own : ℕ → ℕ) : Type 0 where
-  pub held : Held s m own
+pub record Mound (s : Shape) (m : Shared) (own : ℕ → ℕ) (all : ℕ) : Type 0 where
+  pub held : Held s m own all
   pub ordered : InOrder m
   pub deep : (n : ℕ) → 2 ^ m .depth ≤ n → (m .node n .first ≡ 0) × (m .node n .dirty ≡ 0)
   pub depth-least : 1 ≤ m .depth
@@ -52,8 +52,8 @@ pub record Rely (m m′ : Shared) : Type 0 where
   pub child : (c : ℕ) → Falls m m′ c
 
 -- a step of thread t keeps the mound, with what the others rely on and what each of them holds
-pub record Keeps (s : Shape) (m m′ : Shared) (own own′ : ℕ → ℕ) (t : ℕ) : Type 0 where
-  pub mound : Mound s m′ own′
+pub record Keeps (s : Shape) (m m′ : Shared) (own own′ : ℕ → ℕ) (all t : ℕ) : Type 0 where
+  pub mound : Mound s m′ own′ all
   pub rely : Rely m m′
   pub kept : (u : ℕ) → (u ≡ t → ⊥) → ItemsStay (m .cell) (m′ .cell) (own u)
 
@@ -158,10 +158,10 @@ pub record CleanAsks (m : Shared) (n : ℕ) (v : Node) : Type 0 where
   pub value : v ≡ updated (m .node n) (m .node n .first) 0
 
 -- nodes no deeper than the present depth are in the tree
-pub in-tree : (s : Shape) (m : Shared) (own : ℕ → ℕ) → Mound s m own → (n : ℕ) → n < 2 ^ m .depth → n ≤ nodeCount s
+pub in-tree : (s : Shape) (m : Shared) (own : ℕ → ℕ) {all : ℕ} → Mound s m own all → (n : ℕ) → n < 2 ^ m .depth → n ≤ nodeCount s
 in-tree s m own g n h = omega (arith, pow-mono {i = m .depth} {j = s .depth} (g .depth-most))
 
-pub root-there : (s : Shape) (m : Shared) (own : ℕ → ℕ) → Mound s m own → 1 < 2 ^ m .depth
+pub root-there : (s : Shape) (m : Shared) (own : ℕ → ℕ) {all : ℕ} → Mound s m own all → 1 < 2 ^ m .depth
 root-there s m own g = omega (arith, pow-mono {i = 1} {j = m .depth} (g .depth-least))
 
 pub value-there : (cell : ℕ → Cell) (c : ℕ) (i : Item) → 1 ≤ c → cell c .item ≡ i → valueAt cell c ≡ i
@@ -169,8 +169,8 @@ unfolding pick
 value-there cell c i p e = rw (ne-eqb c 0 (λ z. omega arith)) e
 
 -- Growing.
-module _ (s : Shape) (m : Shared) (own : ℕ → ℕ) (g : Mound s m own) (d : ℕ) (next : d ≡ m .depth + 1) (few : d ≤ s .depth) where
-  grow-mound : Mound s (effectShared m (Grow d)) own
+module _ (s : Shape) (m : Shared) (own : ℕ → ℕ) {all : ℕ} (g : Mound s m own all) (d : ℕ) (next : d ≡ m .depth + 1) (few : d ≤ s .depth) where
+  grow-mound : Mound s (effectShared m (Grow d)) own all
   unfolding effectShared readNode
   grow-mound =
       record {
@@ -185,7 +185,7 @@ module _ (s : Shape) (m : Shared) (own : ℕ → ℕ) (g : Mound s m own) (d : �
   unfolding effectShared readNode
   grow-relies = rely-same m _ (omega arith) (λ x p. refl)
 
-  pub grow-keeps : (t : ℕ) → Keeps s m (effectShared m (Grow d)) own own t
+  pub grow-keeps : (t : ℕ) → Keeps s m (effectShared m (Grow d)) own own all t
   unfolding effectShared
   grow-keeps t = record { mound = grow-mound; rely = grow-relies; kept = λ u n is h. h }
 
@@ -194,7 +194,7 @@ module _ (s : Shape) (m : Shared) (own : ℕ → ℕ) (g : Mound s m own) (d : �
   grow-counts i = counted-same s m _ own (g .held) refl refl (λ n. refl) i
 
 -- Pushing.
-module _ (s : Shape) (m : Shared) (own own′ : ℕ → ℕ) (g : Mound s m own) (t n : ℕ) (v : Node) (c x : ℕ) (lt : 1 ≤ t) (ut : t ≤ s .threads)
+module _ (s : Shape) (m : Shared) (own own′ : ℕ → ℕ) {all : ℕ} (g : Mound s m own all) (t n : ℕ) (v : Node) (c x : ℕ) (lt : 1 ≤ t) (ut : t ≤ s .threads)
     (a : PushAsks m own t n v c x) (left : own′ t ≡ m .cell c .next) (still : (u : ℕ) → (u ≡ t → ⊥) → own′ u ≡ own u) where
   abbrev pushed : Shared
   pushed = effectShared m (Push n v c x)
@@ -244,14 +244,14 @@ module _ (s : Shape) (m : Shared) (own own′ : ℕ → ℕ) (g : Mound s m own)
   unfolding valueOf readNode
   push-value = ap (valueAt (pushed .cell)) push-first ∙ value-there (pushed .cell) c (m .cell c .item) (a .cell) push-item
 
-  push-held : Held s pushed own′
+  push-held : Held s pushed own′ all
   unfolding effectShared updated
   push-held =
       held-push s m pushed own own′ (g .held) t n c lt ut (a .some) (in-tree s m own g n (a .few)) (a .cell) (a .mine)
       push-cells push-item (ap (λ z. z .next) (upd-same (m .cell) c _) ∙ a .onto) refl push-first
       (λ y ne. ap (λ z. z .first) (upd-other (m .node) n y v ne)) left still (a .proper) (a .least)
 
-  push-mound : Mound s pushed own′
+  push-mound : Mound s pushed own′ all
   unfolding effectShared
   push-mound =
       record {
@@ -295,7 +295,7 @@ module _ (s : Shape) (m : Shared) (own own′ : ℕ → ℕ) (g : Mound s m own)
       (rest-stays s m own (g .held) (pushed .cell) t (omega (arith, a .mine, a .cell))
       (λ d ne. push-cells d (λ z. ne (z ∙ sym (a .mine)))))
 
-  pub push-keeps : Keeps s m pushed own own′ t
+  pub push-keeps : Keeps s m pushed own own′ all t
   push-keeps =
       record {
         mound = push-mound;
@@ -304,7 +304,7 @@ module _ (s : Shape) (m : Shared) (own own′ : ℕ → ℕ) (g : Mound s m own)
       }
 
 -- Popping.
-module _ (s : Shape) (m : Shared) (own : ℕ → ℕ) (g : Mound s m own) (v : Node) (c : ℕ) (a : PopAsks m v c) where
+module _ (s : Shape) (m : Shared) (own : ℕ → ℕ) {all : ℕ} (g : Mound s m own all) (v : Node) (c : ℕ) (a : PopAsks m v c) where
   abbrev popped : Shared
   popped = effectShared m (Pop v c)
 
@@ -330,14 +330,14 @@ module _ (s : Shape) (m : Shared) (own : ℕ → ℕ) (g : Mound s m own) (v : N
   unfolding effectShared
   pop-node = upd-same (m .node) 1 v
 
-  pop-held : Held s popped own
+  pop-held : Held s popped own all
   unfolding effectShared updated
   pop-held =
       held-pop s m popped own (g .held) c (in-tree s m own g 1 (root-there s m own g)) (a .cell) (a .head) pop-cells
       (ap (λ z. z .next) (upd-same (m .cell) c _)) refl (ap (λ z. z .first) (pop-node ∙ a .value))
       (λ y ne. ap (λ z. z .first) (upd-other (m .node) 1 y v ne))
 
-  pop-mound : Mound s popped own
+  pop-mound : Mound s popped own all
   unfolding effectShared updated
   pop-mound =
       record {
@@ -371,11 +371,11 @@ module _ (s : Shape) (m : Shared) (own : ℕ → ℕ) (g : Mound s m own) (v : N
   pub pop-hands : (t : ℕ) → ItemsStay (m .cell) (popped .cell) (own t)
   pop-hands t = hand-stays s m own (g .held) (popped .cell) c pop-cells t (λ e. omega (arith, e, pop-owner))
 
-  pub pop-keeps : (t : ℕ) → Keeps s m popped own own t
+  pub pop-keeps : (t : ℕ) → Keeps s m popped own own all t
   pop-keeps t = record { mound = pop-mound; rely = pop-relies; kept = λ u n. pop-hands u }
 
 -- Exchanging the lists of node n and its child k, whose sibling is j.
-module _ (s : Shape) (m : Shared) (own : ℕ → ℕ) (g : Mound s m own) (n : ℕ) (v : Node) (k : ℕ) (w : Node) (j : ℕ)
+module _ (s : Shape) (m : Shared) (own : ℕ → ℕ) {all : ℕ} (g : Mound s m own all) (n : ℕ) (v : Node) (k : ℕ) (w : Node) (j : ℕ)
     (a : ExchangeAsks m n v k w j) where
   abbrev swapped : Shared
   swapped = effectShared m (Exchange n v k w)
@@ -399,7 +399,7 @@ module _ (s : Shape) (m : Shared) (own : ℕ → ℕ) (g : Mound s m own) (n : �
   unfolding valueOf readNode effectShared
   value-by x y e = ap (valueAt (m .cell)) e
 
-  exchange-held : Held s swapped own
+  exchange-held : Held s swapped own all
   unfolding effectShared updated
   exchange-held =
       held-exchange s m swapped own (g .held) n k (a .some) (in-tree s m own g n (omega (arith, a .child, a .few)))
@@ -407,7 +407,7 @@ module _ (s : Shape) (m : Shared) (own : ℕ → ℕ) (g : Mound s m own) (n : �
       (in-tree s m own g k (a .few)) apart refl refl (ap (λ z. z .first) at-n) (ap (λ z. z .first) at-k)
       (λ x p q. ap (λ z. z .first) (at-x x p q))
 
-  exchange-mound : Mound s swapped own
+  exchange-mound : Mound s swapped own all
   unfolding effectShared updated
   exchange-mound =
       record {
@@ -433,7 +433,7 @@ module _ (s : Shape) (m : Shared) (own : ℕ → ℕ) (g : Mound s m own) (n : �
       (λ p e z. absurd (omega (arith, z, a .dirty)))
       (λ p e z. absurd (let h = subst (λ y. swapped .node y .counter ≡ m .node y .counter) (a .child) e in omega (arith, h, up-n)))
 
-  pub exchange-keeps : (t : ℕ) → Keeps s m swapped own own t
+  pub exchange-keeps : (t : ℕ) → Keeps s m swapped own own all t
   unfolding effectShared
   exchange-keeps t = record { mound = exchange-mound; rely = exchange-relies; kept = λ u x is h. h }
 
@@ -446,7 +446,7 @@ module _ (s : Shape) (m : Shared) (own : ℕ → ℕ) (g : Mound s m own) (n : �
       (λ x p q. ap (λ z. z .first) (at-x x p q)) i
 
 -- Cleaning.
-module _ (s : Shape) (m : Shared) (own : ℕ → ℕ) (g : Mound s m own) (n : ℕ) (v : Node) (a : CleanAsks m n v) where
+module _ (s : Shape) (m : Shared) (own : ℕ → ℕ) {all : ℕ} (g : Mound s m own all) (n : ℕ) (v : Node) (a : CleanAsks m n v) where
   abbrev cleaned : Shared
   cleaned = effectShared m (Clean n v)
 
@@ -470,7 +470,7 @@ module _ (s : Shape) (m : Shared) (own : ℕ → ℕ) (g : Mound s m own) (n : �
   unfolding valueOf readNode effectShared
   clean-value x = ap (valueAt (m .cell)) (clean-first x)
 
-  clean-mound : Mound s cleaned own
+  clean-mound : Mound s cleaned own all
   unfolding effectShared
   clean-mound =
       record {
@@ -494,7 +494,7 @@ module _ (s : Shape) (m : Shared) (own : ℕ → ℕ) (g : Mound s m own) (n : �
       relies m cleaned n n (omega arith) up up (λ x p q r. read-same m cleaned x (clean-other x q) refl)
       (λ p e z. absurd (omega (arith, z, a .dirty))) (λ p e z. absurd (omega (arith, z, a .dirty)))
 
-  pub clean-keeps : (t : ℕ) → Keeps s m cleaned own own t
+  pub clean-keeps : (t : ℕ) → Keeps s m cleaned own own all t
   unfolding effectShared
   clean-keeps t = record { mound = clean-mound; rely = clean-relies; kept = λ u x is h. h }
 
@@ -503,7 +503,7 @@ module _ (s : Shape) (m : Shared) (own : ℕ → ℕ) (g : Mound s m own) (n : �
   clean-counts i = counted-same s m cleaned own (g .held) refl refl clean-first i
 
 -- A put begins.
-module _ (s : Shape) (m m′ : Shared) (own own′ : ℕ → ℕ) (g : Mound s m own) (t c : ℕ) (lt : 1 ≤ t) (ut : t ≤ s .threads) (some : 1 ≤ c)
+module _ (s : Shape) (m m′ : Shared) (own own′ : ℕ → ℕ) {all : ℕ} (g : Mound s m own all) (t c : ℕ) (lt : 1 ≤ t) (ut : t ≤ s .threads) (some : 1 ≤ c)
     (free : m .free ≡ c) (others : (d : ℕ) → (d ≡ c → ⊥) → m′ .cell d ≡ m .cell d) (onto : m′ .cell c .next ≡ own t)
     (left : m′ .free ≡ m .cell c .next) (nodes : m′ .node ≡ m .node) (depth : m′ .depth ≡ m .depth) (now : own′ t ≡ c)
     (still : (u : ℕ) → (u ≡ t → ⊥) → own′ u ≡ own u) where
@@ -522,7 +522,7 @@ module _ (s : Shape) (m m′ : Shared) (own own′ : ℕ → ℕ) (g : Mound s m
   begin-relies : Rely m m′
   begin-relies = rely-same m m′ (omega (arith, depth)) begin-reads
 
-  begin-mound : Mound s m′ own′
+  begin-mound : Mound s m′ own′ all
   begin-mound =
       record {
         held = held-begin s m m′ own own′ (g .held) t c lt ut some free others onto left nodes now still;
@@ -540,7 +540,7 @@ module _ (s : Shape) (m m′ : Shared) (own own′ : ℕ → ℕ) (g : Mound s m
   pub begin-counts : (i : Item) → counted s m′ i ≡ counted s m i
   begin-counts i = counted-begin s m m′ own own′ (g .held) t c lt ut some free others onto left nodes now still i
 
-  pub begin-keeps : Keeps s m m′ own own′ t
+  pub begin-keeps : Keeps s m m′ own own′ all t
   begin-keeps =
       record {
         mound = begin-mound;

@@ -1,5 +1,5 @@
--- Which list, thread or free chain holds each cell: every cell is held once, lists never fall, and together they are all C cells. What a
--- beginning, a push, a pop and an exchange make of it, and of the tree's count. Assumes nothing.
+-- Which list, thread or free chain holds a cell: none is held twice, lists never fall, and the cells held are so many, which every effect keeps.
+-- What a beginning, a push, a pop and an exchange make of it, and of the tree's count. Assumes nothing.
 use Prim.Native.Nat.{ℕ, _+_, _*_, _/_, _%_, _≤_}
 use native.Mathlib.Decide.{ℕ-discrete}
 use native.Mathlib.Omega.{arith}
@@ -69,21 +69,23 @@ nodeLength list n = length (list (2 * n))
 abbrev pub threadLength : (ℕ → List ℕ) → ℕ → ℕ
 threadLength list t = length (list (2 * t + 1))
 
--- m's cells, with each thread's own cell
-pub record Held (s : Shape) (m : Shared) (own : ℕ → ℕ) : Type 0 where
+-- m's free cells, the tree's and those in the chains from each thread's own cell: `all` together. Of C cells there may be others, which this
+-- queue does not hold; all cells are accounted for where `all` is C.
+pub record Held (s : Shape) (m : Shared) (own : ℕ → ℕ) (all : ℕ) : Type 0 where
   pub owner : ℕ → ℕ
   pub rank : ℕ → ℕ
   pub list : ℕ → List ℕ
   pub chains : Chains (m .cell) owner rank (heads (m .free) (m .node) own) list
   pub sorted : (n : ℕ) → 1 ≤ n → Sorted (items (m .cell) (list (2 * n)))
-  pub total : length (list 0) + sum (nodeLength list) (nodeCount s) + sum (threadLength list) (s .threads) ≡ s .cells
+  pub total : length (list 0) + sum (nodeLength list) (nodeCount s) + sum (threadLength list) (s .threads) ≡ all
+  pub few : all ≤ s .cells
 
 -- the tree's count of i
 abbrev pub counted : Shape → Shared → Item → ℕ
 counted s m i = inNodes m (sameItem i) (s .cells) (nodeCount s)
 
 -- What holds of the tree.
-module _ (s : Shape) (m : Shared) (own : ℕ → ℕ) (h : Held s m own) where
+module _ (s : Shape) (m : Shared) (own : ℕ → ℕ) {all : ℕ} (h : Held s m own all) where
   -- holder o's chain, from its first cell c
   chain-from : (o c : ℕ) → heads (m .free) (m .node) own o ≡ c → Chain (m .cell) (h .owner) (h .rank) o c (h .list o)
   chain-from o c e = subst (λ c. Chain (m .cell) (h .owner) (h .rank) o c (h .list o)) e (h .chains o)
@@ -98,7 +100,7 @@ module _ (s : Shape) (m : Shared) (own : ℕ → ℕ) (h : Held s m own) where
   thread-chain t = chain-from (2 * t + 1) (own t) (head-thread (m .free) (m .node) own t)
 
   pub few-cells : (n : ℕ) → 1 ≤ n → n ≤ nodeCount s → length (h .list (2 * n)) ≤ s .cells
-  few-cells n p q = let a = sum-has (nodeLength (h .list)) (nodeCount s) n p q in omega (arith, a, h .total)
+  few-cells n p q = let a = sum-has (nodeLength (h .list)) (nodeCount s) n p q in omega (arith, a, h .total, h .few)
 
   pub counts : (test : Item → Bool) → inNodes m test (s .cells) (nodeCount s) ≡ sum (inChain (m .cell) (h .list) test) (nodeCount s)
   counts test =
@@ -163,8 +165,8 @@ module _ (s : Shape) (m : Shared) (own : ℕ → ℕ) (h : Held s m own) where
   rest-stays cell′ t l others = tail-stays cell′ (thread-chain t) l others
 
 -- The same lists in the same cells.
-pub held-same : (s : Shape) (m m′ : Shared) (own : ℕ → ℕ) → Held s m own → m′ .cell ≡ m .cell → m′ .free ≡ m .free
-    → ((n : ℕ) → m′ .node n .first ≡ m .node n .first) → Held s m′ own
+pub held-same : (s : Shape) (m m′ : Shared) (own : ℕ → ℕ) {all : ℕ} → Held s m own all → m′ .cell ≡ m .cell → m′ .free ≡ m .free
+    → ((n : ℕ) → m′ .node n .first ≡ m .node n .first) → Held s m′ own all
 held-same s m m′ own h ec ef en =
     record {
       owner = h .owner;
@@ -177,9 +179,10 @@ held-same s m m′ own h ec ef en =
           (h .chains o));
       sorted = λ n p. subst (λ cell. Sorted (items cell (h .list (2 * n)))) (sym ec) (h .sorted n p);
       total = h .total;
+      few = h .few;
     }
 
-pub counted-same : (s : Shape) (m m′ : Shared) (own : ℕ → ℕ) → Held s m own → m′ .cell ≡ m .cell → m′ .free ≡ m .free
+pub counted-same : (s : Shape) (m m′ : Shared) (own : ℕ → ℕ) {all : ℕ} → Held s m own all → m′ .cell ≡ m .cell → m′ .free ≡ m .free
     → ((n : ℕ) → m′ .node n .first ≡ m .node n .first) → (i : Item) → counted s m′ i ≡ counted s m i
 unfolding inChain sum held-same
 counted-same s m m′ own h ec ef en i =
@@ -188,7 +191,7 @@ counted-same s m m′ own h ec ef en i =
     ∙ sym (counts s m own h (sameItem i))
 
 -- A put begins: the first free cell c goes to the front of thread t's chain.
-module _ (s : Shape) (m m′ : Shared) (own own′ : ℕ → ℕ) (h : Held s m own) (t c : ℕ) (lt : 1 ≤ t) (ut : t ≤ s .threads) (some : 1 ≤ c)
+module _ (s : Shape) (m m′ : Shared) (own own′ : ℕ → ℕ) {all : ℕ} (h : Held s m own all) (t c : ℕ) (lt : 1 ≤ t) (ut : t ≤ s .threads) (some : 1 ≤ c)
     (free : m .free ≡ c) (others : (d : ℕ) → (d ≡ c → ⊥) → m′ .cell d ≡ m .cell d) (onto : m′ .cell c .next ≡ own t)
     (left : m′ .free ≡ m .cell c .next) (nodes : m′ .node ≡ m .node) (now : own′ t ≡ c)
     (still : (u : ℕ) → (u ≡ t → ⊥) → own′ u ≡ own u) where
@@ -202,7 +205,7 @@ module _ (s : Shape) (m m′ : Shared) (own own′ : ℕ → ℕ) (h : Held s m 
       (λ x n k. head-still (m .free) (m .node) own (m′ .free) (m′ .node) own′ x (λ z. absurd (n z)) (λ y p e. ap (λ f. f y .first) nodes)
       (λ u e. still u (λ z. k (e ∙ ap (λ y. 2 * y + 1) z))))
 
-  pub held-begin : Held s m′ own′
+  pub held-begin : Held s m′ own′ all
   held-begin =
       let mv = begin-move in
       record {
@@ -217,6 +220,7 @@ module _ (s : Shape) (m m′ : Shared) (own own′ : ℕ → ℕ) (h : Held s m 
             let b = sum-but (threadLength (h .list)) (threadLength (mv .lists)) (s .threads) t lt ut
             (λ x p n. mv .length-x (2 * x + 1) (λ z. omega arith) (λ z. n (omega arith))) in
             omega (arith, a, b, mv .length-q, mv .length-o, h .total);
+        few = h .few;
       }
 
   pub counted-begin : (i : Item) → counted s m′ i ≡ counted s m i
@@ -229,7 +233,7 @@ module _ (s : Shape) (m m′ : Shared) (own own′ : ℕ → ℕ) (h : Held s m 
       ∙ sym (counts s m own h same)
 
 -- A push: the head c of thread t's chain becomes that of node n's list.
-module _ (s : Shape) (m m′ : Shared) (own own′ : ℕ → ℕ) (h : Held s m own) (t n c : ℕ) (lt : 1 ≤ t) (ut : t ≤ s .threads) (ln : 1 ≤ n)
+module _ (s : Shape) (m m′ : Shared) (own own′ : ℕ → ℕ) {all : ℕ} (h : Held s m own all) (t n c : ℕ) (lt : 1 ≤ t) (ut : t ≤ s .threads) (ln : 1 ≤ n)
     (un : n ≤ nodeCount s) (some : 1 ≤ c) (mine : own t ≡ c)
     (others : (d : ℕ) → (d ≡ c → ⊥) → m′ .cell d ≡ m .cell d) (kept : m′ .cell c .item ≡ m .cell c .item)
     (onto : m′ .cell c .next ≡ m .node n .first) (free : m′ .free ≡ m .free) (first : m′ .node n .first ≡ c)
@@ -246,7 +250,7 @@ module _ (s : Shape) (m m′ : Shared) (own own′ : ℕ → ℕ) (h : Held s m 
       (λ x a b. head-still (m .free) (m .node) own (m′ .free) (m′ .node) own′ x (λ z. free)
       (λ y p e. elsewhere y (λ z. b (e ∙ ap (λ k. 2 * k) z))) (λ u e. still u (λ z. a (e ∙ ap (λ k. 2 * k + 1) z))))
 
-  pub held-push : Held s m′ own′
+  pub held-push : Held s m′ own′ all
   unfolding valueOf readNode
   held-push =
       let mv = push-move in
@@ -263,6 +267,7 @@ module _ (s : Shape) (m m′ : Shared) (own own′ : ℕ → ℕ) (h : Held s m 
             (λ x p q. mv .length-x (2 * x + 1) (λ z. q (omega arith)) (λ z. omega arith)) in
             let z : length (mv .lists 0) ≡ length (h .list 0) = mv .length-x 0 (λ z. omega arith) (λ z. omega arith) in
             omega (arith, a, b, z, mv .length-q, mv .length-o, h .total);
+        few = h .few;
       }
     where
       here : Sorted (m .cell c .item ∷ items (m .cell) (h .list (2 * n)))
@@ -288,7 +293,7 @@ module _ (s : Shape) (m m′ : Shared) (own own′ : ℕ → ℕ) (h : Held s m 
       omega (arith, counts s m′ own′ held-push same, counts s m own h same, a, b)
 
 -- A pop: the head c of the root's list goes to the front of the free chain.
-module _ (s : Shape) (m m′ : Shared) (own : ℕ → ℕ) (h : Held s m own) (c : ℕ) (root : 1 ≤ nodeCount s) (some : 1 ≤ c)
+module _ (s : Shape) (m m′ : Shared) (own : ℕ → ℕ) {all : ℕ} (h : Held s m own all) (c : ℕ) (root : 1 ≤ nodeCount s) (some : 1 ≤ c)
     (head : m .node 1 .first ≡ c) (others : (d : ℕ) → (d ≡ c → ⊥) → m′ .cell d ≡ m .cell d) (onto : m′ .cell c .next ≡ m .free)
     (free : m′ .free ≡ c) (first : m′ .node 1 .first ≡ m .cell c .next)
     (elsewhere : (x : ℕ) → (x ≡ 1 → ⊥) → m′ .node x .first ≡ m .node x .first) where
@@ -302,7 +307,7 @@ module _ (s : Shape) (m m′ : Shared) (own : ℕ → ℕ) (h : Held s m own) (c
       (λ x a b. head-still (m .free) (m .node) own (m′ .free) (m′ .node) own x (λ z. absurd (b z))
       (λ y p e. elsewhere y (λ z. a (e ∙ ap (λ k. 2 * k) z))) (λ u e. refl))
 
-  pub held-pop : Held s m′ own
+  pub held-pop : Held s m′ own all
   held-pop =
       let mv = pop-move in
       record {
@@ -317,6 +322,7 @@ module _ (s : Shape) (m m′ : Shared) (own : ℕ → ℕ) (h : Held s m own) (c
             let b = sum-same (threadLength (h .list)) (threadLength (mv .lists)) (s .threads)
             (λ k l u. mv .length-x (2 * k + 1) (λ z. omega arith) (λ z. omega arith)) in
             omega (arith, a, b, mv .length-q, mv .length-o, h .total);
+        few = h .few;
       }
     where
       go : (mv : Moved (m .cell) (m′ .cell) (heads (m′ .free) (m′ .node) own) (h .list) 2 0 c) (k : ℕ) → 1 ≤ k → Dec (k ≡ 1)
@@ -338,7 +344,7 @@ module _ (s : Shape) (m m′ : Shared) (own : ℕ → ℕ) (h : Held s m own) (c
       omega (arith, counts s m′ own held-pop same, counts s m own h same, a, b)
 
 -- An exchange of the lists of nodes n and k.
-module _ (s : Shape) (m m′ : Shared) (own : ℕ → ℕ) (h : Held s m own) (n k : ℕ) (ln : 1 ≤ n) (un : n ≤ nodeCount s) (lk : 1 ≤ k)
+module _ (s : Shape) (m m′ : Shared) (own : ℕ → ℕ) {all : ℕ} (h : Held s m own all) (n k : ℕ) (ln : 1 ≤ n) (un : n ≤ nodeCount s) (lk : 1 ≤ k)
     (uk : k ≤ nodeCount s) (apart : n ≡ k → ⊥) (cells : m′ .cell ≡ m .cell) (free : m′ .free ≡ m .free)
     (to-n : m′ .node n .first ≡ m .node k .first) (to-k : m′ .node k .first ≡ m .node n .first)
     (elsewhere : (x : ℕ) → (x ≡ n → ⊥) → (x ≡ k → ⊥) → m′ .node x .first ≡ m .node x .first) where
@@ -354,7 +360,7 @@ module _ (s : Shape) (m m′ : Shared) (own : ℕ → ℕ) (h : Held s m own) (n
   list-x : (x : ℕ) → (x ≡ n → ⊥) → (x ≡ k → ⊥) → exchange-lists .lists (2 * x) ≡ h .list (2 * x)
   list-x x p q = exchange-lists .list-x (2 * x) (λ z. p (omega arith)) (λ z. q (omega arith))
 
-  pub held-exchange : Held s m′ own
+  pub held-exchange : Held s m′ own all
   held-exchange =
       let ex = exchange-lists in
       record {
@@ -372,6 +378,7 @@ module _ (s : Shape) (m m′ : Shared) (own : ℕ → ℕ) (h : Held s m own) (n
             (λ u l q. ap length (ex .list-x (2 * u + 1) (λ z. omega arith) (λ z. omega arith))) in
             let z : length (ex .lists 0) ≡ length (h .list 0) = ap length (ex .list-x 0 (λ z. omega arith) (λ z. omega arith)) in
             omega (arith, a, b, z, h .total);
+        few = h .few;
       }
     where
       go : (x : ℕ) → 1 ≤ x → Dec (x ≡ n) → Dec (x ≡ k) → Sorted (items (m .cell) (exchange-lists .lists (2 * x)))

@@ -151,7 +151,7 @@ children-deeper n d p few e =
     omega (arith, a .least, b, c)
 
 -- A thread t in its place, with the record th, on the mound m.
-module _ (s : Shape) (r : InRange s) (m : Shared) (own : ℕ → ℕ) (g : Mound s m own) (t : ℕ) (th : Thread) (mine : own t ≡ th .own)
+module _ (s : Shape) (r : InRange s) (m : Shared) (own : ℕ → ℕ) {all : ℕ} (g : Mound s m own all) (t : ℕ) (th : Thread) (mine : own t ≡ th .own)
     (op : Operation) where
   abbrev Fits : Plan → Type 0
   Fits = Planned s m own t (th .own) op

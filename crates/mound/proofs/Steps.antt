@@ -37,8 +37,9 @@ use Rattle.mound.proofs.Sorted.{AtMost, Proper, same-item, item-same, v
 abbrev pub owns : (ℕ → Thread) → ℕ → ℕ
 owns th t = th t .own
 
-pub record Invariant (s : Shape) (m : Shared) (th : ℕ → Thread) (l : Ledger) : Type 0 where
-  pub mound : Mound s m (owns th)
+-- `all` is how many cells tree, threads and free chain hold, which no step changes
+pub record Invariant (s : Shape) (m : Shared) (th : ℕ → Thread) (l : Ledger) (all : ℕ) : Type 0 where
+  pub mound : Mound s m (owns th) all
   pub at : (t : ℕ) → At s m (th t) (l .operation t) (th t .place)
   pub bag : (i : Item) → l .bag i ≡ counted s m i
 
@@ -72,7 +73,7 @@ one-less bag i j = ap (λ q. pick q (bag j - 1) (bag j)) (same-item-either i j) 
     go false = omega arith
 
 -- What the root says of the tree.
-module _ (s : Shape) (m : Shared) (own : ℕ → ℕ) (g : Mound s m own) (clean : m .node 1 .dirty ≡ 0) where
+module _ (s : Shape) (m : Shared) (own : ℕ → ℕ) {all : ℕ} (g : Mound s m own all) (clean : m .node 1 .dirty ≡ 0) where
   root-least : (n : ℕ) → 1 ≤ n → AtMost (val m 1) (val m n)
   root-least n p = g .ordered 1 n (omega arith) (root-above n n (omega arith) p) clean
 
@@ -95,7 +96,7 @@ module _ (s : Shape) (m : Shared) (own : ℕ → ℕ) (g : Mound s m own) (clean
           absurd (true≢false (sym (subst (λ i. AtMost i (val m (b .node))) top (root-least (b .node) (b .some))) ∙ b .proper))
 
 -- the root's head is held, and is least of all
-module _ (s : Shape) (m : Shared) (own : ℕ → ℕ) (g : Mound s m own) where
+module _ (s : Shape) (m : Shared) (own : ℕ → ℕ) {all : ℕ} (g : Mound s m own all) where
   root-held : 1 ≤ m .node 1 .first → 1 ≤ counted s m (m .cell (m .node 1 .first) .item)
   root-held h = head-held s m own (g .held) 1 (omega arith) (in-tree s m own g 1 (root-there s m own g)) h
 
@@ -106,8 +107,8 @@ module _ (s : Shape) (m : Shared) (own : ℕ → ℕ) (g : Mound s m own) where
       (least-of-all s m own g clean j c)
 
 -- what a step leaves, beside the thread's own facts
-pub record Stepped (s : Shape) (m m′ : Shared) (own own′ : ℕ → ℕ) (l l′ : Ledger) (t : ℕ) (op′ : Operation) : Type 0 where
-  pub keeps : Keeps s m m′ own own′ t
+pub record Stepped (s : Shape) (m m′ : Shared) (own own′ : ℕ → ℕ) (l l′ : Ledger) (all t : ℕ) (op′ : Operation) : Type 0 where
+  pub keeps : Keeps s m m′ own own′ all t
   pub others : (u : ℕ) → (u ≡ t → ⊥) → l′ .operation u ≡ l .operation u
   pub now : l′ .operation t ≡ op′
   pub bag : (i : Item) → l′ .bag i ≡ counted s m′ i
@@ -143,19 +144,19 @@ same-own own own′ t others e = fun-ext λ u. go u (ℕ-discrete u t)
     go u (no n) = others u n
 
 -- thread t's effect e with answer a
-module _ (s : Shape) (m : Shared) (own own′ : ℕ → ℕ) (l : Ledger) (g : Mound s m own) (bag : (i : Item) → l .bag i ≡ counted s m i)
+module _ (s : Shape) (m : Shared) (own own′ : ℕ → ℕ) (l : Ledger) {all : ℕ} (g : Mound s m own all) (bag : (i : Item) → l .bag i ≡ counted s m i)
     (t : ℕ) (lt : 1 ≤ t) (ut : t ≤ s .threads) (still-own : (u : ℕ) → (u ≡ t → ⊥) → own′ u ≡ own u) where
   abbrev later : Operation → Ledger
   later op = record { bag = l .bag; operation = upd (l .operation) t op }
 
   -- an effect that moves no cell: the operation stays, or changes with the count as it is
-  quiet : (e : Effect) (l′ : Ledger) (op′ : Operation) → own′ t ≡ own t → Keeps s m (effectShared m e) own own t
+  quiet : (e : Effect) (l′ : Ledger) (op′ : Operation) → own′ t ≡ own t → Keeps s m (effectShared m e) own own all t
       → ((i : Item) → counted s (effectShared m e) i ≡ counted s m i) → ((i : Item) → l′ .bag i ≡ l .bag i)
       → ((u : ℕ) → (u ≡ t → ⊥) → l′ .operation u ≡ l .operation u) → l′ .operation t ≡ op′
-      → Stepped s m (effectShared m e) own own′ l l′ t op′
+      → Stepped s m (effectShared m e) own own′ l l′ all t op′
   quiet e l′ op′ eo keeps counts same others now =
       record {
-        keeps = subst (λ o. Keeps s m (effectShared m e) own o t) (sym (same-own own own′ t still-own eo)) keeps;
+        keeps = subst (λ o. Keeps s m (effectShared m e) own o all t) (sym (same-own own own′ t still-own eo)) keeps;
         others = others;
         now = now;
         bag = λ i. same i ∙ bag i ∙ sym (counts i);
@@ -164,11 +165,11 @@ module _ (s : Shape) (m : Shared) (own own′ : ℕ → ℕ) (l : Ledger) (g : M
   pub record Step (e : Effect) (a : Answer) (op′ : Operation) : Type 0 where
     pub after : Ledger
     pub follows : Follows (effectTells (headOfRoot m) t a e) l after
-    pub stepped : Stepped s m (effectShared m e) own own′ l after t op′
+    pub stepped : Stepped s m (effectShared m e) own own′ l after all t op′
     -- what the thread still holds is as before
     pub mine : ItemsStay (m .cell) (effectShared m e .cell) (own′ t)
 
-  nothing-keeps : Keeps s m (effectShared m Nothing) own own t
+  nothing-keeps : Keeps s m (effectShared m Nothing) own own all t
   unfolding effectShared
   nothing-keeps = record { mound = g; rely = rely-same m m (omega arith) (λ x p. refl); kept = λ u n is h. h }
 
@@ -241,7 +242,7 @@ module _ (s : Shape) (m : Shared) (own own′ : ℕ → ℕ) (l : Ledger) (g : M
               });
           stepped =
               record {
-                keeps = subst (λ o. Keeps s m (effectShared m (Pop v c)) own o t) (sym (same-own own own′ t still-own ow)) (pop-keeps s m own g v c al t);
+                keeps = subst (λ o. Keeps s m (effectShared m (Pop v c)) own o all t) (sym (same-own own own′ t still-own ow)) (pop-keeps s m own g v c al t);
                 others = λ u y. upd-other (l .operation) t u (holding i) y;
                 now = upd-same (l .operation) t (holding i) ∙ ap holding (sym ic) ∙ sym en;
                 bag = λ j.
@@ -280,9 +281,9 @@ module _ (s : Shape) (m : Shared) (own own′ : ℕ → ℕ) (l : Ledger) (g : M
         }
 
 -- The facts of every thread after a step of thread t.
-module _ (s : Shape) (m m′ : Shared) (th : ℕ → Thread) (l l′ : Ledger) (t : ℕ) (v : Thread) (op′ : Operation)
+module _ (s : Shape) (m m′ : Shared) (th : ℕ → Thread) (l l′ : Ledger) {all : ℕ} (t : ℕ) (v : Thread) (op′ : Operation)
     (at : (u : ℕ) → At s m (th u) (l .operation u) (th u .place))
-    (st : Stepped s m m′ (owns th) (owns (upd th t v)) l l′ t op′) where
+    (st : Stepped s m m′ (owns th) (owns (upd th t v)) l l′ all t op′) where
   module _ (now : At s m′ v op′ (v .place)) where
     all-at : (u : ℕ) → Dec (u ≡ t) → At s m′ (upd th t v u) (l′ .operation u) (upd th t v u .place)
     all-at u (yes e) =
@@ -294,21 +295,21 @@ module _ (s : Shape) (m m′ : Shared) (th : ℕ → Thread) (l l′ : Ledger) (
         (subst (λ o. At s m′ (th u) o (th u .place)) (sym (st .others u n))
         (stays m m′ (st .keeps .rely) (th u) (l .operation u) (st .keeps .kept u n) s (th u .place) (at u)))
 
-    pub stepped-invariant : Invariant s m′ (upd th t v) l′
+    pub stepped-invariant : Invariant s m′ (upd th t v) l′ all
     stepped-invariant = record { mound = st .keeps .mound; at = λ u. all-at u (ℕ-discrete u t); bag = st .bag }
 
   -- a turn's own facts were found before its effect
-  pub turned-invariant : At s m v op′ (v .place) → ItemsStay (m .cell) (m′ .cell) (v .own) → Invariant s m′ (upd th t v) l′
+  pub turned-invariant : At s m v op′ (v .place) → ItemsStay (m .cell) (m′ .cell) (v .own) → Invariant s m′ (upd th t v) l′ all
   turned-invariant now mine = stepped-invariant (stays m m′ (st .keeps .rely) v op′ mine s (v .place) now)
 
 -- what follows where this was told: the ledger after it, and the invariant of what was left
-pub record NextState (s : Shape) (l : Ledger) (told : Told) (m : Shared) (th : ℕ → Thread) : Type 0 where
+pub record NextState (s : Shape) (l : Ledger) (all : ℕ) (told : Told) (m : Shared) (th : ℕ → Thread) : Type 0 where
   pub next : Ledger
   pub follows : Follows told l next
-  pub holds : Invariant s m th next
+  pub holds : Invariant s m th next all
 
 -- Thread t's turns and beginnings.
-module _ (s : Shape) (m : Shared) (th : ℕ → Thread) (l : Ledger) (inv : Invariant s m th l) (t : ℕ) (lt : 1 ≤ t) (ut : t ≤ s .threads) where
+module _ (s : Shape) (m : Shared) (th : ℕ → Thread) (l : Ledger) {all : ℕ} (inv : Invariant s m th l all) (t : ℕ) (lt : 1 ≤ t) (ut : t ≤ s .threads) where
   -- own cells where thread t's record is v
   own-now : (v : Thread) → upd th t v t .own ≡ v .own
   own-now v = ap (λ x. x .own) (upd-same th t v)
@@ -320,7 +321,7 @@ module _ (s : Shape) (m : Shared) (th : ℕ → Thread) (l : Ledger) (inv : Inva
   pub turn-moves : (p : Plan) (op′ : Operation) → Allowed s m (owns th) t (p .effect)
       → Speaks m (l .operation t) op′ (p .effect) (p .answer) → OwnAfter m (p .effect) (th t .own) (p .thread .own)
       → At s m (p .thread) op′ (p .thread .place)
-      → NextState s l (effectTells (headOfRoot m) t (p .answer) (p .effect)) (effectShared m (p .effect)) (upd th t (p .thread))
+      → NextState s l all (effectTells (headOfRoot m) t (p .answer) (p .effect)) (effectShared m (p .effect)) (upd th t (p .thread))
   turn-moves p op′ al sp ow at =
       let v = p .thread in
       let st = step s m (owns th) (owns (upd th t v)) l (inv .mound) (inv .bag) t lt ut (own-still v) (l .operation t) op′ refl (p .effect)
@@ -341,7 +342,7 @@ module _ (s : Shape) (m : Shared) (th : ℕ → Thread) (l : Ledger) (inv : Inva
     begins op = record { bag = l .bag; operation = upd (l .operation) t op }
 
     -- a take begins
-    pub take-starts : NextState s l (beginsTake t) m (upd th t (begunTake (th t)))
+    pub take-starts : NextState s l all (beginsTake t) m (upd th t (begunTake (th t)))
     unfolding begins begunTake atPlace
     take-starts =
         let v = begunTake (th t) in
@@ -353,7 +354,7 @@ module _ (s : Shape) (m : Shared) (th : ℕ → Thread) (l : Ledger) (inv : Inva
               (record {
                 keeps =
                     record {
-                      mound = subst (Mound s m) (sym (same-own (owns th) (owns (upd th t v)) t (own-still v) (own-now v))) (inv .mound);
+                      mound = subst (λ o. Mound s m o all) (sym (same-own (owns th) (owns (upd th t v)) t (own-still v) (own-now v))) (inv .mound);
                       rely = rely-same m m (omega arith) (λ y p. refl);
                       kept = λ u n is h. h;
                     };
@@ -379,7 +380,7 @@ module _ (s : Shape) (m : Shared) (th : ℕ → Thread) (l : Ledger) (inv : Inva
       filled : begun .cell (m .free) ≡ record { item = i; next = 0 }
       filled = upd-same (m .cell) (m .free) (record { item = i; next = 0 })
 
-      put-stepped : Stepped s m begun (owns th) (owns (upd th t putter)) l (begins (putting i)) t (putting i)
+      put-stepped : Stepped s m begun (owns th) (owns (upd th t putter)) l (begins (putting i)) all t (putting i)
       unfolding begins
       put-stepped =
           let elsewhere : (d : ℕ) → (d ≡ m .free → ⊥) → begun .cell d ≡ m .cell d = λ d n. upd-other (m .cell) (m .free) d _ n in
@@ -395,7 +396,7 @@ module _ (s : Shape) (m : Shared) (th : ℕ → Thread) (l : Ledger) (inv : Inva
                 refl refl refl own-cell (own-still putter) j);
           }
 
-      pub put-starts : NextState s l (beginsPut t i) begun (upd th t putter)
+      pub put-starts : NextState s l all (beginsPut t i) begun (upd th t putter)
       unfolding begins begunPut atPlace withOwn withItem
       put-starts =
           record {
