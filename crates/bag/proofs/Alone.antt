@@ -37,6 +37,7 @@ use Rattle.access.specs.Plan.{plan, moved, onTo, refused}
 use Rattle.access.specs.Read.{isDirty, isNode, isSpent, readNode, sameNode, updated}
 use Rattle.access.specs.declared.effect.Effect.the-variants.{Nothing, Pop, Exchange, Clean}
 use Rattle.access.specs.declared.plan.Plan.{Plan}
+use Rattle.access.proofs.ReadLaws.{same-itself, updated-dirty, updated-first}
 use Rattle.readable.proofs.Laws.{Good}
 use Rattle.extract.specs.Extract.{rootRead, readRoot, headRemoved, removeHead}
 use Rattle.moundify.specs.Moundify.{returning, mendReadNode, depthRead, mendReadDepth, mendReadLeft, lessBelow, childLess, childrenRead, mendReadRight, exchangeAt, nodeAndChildSame, exchangeWith, cleanAt, mendClean}
@@ -63,10 +64,7 @@ popped m = freed (withoutHead m) (m .node 1 .first)
 
 -- a comparison with a copy that still holds
 same-copy : {n q : Node} → q ≡ n → sameNode n q ≡ true
-unfolding sameNode
-same-copy {n} {q} e =
-    ap (sameNode n) e
-    ∙ rw (eq-eqb (n .first) (n .first) refl, eq-eqb (n .dirty) (n .dirty) refl, eq-eqb (n .counter) (n .counter) refl) refl
+same-copy {n} {q} e = ap (sameNode n) e ∙ same-itself n
 
 not-dirty : {n q : Node} → q ≡ n → n .dirty ≡ 0 → isDirty q ≡ false
 unfolding isDirty
@@ -215,7 +213,7 @@ module _ (s : Shape) (t : ℕ) (t-least : 1 ≤ t) (t-most : t ≤ s .threads) w
     -- M6: the node becomes clean, and the take answers.
     clean-rests : (l spent : ℕ) (m : Shared) (u : Thread) → Mending l m u (MendClean 0) → u .copies .first ≡ readNode m (u .node) → l ≡ j
         → spent + 1 ≡ end → RestsFrom spent m u
-    unfolding decide mendClean cleanAt returning returnAnswer plan pick sharedIn turnAnswer effectShared updated readNode
+    unfolding decide mendClean cleanAt returning returnAnswer plan pick sharedIn turnAnswer effectShared readNode
     clean-rests l spent m u h copied there exact =
         let n = u .copies .first .node in
         let v = updated n (n .first) 0 in
@@ -231,7 +229,7 @@ module _ (s : Shape) (t : ℕ) (t-least : 1 ≤ t) (t-most : t ≤ s .threads) w
         turn-shared s b t c g (ap staysPut answered) ∙ (λ i. effectShared (em i) (e i .effect))
         in
         let begins : upd (m .node) (u .node) v (u .node) .first ≡ first =
-        ap (λ x. x .first) (upd-same (m .node) (u .node) v ∙ ap (λ x. updated x (x .first) 0) same) ∙ h .list
+        ap (λ x. x .first) (upd-same (m .node) (u .node) v) ∙ updated-first n (n .first) 0 ∙ ap (λ x. x .first) same ∙ h .list
         in
         record {
           node = u .node;
@@ -240,7 +238,7 @@ module _ (s : Shape) (t : ℕ) (t-least : 1 ≤ t) (t-most : t ≤ s .threads) w
           mends = ap (λ x. x .node) eu;
           dirty = ap (λ x. x .node (u .node) .dirty) em ∙ h .dirty;
           others = λ x k. ap (λ y. y .node x .dirty) em ∙ h .clean x k;
-          clean = λ x p q. ap (λ y. y .node x .dirty) after ∙ clean-now (m .node) (u .node) v refl (h .clean) x;
+          clean = λ x p q. ap (λ y. y .node x .dirty) after ∙ clean-now (m .node) (u .node) v (updated-dirty n (n .first) 0) (h .clean) x;
           list =
               behind
               ∙ ap (λ xs. rootHead (frameOf s) b₀ ∷ xs)
@@ -279,14 +277,14 @@ module _ (s : Shape) (t : ℕ) (t-least : 1 ≤ t) (t-most : t ≤ s .threads) w
         exchange-rests : (c : ℕ) (k : Node) → 2 * u .node ≤ c → c ≤ 2 * u .node + 1 → c ≤ nodeCount s → k ≡ m .node c
             → l + 1 + levelsDown (val m) (val m (u .node)) (d - (l + 1)) c ≡ j
             → ((x : ℕ) → decide s m u x ≡ exchangeWith s m u 0 c k) → RestsFrom (5 * l + 4) m u
-        unfolding exchangeWith exchangeAt nodeAndChildSame isNode effectShared plan pick mending atPlace withNode updated below readNode
+        unfolding exchangeWith exchangeAt nodeAndChildSame isNode effectShared plan pick mending atPlace withNode below readNode
         exchange-rests c k lo hi there second on decides =
             let n = u .copies .first .node in
             let v = updated n (k .first) 0 in
             let w = updated k (n .first) 1 in
             let z = h .some in
             let same : n ≡ m .node (u .node) = ap (λ q. q .node) copied in
-            let gets : w .first ≡ m .node (u .node) .first = ap (λ x. x .first) same in
+            let gets : w .first ≡ m .node (u .node) .first = updated-first k (n .first) 1 ∙ ap (λ x. x .first) same in
             moves (5 * l + 4) m u (omega arith) (isSpent n || isSpent k) (plan (Exchange (u .node) v c w) (mending u c 0) Moved)
             (λ x. decides x
             ∙ rw (ne-eqb (u .node) 0 (λ e. omega arith), is-between 1 c (nodeCount s) (omega arith) there, same-copy same, same-copy second) refl)
@@ -302,8 +300,8 @@ module _ (s : Shape) (t : ℕ) (t-least : 1 ≤ t) (t-most : t ≤ s .threads) w
               at-level = level-child (u .node) c z lo hi (omega (arith, sizes s (r .depth-most))) ∙ ap (λ y. y + 1) (h .at-level);
               above = omega arith;
               depth = h .depth;
-              dirty = ap (λ y. y .dirty) (upd-same (upd (m .node) (u .node) v) c w);
-              clean = clean-but (m .node) (u .node) c v w refl (h .clean);
+              dirty = ap (λ y. y .dirty) (upd-same (upd (m .node) (u .node) v) c w) ∙ updated-dirty k (n .first) 1;
+              clean = clean-but (m .node) (u .node) c v w (updated-dirty n (k .first) 0) (h .clean);
               cells = h .cells;
               list = ap (λ y. y .first) (upd-same (upd (m .node) (u .node) v) c w) ∙ gets ∙ h .list;
               goes = ap (λ y. l + 1 + y) (levels-below c v w lo gets) ∙ on;
@@ -442,7 +440,7 @@ module _ (s : Shape) (t : ℕ) (t-least : 1 ≤ t) (t-most : t ≤ s .threads) w
         (taken : m .cell (m .node 1 .first) .item ≡ rootItem (frameOf s) b₀) (begins : m .cell (m .node 1 .first) .next ≡ first)
         (cells : popped m .cell ≡ cell) (goes : 1 + levelsDown (val (popped m)) (val (popped m) 1) (d - 1) 1 ≡ j) where
       head-rests : (u : Thread) → u .place ≡ RemoveHead → u .copies .first ≡ readNode m 1 → RestsFrom 4 m u
-      unfolding decide removeHead headRemoved effectShared plan pick mending atPlace withNode withAfter withResult updated level digits readNode popped withoutHead
+      unfolding decide removeHead headRemoved effectShared plan pick mending atPlace withNode withAfter withResult level digits readNode popped withoutHead
       head-rests u place copied =
           let q = u .copies .first in
           let v = updated (q .node) (q .head .next) 1 in
@@ -464,11 +462,15 @@ module _ (s : Shape) (t : ℕ) (t-least : 1 ≤ t) (t-most : t ≤ s .threads) w
             at-level = refl;
             above = some;
             depth = depth;
-            dirty = ap (λ n. n .dirty) (upd-same (m .node) 1 (updated (m .node 1) (m .cell (m .node 1 .first) .next) 1));
+            dirty =
+                ap (λ n. n .dirty) (upd-same (m .node) 1 (updated (m .node 1) (m .cell (m .node 1 .first) .next) 1))
+                ∙ updated-dirty (m .node 1) (m .cell (m .node 1 .first) .next) 1;
             clean = λ x n.
                 ap (λ y. y .dirty) (upd-other (m .node) 1 x (updated (m .node 1) (m .cell (m .node 1 .first) .next) 1) n) ∙ clean x;
             cells = cells;
-            list = ap (λ n. n .first) (upd-same (m .node) 1 (updated (m .node 1) (m .cell (m .node 1 .first) .next) 1)) ∙ begins;
+            list =
+                ap (λ n. n .first) (upd-same (m .node) 1 (updated (m .node 1) (m .cell (m .node 1 .first) .next) 1))
+                ∙ updated-first (m .node 1) (m .cell (m .node 1 .first) .next) 1 ∙ begins;
             goes = goes;
           })))
 

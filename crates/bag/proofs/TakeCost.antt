@@ -27,6 +27,7 @@ use Rattle.region.proofs.Views.{shared-setThread, threads-setThread}
 use Rattle.access.specs.Effect.{effectShared}
 use Rattle.access.specs.Order.{val, valueOf}
 use Rattle.access.specs.Read.{readNode, updated}
+use Rattle.access.proofs.ReadLaws.{updated-first}
 use Rattle.readable.specs.Readable.{readable, shapeIn}
 use Rattle.readable.proofs.Laws.{good}
 use Rattle.readable.proofs.Stores.{good-thread, good-within, thread-fit}
@@ -171,9 +172,10 @@ module _ (b : List ℕ) (t : ℕ) (choices : List ℕ) (r : readable b ≡ true)
       values-kept x l = ap valueOf (pop-others (shapeIn b) m own g (updated (m .node 1) second 1) c asks x (omega arith) (λ e. omega arith))
 
       root-kept : val (popped m) 1 ≡ val (withoutHead m) 1
-      unfolding popped withoutHead readNode updated
+      unfolding popped withoutHead readNode
       root-kept =
-          let begins : withoutHead m .node 1 .first ≡ second = ap (λ x. x .first) (upd-same (m .node) 1 (updated (m .node 1) second 1)) in
+          let begins : withoutHead m .node 1 .first ≡ second =
+          ap (λ x. x .first) (upd-same (m .node) 1 (updated (m .node 1) second 1)) ∙ updated-first (m .node 1) second 1 in
           ap (λ x. valueOf (record { node = withoutHead m .node 1; head = x }))
           (upd-other (m .cell) c (withoutHead m .node 1 .first) _
           (λ z. next-apart (node-chain (shapeIn b) m own (g .held) 1 (omega arith)) some (sym begins ∙ z)))

@@ -20,6 +20,7 @@ use Rattle.access.specs.Order.{val, valueOf}
 use Rattle.access.specs.Read.{readNode, updated}
 use Rattle.access.specs.declared.effect.Effect.the-variants.{Grow, Push, Pop, Exchange, Clean}
 use Rattle.access.proofs.OrderLaws.{item-refl, item-trans}
+use Rattle.access.proofs.ReadLaws.{updated-counter, updated-dirty, updated-first}
 use Rattle.mound.specs.Tree.{sameItem}
 use Rattle.mound.proofs.Chains.{ItemsStay}
 use Rattle.mound.proofs.Held.{Held, counted, first-owner, own-owner, free-owner, hand-stays, rest-stays, held-same, counted-same, held-begin, counted-begin, held-push, counted-push, held-pop, counted-pop, held-exchange, counted-exchange}
@@ -222,17 +223,17 @@ module _ (s : Shape) (m : Shared) (own own′ : ℕ → ℕ) {all : ℕ} (g : Mo
   push-node = upd-same (m .node) n v
 
   push-first : pushed .node n .first ≡ c
-  unfolding updated
-  push-first = ap (λ y. y .first) (push-node ∙ a .value)
+  push-first = ap (λ y. y .first) (push-node ∙ a .value) ∙ updated-first (m .node n) c (m .node n .dirty)
 
   push-dirty : (y : ℕ) → pushed .node y .dirty ≡ m .node y .dirty
-  unfolding effectShared updated
+  unfolding effectShared
   push-dirty y = go (ℕ-discrete y n)
     where
       go : Dec (y ≡ n) → upd (m .node) n v y .dirty ≡ m .node y .dirty
       go (yes e) =
           ap (λ z. upd (m .node) n v z .dirty) e
           ∙ ap (λ z. z .dirty) (upd-same (m .node) n v ∙ a .value)
+          ∙ updated-dirty (m .node n) c (m .node n .dirty)
           ∙ ap (λ z. m .node z .dirty) (sym e)
       go (no ne) = ap (λ z. z .dirty) (upd-other (m .node) n y v ne)
 
@@ -245,7 +246,7 @@ module _ (s : Shape) (m : Shared) (own own′ : ℕ → ℕ) {all : ℕ} (g : Mo
   push-value = ap (valueAt (pushed .cell)) push-first ∙ value-there (pushed .cell) c (m .cell c .item) (a .cell) push-item
 
   push-held : Held s pushed own′ all
-  unfolding effectShared updated
+  unfolding effectShared
   push-held =
       held-push s m pushed own own′ (g .held) t n c lt ut (a .some) (in-tree s m own g n (a .few)) (a .cell) (a .mine)
       push-cells push-item (ap (λ z. z .next) (upd-same (m .cell) c _) ∙ a .onto) refl push-first
@@ -276,13 +277,13 @@ module _ (s : Shape) (m : Shared) (own own′ : ℕ → ℕ) {all : ℕ} (g : Mo
   push-depth = refl
 
   push-relies : Rely m pushed
-  unfolding updated
   push-relies =
-      let up : pushed .node n .counter ≡ m .node n .counter + 1 = ap (λ y. y .counter) (push-node ∙ a .value) in
+      let up : pushed .node n .counter ≡ m .node n .counter + 1 =
+      ap (λ y. y .counter) (push-node ∙ a .value) ∙ updated-counter (m .node n) c (m .node n .dirty) in
       relies m pushed n n (omega (arith, push-depth)) up up (λ y p ne _. push-others y p ne) push-falls push-falls
 
   pub push-counts : (i : Item) → counted s pushed i ≡ counted s m i + pick (sameItem i (m .cell c .item)) 1 0
-  unfolding effectShared updated
+  unfolding effectShared
   push-counts i =
       counted-push s m pushed own own′ (g .held) t n c lt ut (a .some) (in-tree s m own g n (a .few)) (a .cell) (a .mine)
       push-cells push-item (ap (λ z. z .next) (upd-same (m .cell) c _) ∙ a .onto) refl push-first
@@ -330,22 +331,25 @@ module _ (s : Shape) (m : Shared) (own : ℕ → ℕ) {all : ℕ} (g : Mound s m
   unfolding effectShared
   pop-node = upd-same (m .node) 1 v
 
+  pop-first : popped .node 1 .first ≡ m .cell c .next
+  pop-first = ap (λ z. z .first) (pop-node ∙ a .value) ∙ updated-first (m .node 1) (m .cell c .next) 1
+
   pop-held : Held s popped own all
-  unfolding effectShared updated
+  unfolding effectShared
   pop-held =
       held-pop s m popped own (g .held) c (in-tree s m own g 1 (root-there s m own g)) (a .cell) (a .head) pop-cells
-      (ap (λ z. z .next) (upd-same (m .cell) c _)) refl (ap (λ z. z .first) (pop-node ∙ a .value))
+      (ap (λ z. z .next) (upd-same (m .cell) c _)) refl pop-first
       (λ y ne. ap (λ z. z .first) (upd-other (m .node) 1 y v ne))
 
   pop-mound : Mound s popped own all
-  unfolding effectShared updated
+  unfolding effectShared
   pop-mound =
       record {
         held = pop-held;
         ordered =
             pop-ordered AtMost item-refl item-trans (val m) (val popped) (λ y. m .node y .dirty) (λ y. popped .node y .dirty) (g .ordered)
             (λ y p ne. ap valueOf (pop-others y p ne)) (λ y p ne. ap (λ z. z .dirty) (upd-other (m .node) 1 y v ne))
-            (ap (λ z. z .dirty) (pop-node ∙ a .value));
+            (ap (λ z. z .dirty) (pop-node ∙ a .value) ∙ updated-dirty (m .node 1) (m .cell c .next) 1);
         deep = λ y h.
             let e = upd-other (m .node) 1 y v (λ z. omega (arith, h, z, root-there s m own g)) in
             (ap (λ z. z .first) e ∙ g .deep y h .0, ap (λ z. z .dirty) e ∙ g .deep y h .1);
@@ -354,17 +358,18 @@ module _ (s : Shape) (m : Shared) (own : ℕ → ℕ) {all : ℕ} (g : Mound s m
       }
 
   pop-relies : Rely m popped
-  unfolding effectShared updated
+  unfolding effectShared
   pop-relies =
-      let up : popped .node 1 .counter ≡ m .node 1 .counter + 1 = ap (λ y. y .counter) (pop-node ∙ a .value) in
+      let up : popped .node 1 .counter ≡ m .node 1 .counter + 1 =
+      ap (λ y. y .counter) (pop-node ∙ a .value) ∙ updated-counter (m .node 1) (m .cell c .next) 1 in
       relies m popped 1 1 (omega arith) up up (λ y p ne _. pop-others y p ne) (λ p e z. absurd (omega arith))
       (λ p e z. absurd (omega arith))
 
   pub pop-counts : (i : Item) → counted s m i ≡ counted s popped i + pick (sameItem i (m .cell c .item)) 1 0
-  unfolding effectShared updated
+  unfolding effectShared
   pop-counts i =
       counted-pop s m popped own (g .held) c (in-tree s m own g 1 (root-there s m own g)) (a .cell) (a .head) pop-cells
-      (ap (λ z. z .next) (upd-same (m .cell) c _)) refl (ap (λ z. z .first) (pop-node ∙ a .value))
+      (ap (λ z. z .next) (upd-same (m .cell) c _)) refl pop-first
       (λ y ne. ap (λ z. z .first) (upd-other (m .node) 1 y v ne)) i
 
   -- what any thread holds
@@ -395,28 +400,34 @@ module _ (s : Shape) (m : Shared) (own : ℕ → ℕ) {all : ℕ} (g : Mound s m
   unfolding effectShared
   at-x x p q = upd-other (upd (m .node) n v) k x w q ∙ upd-other (m .node) n x v p
 
+  first-k : swapped .node k .first ≡ m .node n .first
+  first-k = ap (λ z. z .first) at-k ∙ updated-first (m .node k) (m .node n .first) 1
+
+  first-n : swapped .node n .first ≡ m .node k .first
+  first-n = ap (λ z. z .first) at-n ∙ updated-first (m .node n) (m .node k .first) 0
+
   value-by : (x y : ℕ) → swapped .node x .first ≡ m .node y .first → val swapped x ≡ val m y
   unfolding valueOf readNode effectShared
   value-by x y e = ap (valueAt (m .cell)) e
 
   exchange-held : Held s swapped own all
-  unfolding effectShared updated
+  unfolding effectShared
   exchange-held =
       held-exchange s m swapped own (g .held) n k (a .some) (in-tree s m own g n (omega (arith, a .child, a .few)))
       (omega (arith, a .child, a .some))
-      (in-tree s m own g k (a .few)) apart refl refl (ap (λ z. z .first) at-n) (ap (λ z. z .first) at-k)
+      (in-tree s m own g k (a .few)) apart refl refl first-n first-k
       (λ x p q. ap (λ z. z .first) (at-x x p q))
 
   exchange-mound : Mound s swapped own all
-  unfolding effectShared updated
+  unfolding effectShared
   exchange-mound =
       record {
         held = exchange-held;
         ordered =
             exchange-ordered AtMost item-refl item-trans (val m) (val swapped) (λ y. m .node y .dirty) (λ y. swapped .node y .dirty)
             (g .ordered) n k j (a .some) (a .child) (a .clean) (a .clean-sibling) (a .kids) (a .sibling) (a .less) (a .least)
-            (value-by n k (ap (λ z. z .first) at-n)) (value-by k n (ap (λ z. z .first) at-k))
-            (λ x p q. value-by x x (ap (λ z. z .first) (at-x x p q))) (ap (λ z. z .dirty) at-k)
+            (value-by n k first-n) (value-by k n first-k) (λ x p q. value-by x x (ap (λ z. z .first) (at-x x p q)))
+            (ap (λ z. z .dirty) at-k ∙ updated-dirty (m .node k) (m .node n .first) 1)
             (λ x p q. ap (λ z. z .dirty) (at-x x p q));
         deep = λ y h.
             let e = at-x y (λ z. omega (arith, h, z, a .few, a .child)) (λ z. omega (arith, h, z, a .few)) in
@@ -426,10 +437,13 @@ module _ (s : Shape) (m : Shared) (own : ℕ → ℕ) {all : ℕ} (g : Mound s m
       }
 
   exchange-relies : Rely m swapped
-  unfolding effectShared updated
+  unfolding effectShared
   exchange-relies =
-      let up-n : swapped .node n .counter ≡ m .node n .counter + 1 = ap (λ z. z .counter) at-n in
-      relies m swapped n k (omega arith) up-n (ap (λ z. z .counter) at-k) (λ x p q r. read-same m swapped x (at-x x q r) refl)
+      let up-n : swapped .node n .counter ≡ m .node n .counter + 1 =
+      ap (λ z. z .counter) at-n ∙ updated-counter (m .node n) (m .node k .first) 0 in
+      let up-k : swapped .node k .counter ≡ m .node k .counter + 1 =
+      ap (λ z. z .counter) at-k ∙ updated-counter (m .node k) (m .node n .first) 1 in
+      relies m swapped n k (omega arith) up-n up-k (λ x p q r. read-same m swapped x (at-x x q r) refl)
       (λ p e z. absurd (omega (arith, z, a .dirty)))
       (λ p e z. absurd (let h = subst (λ y. swapped .node y .counter ≡ m .node y .counter) (a .child) e in omega (arith, h, up-n)))
 
@@ -438,11 +452,10 @@ module _ (s : Shape) (m : Shared) (own : ℕ → ℕ) {all : ℕ} (g : Mound s m
   exchange-keeps t = record { mound = exchange-mound; rely = exchange-relies; kept = λ u x is h. h }
 
   pub exchange-counts : (i : Item) → counted s swapped i ≡ counted s m i
-  unfolding effectShared updated
+  unfolding effectShared
   exchange-counts i =
       counted-exchange s m swapped own (g .held) n k (a .some) (in-tree s m own g n (omega (arith, a .child, a .few)))
-      (omega (arith, a .child, a .some)) (in-tree s m own g k (a .few)) apart refl refl (ap (λ z. z .first) at-n)
-      (ap (λ z. z .first) at-k)
+      (omega (arith, a .child, a .some)) (in-tree s m own g k (a .few)) apart refl refl first-n first-k
       (λ x p q. ap (λ z. z .first) (at-x x p q)) i
 
 -- Cleaning.
@@ -459,11 +472,12 @@ module _ (s : Shape) (m : Shared) (own : ℕ → ℕ) {all : ℕ} (g : Mound s m
   clean-other x p = upd-other (m .node) n x v p
 
   clean-first : (x : ℕ) → cleaned .node x .first ≡ m .node x .first
-  unfolding updated
   clean-first x = go (ℕ-discrete x n)
     where
       go : Dec (x ≡ n) → cleaned .node x .first ≡ m .node x .first
-      go (yes e) = ap (λ z. cleaned .node z .first) e ∙ ap (λ z. z .first) clean-node ∙ ap (λ z. m .node z .first) (sym e)
+      go (yes e) =
+          ap (λ z. cleaned .node z .first) e ∙ ap (λ z. z .first) clean-node ∙ updated-first (m .node n) (m .node n .first) 0
+          ∙ ap (λ z. m .node z .first) (sym e)
       go (no p) = ap (λ z. z .first) (clean-other x p)
 
   clean-value : (x : ℕ) → val cleaned x ≡ val m x
@@ -488,9 +502,10 @@ module _ (s : Shape) (m : Shared) (own : ℕ → ℕ) {all : ℕ} (g : Mound s m
       }
 
   clean-relies : Rely m cleaned
-  unfolding effectShared updated
+  unfolding effectShared
   clean-relies =
-      let up : cleaned .node n .counter ≡ m .node n .counter + 1 = ap (λ z. z .counter) clean-node in
+      let up : cleaned .node n .counter ≡ m .node n .counter + 1 =
+      ap (λ z. z .counter) clean-node ∙ updated-counter (m .node n) (m .node n .first) 0 in
       relies m cleaned n n (omega arith) up up (λ x p q r. read-same m cleaned x (clean-other x q) refl)
       (λ p e z. absurd (omega (arith, z, a .dirty))) (λ p e z. absurd (omega (arith, z, a .dirty)))
 
