@@ -33,7 +33,8 @@ use Rattle.mound.proofs.Chains.{Chain, ends, link, among, items}
 use Rattle.mound.proofs.Counts.{inChain}
 use Rattle.mound.proofs.Effects.{Mound}
 use Rattle.mound.proofs.Facts.{At}
-use Rattle.mound.proofs.Held.{Held, nodeLength, threadLength, counted, counts, head-free, heads}
+use Rattle.mound.proofs.Held.{Held, counted, counts}
+use Rattle.mound.proofs.Holders.{head-free, heads, overAll}
 use Rattle.mound.proofs.Sorted.{AtMost, Sorted, valueAt}
 use Rattle.mound.proofs.Steps.{owns}
 use Rattle.mound.proofs.Sums.{sum-zero}
@@ -138,7 +139,7 @@ module _ (s : Shape) (ps b : List ℕ) (e : layoutRefusal s ps (length b) ≡ do
   none-at n p = listed-none (s .cells) (2 * n) (λ z. omega arith)
 
   held : Held s m (owns th) (s .cells)
-  unfolding items
+  unfolding items overAll
   held =
       record {
         owner = λ c. 0;
@@ -147,8 +148,8 @@ module _ (s : Shape) (ps b : List ℕ) (e : layoutRefusal s ps (length b) ≡ do
         chains = all-chains;
         sorted = λ n p. subst (λ l. Sorted (items (m .cell) l)) (sym (none-at n p)) tt;
         total =
-            let a = sum-zero (nodeLength (listed (s .cells))) (nodeCount s) (λ k l u. ap length (none-at k l)) in
-            let c = sum-zero (threadLength (listed (s .cells))) (s .threads)
+            let a = sum-zero (λ n. length (listed (s .cells) (2 * n))) (nodeCount s) (λ k l u. ap length (none-at k l)) in
+            let c = sum-zero (λ t. length (listed (s .cells) (2 * t + 1))) (s .threads)
             (λ k l u. ap length (listed-none (s .cells) (2 * k + 1) (λ z. omega arith))) in
             let f : length (listed (s .cells) 0) ≡ s .cells = ap length (listed-free (s .cells)) ∙ length-from 1 (s .cells) in
             omega (arith, a, c, f);

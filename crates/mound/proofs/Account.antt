@@ -23,7 +23,8 @@ use Rattle.mound.proofs.Cells.{starts}
 use Rattle.mound.proofs.Chains.{Chain, HasItems, among, items, only-items, walk-counts}
 use Rattle.mound.proofs.Counts.{inChain}
 use Rattle.mound.proofs.Facts.{At}
-use Rattle.mound.proofs.Held.{Held, nodeLength, threadLength, counts, free-chain, thread-chain}
+use Rattle.mound.proofs.Held.{Held, counts, few-held, free-chain, thread-chain}
+use Rattle.mound.proofs.Holders.{free-holds, overAll}
 use Rattle.mound.proofs.Steps.{Invariant, owns}
 use Rattle.mound.proofs.Sums.{sum, sum-same}
 
@@ -81,28 +82,29 @@ module _ (s : Shape) (m : Shared) (th : ℕ → Thread) (l : Ledger) {all : ℕ}
   abbrev h : Held s m (owns th) all
   h = inv .mound .held
 
-  nodes-sum : inNodes m anyItem (s .cells) (nodeCount s) ≡ sum (nodeLength (h .list)) (nodeCount s)
+  nodes-sum : inNodes m anyItem (s .cells) (nodeCount s) ≡ sum (λ n. length (h .list (2 * n))) (nodeCount s)
   unfolding inChain
   nodes-sum =
       counts s m (owns th) h anyItem
-      ∙ sum-same (nodeLength (h .list)) (inChain (m .cell) (h .list) anyItem) (nodeCount s)
+      ∙ sum-same (λ n. length (h .list (2 * n))) (inChain (m .cell) (h .list) anyItem) (nodeCount s)
       (λ k l u. all-count (m .cell) (h .list (2 * k)))
 
-  thread-holds : (t : ℕ) → length (h .list (2 * t + 1)) ≡ pick (isPutPlace (th t .place)) 1 0
-  thread-holds t =
+  cells-in-hand : (t : ℕ) → length (h .list (2 * t + 1)) ≡ pick (isPutPlace (th t .place)) 1 0
+  cells-in-hand t =
       cells-of (thread-chain s m (owns th) h t) (inHand (th t) (th t .place)) (in-hand s m (th t) (l .operation t) (th t .place) (inv .at t))
       ∙ count-in-hand (th t) (th t .place)
 
-  puts-sum : (n : ℕ) → putsAmong th n ≡ sum (threadLength (h .list)) n
+  puts-sum : (n : ℕ) → putsAmong th n ≡ sum (λ t. length (h .list (2 * t + 1))) n
   unfolding putsAmong sum
   puts-sum zero = refl
-  puts-sum (suc n) = cc (puts-sum n, thread-holds (suc n))
+  puts-sum (suc n) = cc (puts-sum n, cells-in-hand (suc n))
 
   free-measured : inList m anyItem (s .cells) (m .free) ≡ length (h .list 0)
   free-measured =
-      walk-counts m anyItem (s .cells) (free-chain s m (owns th) h) (omega (arith, h .total, h .few)) ∙ all-count (m .cell) (h .list 0)
+      walk-counts m anyItem (s .cells) (free-chain s m (owns th) h) (few-held s m (owns th) h 0 free-holds) ∙ all-count (m .cell) (h .list 0)
 
   pub all-cells : inNodes m anyItem (s .cells) (nodeCount s) + putsAmong th (s .threads) + inList m anyItem (s .cells) (m .free) ≡ all
+  unfolding overAll
   all-cells = omega (arith, h .total, nodes-sum, puts-sum (s .threads), free-measured)
 
   -- no cell is free exactly when the others hold all

@@ -1,20 +1,17 @@
 -- Which list, thread or free chain holds a cell: none is held twice, lists never fall, and the cells held are so many, which every effect keeps.
 -- What a beginning, a push, a pop and an exchange make of it, and of the tree's count. Assumes nothing.
-use Prim.Native.Nat.{ℕ, _+_, _*_, _/_, _%_, _≤_}
+use Prim.Native.Nat.{ℕ, _+_, _*_, _≤_}
 use native.Mathlib.Decide.{ℕ-discrete}
 use native.Mathlib.Omega.{arith}
 use mathlib.Core.Path.{_≡_, refl, sym, ap, subst, _∙_}
 use mathlib.Core.Bool.{Bool}
 use mathlib.Core.List.{List, _∷_}
-use borrow.Author.Tests.{eq-eqb, ne-eqb}
-use lib.Dec.{eqb}
 use lib.ListN.{length}
 use Rattle.region.specs.Pick.{pick}
 use Rattle.region.specs.Shape.{nodeCount}
 use Rattle.region.specs.Shared.{Shared}
 use Rattle.region.specs.declared.record.Cell.{Cell}
 use Rattle.region.specs.declared.record.Item.{Item}
-use Rattle.region.specs.declared.record.Node.{Node}
 use Rattle.region.specs.declared.shape.Shape.{Shape}
 use Rattle.access.specs.Order.{topItem, val, valueOf}
 use Rattle.access.specs.Read.{readNode}
@@ -22,52 +19,9 @@ use Rattle.mound.specs.Tree.{inNodes, sameItem}
 use Rattle.mound.proofs.Cells.{Chains, Moved, Exchanged, move, exchange}
 use Rattle.mound.proofs.Chains.{Chain, ItemsStay, among, first-owned, items, items-stay, tail-stays}
 use Rattle.mound.proofs.Counts.{inChain, tree-counts}
+use Rattle.mound.proofs.Holders.{Holder, free-holds, head-free, head-node, head-still, head-thread, heads, node-holds, over-has, over-two, overAll, thread-holds}
 use Rattle.mound.proofs.Sorted.{AtMost, Proper, Sorted, from-head, head-least, head-proper, head-counted, top-value}
 use Rattle.mound.proofs.Sums.{sum, sum-same, sum-has, sum-but, sum-exchange, sum-some}
-
--- the first cell of each holder: 0 is the free chain, 2n node n, 2t + 1 thread t
-unfoldable pub heads : ℕ → (ℕ → Node) → (ℕ → ℕ) → ℕ → ℕ
-heads free node own o = pick (eqb o 0) free (pick (eqb (o % 2) 0) (node (o / 2) .first) (own (o / 2)))
-
-module _ (free : ℕ) (node : ℕ → Node) (own : ℕ → ℕ) where
-  pub head-free : heads free node own 0 ≡ free
-  unfolding heads pick
-  head-free = refl
-
-  pub head-node : (n : ℕ) → 1 ≤ n → heads free node own (2 * n) ≡ node n .first
-  unfolding heads pick
-  head-node n p =
-      let e : (2 * n) / 2 ≡ n = omega arith in
-      let r : (2 * n) % 2 ≡ 0 = omega arith in
-      rw (ne-eqb (2 * n) 0 (λ z. omega arith), eq-eqb ((2 * n) % 2) 0 r) (ap (λ k. node k .first) e)
-
-  pub head-thread : (t : ℕ) → heads free node own (2 * t + 1) ≡ own t
-  unfolding heads pick
-  head-thread t =
-      let e : (2 * t + 1) / 2 ≡ t = omega arith in
-      let r : (2 * t + 1) % 2 ≡ 0 → ⊥ = λ z. omega arith in
-      rw (ne-eqb (2 * t + 1) 0 (λ z. omega arith), ne-eqb ((2 * t + 1) % 2) 0 r) (ap own e)
-
-  -- a holder whose part is left alone
-  pub head-still : (free′ : ℕ) (node′ : ℕ → Node) (own′ : ℕ → ℕ) (x : ℕ) → (x ≡ 0 → free′ ≡ free)
-      → ((n : ℕ) → 1 ≤ n → x ≡ 2 * n → node′ n .first ≡ node n .first) → ((t : ℕ) → x ≡ 2 * t + 1 → own′ t ≡ own t)
-      → heads free′ node′ own′ x ≡ heads free node own x
-  unfolding heads pick
-  head-still free′ node′ own′ x hf hn ho = go (ℕ-discrete x 0) (ℕ-discrete (x % 2) 0)
-    where
-      go : Dec (x ≡ 0) → Dec (x % 2 ≡ 0)
-          → pick (eqb x 0) free′ (pick (eqb (x % 2) 0) (node′ (x / 2) .first) (own′ (x / 2)))
-          ≡ pick (eqb x 0) free (pick (eqb (x % 2) 0) (node (x / 2) .first) (own (x / 2)))
-      go (yes e) d = rw (eq-eqb x 0 e) (hf e)
-      go (no n) (yes e) = rw (ne-eqb x 0 n, eq-eqb (x % 2) 0 e) (hn (x / 2) (omega arith) (omega arith))
-      go (no n) (no m) = rw (ne-eqb x 0 n, ne-eqb (x % 2) 0 m) (ho (x / 2) (omega arith))
-
--- how many cells the list of node n, and of thread t, has
-abbrev pub nodeLength : (ℕ → List ℕ) → ℕ → ℕ
-nodeLength list n = length (list (2 * n))
-
-abbrev pub threadLength : (ℕ → List ℕ) → ℕ → ℕ
-threadLength list t = length (list (2 * t + 1))
 
 -- m's free cells, the tree's and those in the chains from each thread's own cell: `all` together. Of C cells there may be others, which this
 -- queue does not hold; all cells are accounted for where `all` is C.
@@ -77,7 +31,7 @@ pub record Held (s : Shape) (m : Shared) (own : ℕ → ℕ) (all : ℕ) : Type 
   pub list : ℕ → List ℕ
   pub chains : Chains (m .cell) owner rank (heads (m .free) (m .node) own) list
   pub sorted : (n : ℕ) → 1 ≤ n → Sorted (items (m .cell) (list (2 * n)))
-  pub total : length (list 0) + sum (nodeLength list) (nodeCount s) + sum (threadLength list) (s .threads) ≡ all
+  pub total : overAll s (λ o. length (list o)) ≡ all
   pub few : all ≤ s .cells
 
 -- the tree's count of i
@@ -99,8 +53,11 @@ module _ (s : Shape) (m : Shared) (own : ℕ → ℕ) {all : ℕ} (h : Held s m 
   pub thread-chain : (t : ℕ) → Chain (m .cell) (h .owner) (h .rank) (2 * t + 1) (own t) (h .list (2 * t + 1))
   thread-chain t = chain-from (2 * t + 1) (own t) (head-thread (m .free) (m .node) own t)
 
+  pub few-held : (o : ℕ) → Holder s o → length (h .list o) ≤ s .cells
+  few-held o k = omega (arith, over-has s (λ x. length (h .list x)) o k, h .total, h .few)
+
   pub few-cells : (n : ℕ) → 1 ≤ n → n ≤ nodeCount s → length (h .list (2 * n)) ≤ s .cells
-  few-cells n p q = let a = sum-has (nodeLength (h .list)) (nodeCount s) n p q in omega (arith, a, h .total, h .few)
+  few-cells n p q = few-held (2 * n) (node-holds n p q)
 
   pub counts : (test : Item → Bool) → inNodes m test (s .cells) (nodeCount s) ≡ sum (inChain (m .cell) (h .list) test) (nodeCount s)
   counts test =
@@ -190,6 +147,62 @@ counted-same s m m′ own h ec ef en i =
     ∙ ap (λ cell. sum (λ k. among (sameItem i) (items cell (h .list (2 * k)))) (nodeCount s)) ec
     ∙ sym (counts s m own h (sameItem i))
 
+-- The head c of holder o's chain goes to the front of holder q's, where it fits if q is a node.
+module _ (s : Shape) (m m′ : Shared) (own own′ : ℕ → ℕ) {all : ℕ} (h : Held s m own all) (o q c : ℕ) (from : Holder s o) (to : Holder s q)
+    (apart : o ≡ q → ⊥) (mv : Moved (m .cell) (m′ .cell) (heads (m′ .free) (m′ .node) own′) (h .list) o q c)
+    (fits : (n : ℕ) → 1 ≤ n → q ≡ 2 * n → Sorted (m′ .cell c .item ∷ items (m .cell) (h .list q))) where
+  pub held-moved : Held s m′ own′ all
+  held-moved =
+      record {
+        owner = mv .owners;
+        rank = mv .ranks;
+        list = mv .lists;
+        chains = mv .chained;
+        sorted = λ n p. go n p (ℕ-discrete (2 * n) q) (ℕ-discrete (2 * n) o);
+        total =
+            let a = over-two s (λ x. length (h .list x)) (λ x. length (mv .lists x)) o q from to apart (mv .length-x) in
+            omega (arith, a, mv .length-q, mv .length-o, h .total);
+        few = h .few;
+      }
+    where
+      go : (n : ℕ) → 1 ≤ n → Dec (2 * n ≡ q) → Dec (2 * n ≡ o) → Sorted (items (m′ .cell) (mv .lists (2 * n)))
+      go n p (yes e) d =
+          subst (λ x. Sorted (items (m′ .cell) (mv .lists x))) (sym e) (subst Sorted (sym (mv .items-q)) (fits n p (sym e)))
+      go n p (no a) (yes e) =
+          subst (λ x. Sorted (items (m′ .cell) (mv .lists x))) (sym e)
+          (subst Sorted (mv .items-o) (subst (λ x. Sorted (items (m .cell) (h .list x))) e (h .sorted n p)) .2)
+      go n p (no a) (no b) = subst Sorted (sym (mv .items-x (2 * n) b a)) (h .sorted n p)
+
+-- The chains of holders o and q change hands, and fit where they come to a node.
+module _ (s : Shape) (m m′ : Shared) (own own′ : ℕ → ℕ) {all : ℕ} (h : Held s m own all) (o q : ℕ) (one : Holder s o) (other : Holder s q)
+    (apart : o ≡ q → ⊥) (cells : m′ .cell ≡ m .cell) (ex : Exchanged (m .cell) (heads (m′ .free) (m′ .node) own′) (h .list) o q)
+    (fits-o : (n : ℕ) → 1 ≤ n → o ≡ 2 * n → Sorted (items (m .cell) (h .list q)))
+    (fits-q : (n : ℕ) → 1 ≤ n → q ≡ 2 * n → Sorted (items (m .cell) (h .list o))) where
+  pub held-exchanged : Held s m′ own′ all
+  held-exchanged =
+      record {
+        owner = ex .owners;
+        rank = ex .ranks;
+        list = ex .lists;
+        chains = λ x.
+            subst (λ cell. Chain cell (ex .owners) (ex .ranks) x (heads (m′ .free) (m′ .node) own′ x) (ex .lists x)) (sym cells)
+            (ex .chained x);
+        sorted = λ n p.
+            subst (λ cell. Sorted (items cell (ex .lists (2 * n)))) (sym cells) (go n p (ℕ-discrete (2 * n) o) (ℕ-discrete (2 * n) q));
+        total =
+            let a = over-two s (λ x. length (h .list x)) (λ x. length (ex .lists x)) o q one other apart (λ x n k. ap length (ex .list-x x n k)) in
+            omega (arith, a, ap length (ex .list-o), ap length (ex .list-q), h .total);
+        few = h .few;
+      }
+    where
+      to : (x : ℕ) (l : List ℕ) (n : ℕ) → 2 * n ≡ x → ex .lists x ≡ l → Sorted (items (m .cell) l) → Sorted (items (m .cell) (ex .lists (2 * n)))
+      to x l n e k g = subst (λ y. Sorted (items (m .cell) y)) (sym (ap (ex .lists) e ∙ k)) g
+
+      go : (n : ℕ) → 1 ≤ n → Dec (2 * n ≡ o) → Dec (2 * n ≡ q) → Sorted (items (m .cell) (ex .lists (2 * n)))
+      go n p (yes e) d = to o (h .list q) n e (ex .list-o) (fits-o n p (sym e))
+      go n p (no a) (yes e) = to q (h .list o) n e (ex .list-q) (fits-q n p (sym e))
+      go n p (no a) (no b) = to (2 * n) (h .list (2 * n)) n refl (ex .list-x (2 * n) a b) (h .sorted n p)
+
 -- A put begins: the first free cell c goes to the front of thread t's chain.
 module _ (s : Shape) (m m′ : Shared) (own own′ : ℕ → ℕ) {all : ℕ} (h : Held s m own all) (t c : ℕ) (lt : 1 ≤ t) (ut : t ≤ s .threads) (some : 1 ≤ c)
     (free : m .free ≡ c) (others : (d : ℕ) → (d ≡ c → ⊥) → m′ .cell d ≡ m .cell d) (onto : m′ .cell c .next ≡ own t)
@@ -207,24 +220,10 @@ module _ (s : Shape) (m m′ : Shared) (own own′ : ℕ → ℕ) {all : ℕ} (h
 
   pub held-begin : Held s m′ own′ all
   held-begin =
-      let mv = begin-move in
-      record {
-        owner = mv .owners;
-        rank = mv .ranks;
-        list = mv .lists;
-        chains = mv .chained;
-        sorted = λ n p. subst Sorted (sym (mv .items-x (2 * n) (λ z. omega arith) (λ z. omega arith))) (h .sorted n p);
-        total =
-            let a = sum-same (nodeLength (h .list)) (nodeLength (mv .lists)) (nodeCount s)
-            (λ k l u. mv .length-x (2 * k) (λ z. omega arith) (λ z. omega arith)) in
-            let b = sum-but (threadLength (h .list)) (threadLength (mv .lists)) (s .threads) t lt ut
-            (λ x p n. mv .length-x (2 * x + 1) (λ z. omega arith) (λ z. n (omega arith))) in
-            omega (arith, a, b, mv .length-q, mv .length-o, h .total);
-        few = h .few;
-      }
+      held-moved s m m′ own own′ h 0 (2 * t + 1) c free-holds (thread-holds t lt ut) (λ z. omega arith) begin-move (λ n p e. absurd (omega arith))
 
   pub counted-begin : (i : Item) → counted s m′ i ≡ counted s m i
-  unfolding inChain held-begin begin-move
+  unfolding inChain held-moved held-begin begin-move
   counted-begin i =
       let same = sameItem i in
       counts s m′ own′ held-begin same
@@ -253,37 +252,13 @@ module _ (s : Shape) (m m′ : Shared) (own own′ : ℕ → ℕ) {all : ℕ} (h
   pub held-push : Held s m′ own′ all
   unfolding valueOf readNode
   held-push =
-      let mv = push-move in
-      record {
-        owner = mv .owners;
-        rank = mv .ranks;
-        list = mv .lists;
-        chains = mv .chained;
-        sorted = λ k p. go mv k p (ℕ-discrete k n);
-        total =
-            let a = sum-but (nodeLength (h .list)) (nodeLength (mv .lists)) (nodeCount s) n ln un
-            (λ x p q. mv .length-x (2 * x) (λ z. omega arith) (λ z. q (omega arith))) in
-            let b = sum-but (threadLength (h .list)) (threadLength (mv .lists)) (s .threads) t lt ut
-            (λ x p q. mv .length-x (2 * x + 1) (λ z. q (omega arith)) (λ z. omega arith)) in
-            let z : length (mv .lists 0) ≡ length (h .list 0) = mv .length-x 0 (λ z. omega arith) (λ z. omega arith) in
-            omega (arith, a, b, z, mv .length-q, mv .length-o, h .total);
-        few = h .few;
-      }
-    where
-      here : Sorted (m .cell c .item ∷ items (m .cell) (h .list (2 * n)))
-      here = (proper, from-head (node-chain s m own h n ln) (h .sorted n ln) (m .cell c .item) least, h .sorted n ln)
-
-      go : (mv : Moved (m .cell) (m′ .cell) (heads (m′ .free) (m′ .node) own′) (h .list) (2 * t + 1) (2 * n) c) (k : ℕ) → 1 ≤ k
-          → Dec (k ≡ n)
-          → Sorted (items (m′ .cell) (mv .lists (2 * k)))
-      go mv k p (yes e) =
-          subst (λ y. Sorted (items (m′ .cell) (mv .lists (2 * y)))) (sym e)
-          (subst Sorted (sym (mv .items-q ∙ ap (λ i. i ∷ items (m .cell) (h .list (2 * n))) kept)) here)
-      go mv k p (no q) = subst Sorted (sym (mv .items-x (2 * k) (λ z. omega arith) (λ z. q (omega arith)))) (h .sorted k p)
+      held-moved s m m′ own own′ h (2 * t + 1) (2 * n) c (thread-holds t lt ut) (node-holds n ln un) (λ z. omega arith) push-move
+      (λ x p e. subst (λ i. Sorted (i ∷ items (m .cell) (h .list (2 * n)))) (sym kept)
+      (proper, from-head (node-chain s m own h n ln) (h .sorted n ln) (m .cell c .item) least, h .sorted n ln))
 
   -- one copy more of the item
   pub counted-push : (i : Item) → counted s m′ i ≡ counted s m i + pick (sameItem i (m .cell c .item)) 1 0
-  unfolding inChain among held-push push-move
+  unfolding inChain among held-moved held-push push-move
   counted-push i =
       let same = sameItem i in
       let a = sum-but (inChain (m .cell) (h .list) same) (inChain (m′ .cell) (push-move .lists) same) (nodeCount s) n ln un
@@ -309,32 +284,11 @@ module _ (s : Shape) (m m′ : Shared) (own : ℕ → ℕ) {all : ℕ} (h : Held
 
   pub held-pop : Held s m′ own all
   held-pop =
-      let mv = pop-move in
-      record {
-        owner = mv .owners;
-        rank = mv .ranks;
-        list = mv .lists;
-        chains = mv .chained;
-        sorted = λ k p. go mv k p (ℕ-discrete k 1);
-        total =
-            let a = sum-but (nodeLength (h .list)) (nodeLength (mv .lists)) (nodeCount s) 1 (omega arith) root
-            (λ x p q. mv .length-x (2 * x) (λ z. q (omega arith)) (λ z. omega arith)) in
-            let b = sum-same (threadLength (h .list)) (threadLength (mv .lists)) (s .threads)
-            (λ k l u. mv .length-x (2 * k + 1) (λ z. omega arith) (λ z. omega arith)) in
-            omega (arith, a, b, mv .length-q, mv .length-o, h .total);
-        few = h .few;
-      }
-    where
-      go : (mv : Moved (m .cell) (m′ .cell) (heads (m′ .free) (m′ .node) own) (h .list) 2 0 c) (k : ℕ) → 1 ≤ k → Dec (k ≡ 1)
-          → Sorted (items (m′ .cell) (mv .lists (2 * k)))
-      go mv k p (yes e) =
-          subst (λ y. Sorted (items (m′ .cell) (mv .lists (2 * y)))) (sym e)
-          (subst Sorted (mv .items-o) (h .sorted 1 (omega arith)) .2)
-      go mv k p (no q) = subst Sorted (sym (mv .items-x (2 * k) (λ z. q (omega arith)) (λ z. omega arith))) (h .sorted k p)
+      held-moved s m m′ own own h 2 0 c (node-holds 1 (omega arith) root) free-holds (λ z. omega arith) pop-move (λ n p e. absurd (omega arith))
 
   -- one copy less of the item
   pub counted-pop : (i : Item) → counted s m i ≡ counted s m′ i + pick (sameItem i (m .cell c .item)) 1 0
-  unfolding inChain among held-pop pop-move
+  unfolding inChain among held-moved held-pop pop-move
   counted-pop i =
       let same = sameItem i in
       let a = sum-but (inChain (m .cell) (h .list) same) (inChain (m′ .cell) (pop-move .lists) same) (nodeCount s) 1 (omega arith) root
@@ -362,36 +316,11 @@ module _ (s : Shape) (m m′ : Shared) (own : ℕ → ℕ) {all : ℕ} (h : Held
 
   pub held-exchange : Held s m′ own all
   held-exchange =
-      let ex = exchange-lists in
-      record {
-        owner = ex .owners;
-        rank = ex .ranks;
-        list = ex .lists;
-        chains = λ o.
-            subst (λ cell. Chain cell (ex .owners) (ex .ranks) o (heads (m′ .free) (m′ .node) own o) (ex .lists o)) (sym cells)
-            (ex .chained o);
-        sorted = λ x p. subst (λ cell. Sorted (items cell (ex .lists (2 * x)))) (sym cells) (go x p (ℕ-discrete x n) (ℕ-discrete x k));
-        total =
-            let a = sum-exchange (nodeLength (h .list)) (nodeLength (ex .lists)) (nodeCount s) n k ln un lk uk apart
-            (ap length (ex .list-o)) (ap length (ex .list-q)) (λ x p q. ap length (list-x x p q)) in
-            let b = sum-same (threadLength (h .list)) (threadLength (ex .lists)) (s .threads)
-            (λ u l q. ap length (ex .list-x (2 * u + 1) (λ z. omega arith) (λ z. omega arith))) in
-            let z : length (ex .lists 0) ≡ length (h .list 0) = ap length (ex .list-x 0 (λ z. omega arith) (λ z. omega arith)) in
-            omega (arith, a, b, z, h .total);
-        few = h .few;
-      }
-    where
-      go : (x : ℕ) → 1 ≤ x → Dec (x ≡ n) → Dec (x ≡ k) → Sorted (items (m .cell) (exchange-lists .lists (2 * x)))
-      go x p (yes e) d =
-          subst (λ y. Sorted (items (m .cell) (exchange-lists .lists (2 * y)))) (sym e)
-          (subst (λ l. Sorted (items (m .cell) l)) (sym (exchange-lists .list-o)) (h .sorted k lk))
-      go x p (no q) (yes e) =
-          subst (λ y. Sorted (items (m .cell) (exchange-lists .lists (2 * y)))) (sym e)
-          (subst (λ l. Sorted (items (m .cell) l)) (sym (exchange-lists .list-q)) (h .sorted n ln))
-      go x p (no q) (no r) = subst (λ l. Sorted (items (m .cell) l)) (sym (list-x x q r)) (h .sorted x p)
+      held-exchanged s m m′ own own h (2 * n) (2 * k) (node-holds n ln un) (node-holds k lk uk) (λ z. apart (omega arith)) cells exchange-lists
+      (λ x p e. h .sorted k lk) (λ x p e. h .sorted n ln)
 
   pub counted-exchange : (i : Item) → counted s m′ i ≡ counted s m i
-  unfolding inChain sum held-exchange exchange-lists
+  unfolding inChain sum held-exchanged held-exchange exchange-lists
   counted-exchange i =
       let same = sameItem i in
       counts s m′ own held-exchange same

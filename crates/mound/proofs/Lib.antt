@@ -6,6 +6,7 @@ pub mod Counts
 pub mod Effects
 pub mod Facts
 pub mod Held
+pub mod Holders
 pub mod Order
 pub mod Plans
 pub mod Sorted

@@ -2,7 +2,9 @@
 use Prim.Native.Nat.{ℕ, zero, suc, _+_, _≤_}
 use native.Mathlib.Decide.{ℕ-discrete}
 use native.Mathlib.Omega.{arith}
-use mathlib.Core.Path.{_≡_, refl, sym, ap, _∙_}
+use mathlib.Core.Path.{_≡_, refl, sym, ap, subst, _∙_}
+use Rattle.region.specs.Pick.{upd}
+use Rattle.region.proofs.Picks.{upd-same, upd-other}
 
 -- f 1 + .. + f n
 unfoldable pub sum : (ℕ → ℕ) → ℕ → ℕ
@@ -62,35 +64,11 @@ sum-but f g (suc n) k l u b = go (ℕ-discrete k (suc n)) (λ q. sum-but f g n k
 pub sum-exchange : (f g : ℕ → ℕ) (n j k : ℕ) → 1 ≤ j → j ≤ n → 1 ≤ k → k ≤ n → (j ≡ k → ⊥) → g j ≡ f k → g k ≡ f j
     → ((x : ℕ) → (x ≡ j → ⊥) → (x ≡ k → ⊥) → g x ≡ f x) → sum g n ≡ sum f n
 sum-exchange f g n j k lj uj lk uk ne ej ek b =
-    let h : ℕ → ℕ = put in
-    let s₁ = sum-but f h n j lj uj (λ x p q. put-other x q) in
-    let s₂ = sum-but h g n k lk uk (λ x p q. rest x q) in
-    omega (arith, s₁, s₂, put-there, put-other k (λ z. ne (sym z)), ej, ek)
+    let h = upd f j (f k) in
+    let s₁ = sum-but f h n j lj uj (λ x p q. upd-other f j x (f k) q) in
+    let s₂ = sum-but h g n k lk uk (λ x p q. rest x q (ℕ-discrete x j)) in
+    omega (arith, s₁, s₂, upd-same f j (f k), upd-other f j k (f k) (λ z. ne (sym z)), ej, ek)
   where
-    pickℕ : {Q : Type 0} → Dec Q → ℕ → ℕ → ℕ
-    pickℕ (yes q) a c = a
-    pickℕ (no q) a c = c
-
-    put : ℕ → ℕ
-    put x = pickℕ (ℕ-discrete x j) (f k) (f x)
-
-    put-other : (x : ℕ) → (x ≡ j → ⊥) → put x ≡ f x
-    put-other x n = go (ℕ-discrete x j)
-      where
-        go : (d : Dec (x ≡ j)) → pickℕ d (f k) (f x) ≡ f x
-        go (yes e) = absurd (n e)
-        go (no e) = refl
-
-    put-there : put j ≡ f k
-    put-there = go (ℕ-discrete j j)
-      where
-        go : (d : Dec (j ≡ j)) → pickℕ d (f k) (f j) ≡ f k
-        go (yes e) = refl
-        go (no e) = absurd (e refl)
-
-    rest : (x : ℕ) → (x ≡ k → ⊥) → g x ≡ put x
-    rest x nk = go (ℕ-discrete x j)
-      where
-        go : Dec (x ≡ j) → g x ≡ put x
-        go (yes e) = ap g e ∙ ej ∙ sym put-there ∙ ap put (sym e)
-        go (no nj) = b x nj nk ∙ sym (put-other x nj)
+    rest : (x : ℕ) → (x ≡ k → ⊥) → Dec (x ≡ j) → g x ≡ upd f j (f k) x
+    rest x nk (yes e) = subst (λ y. g y ≡ upd f j (f k) y) (sym e) (ej ∙ sym (upd-same f j (f k)))
+    rest x nk (no nj) = b x nj nk ∙ sym (upd-other f j x (f k) nj)
