@@ -8,21 +8,20 @@ use mathlib.Core.Bool.{Bool, true, false}
 use mathlib.Core.List.{List, [], _∷_}
 use lib.ListN.{length}
 use Rattle.region.specs.Pick.{pick}
-use Rattle.region.specs.Shape.{between, nodeCount}
+use Rattle.region.specs.Shape.{nodeCount}
 use Rattle.region.specs.Shared.{Shared}
 use Rattle.region.specs.declared.place.Place.{Place}
-use Rattle.region.specs.declared.place.Place.the-variants.{Idle, ReadDepth, ReadLeaf, ReadAncestor, GrowDepth, ReadTarget, InsertAtRoot, ReadParent, InsertBelow, ReadRoot, RemoveHead, MendReadNode, MendReadDepth, MendReadLeft, MendReadRight, MendSwap, MendClean}
 use Rattle.region.specs.declared.record.Cell.{Cell}
 use Rattle.region.specs.declared.record.Item.{Item}
 use Rattle.region.specs.declared.shape.Shape.{Shape}
 use Rattle.region.specs.declared.thread.Thread.{Thread}
 use Rattle.mound.specs.Account.{anyItem, isPutPlace, putsAmong}
-use Rattle.mound.specs.Ledger.{Ledger, Operation}
+use Rattle.mound.specs.Ledger.{Ledger}
 use Rattle.mound.specs.Tree.{inList, inNodes}
 use Rattle.mound.proofs.Cells.{starts}
 use Rattle.mound.proofs.Chains.{Chain, HasItems, among, items, only-items, walk-counts}
 use Rattle.mound.proofs.Counts.{inChain}
-use Rattle.mound.proofs.Facts.{At}
+use Rattle.mound.proofs.Facts.{inHand, in-hand}
 use Rattle.mound.proofs.Held.{Held, counts, few-held, free-chain, thread-chain}
 use Rattle.mound.proofs.Holders.{free-holds, overAll}
 use Rattle.mound.proofs.Steps.{Invariant, owns}
@@ -44,31 +43,7 @@ cells-of : {cell : ℕ → Cell} {own rank : ℕ → ℕ} {o c : ℕ} {cs : List
     → HasItems cell c is → length cs ≡ length is
 cells-of {cell = cell} {cs = cs} k is h = sym (length-items cell cs) ∙ ap length (only-items k is h)
 
--- what a thread holds: its put's item at I1 to I8, nothing elsewhere
-inHand : Thread → Place → List Item
-inHand t p = pick (isPutPlace p) (t .item ∷ []) []
-
-in-hand : (s : Shape) (m : Shared) (t : Thread) (op : Operation) (p : Place) → At s m t op p → HasItems (m .cell) (t .own) (inHand t p)
-unfolding inHand isPutPlace between pick
-in-hand s m t op Idle h = h .1
-in-hand s m t op ReadDepth h = h .has
-in-hand s m t op ReadLeaf h = h .0 .has
-in-hand s m t op ReadAncestor h = h .0 .has
-in-hand s m t op GrowDepth h = h .0 .has
-in-hand s m t op ReadTarget h = h .0 .has
-in-hand s m t op InsertAtRoot h = h .0 .has
-in-hand s m t op ReadParent h = h .0 .has
-in-hand s m t op InsertBelow h = h .0 .has
-in-hand s m t op ReadRoot h = h .has
-in-hand s m t op RemoveHead h = h .0 .has
-in-hand s m t op (MendReadNode w) h = h .0 .has
-in-hand s m t op (MendReadDepth w) h = h .0 .0 .has
-in-hand s m t op (MendReadLeft w) h = h .0 .0 .has
-in-hand s m t op (MendReadRight w) h = h .0 .0 .has
-in-hand s m t op (MendSwap w) h = h .0 .0 .has
-in-hand s m t op (MendClean w) h = h .0 .0 .has
-
--- so one cell at I1 to I8, none elsewhere
+-- a thread holds one cell at I1 to I8, none elsewhere
 count-in-hand : (t : Thread) (p : Place) → length (inHand t p) ≡ pick (isPutPlace p) 1 0
 unfolding inHand pick
 count-in-hand t p = go (isPutPlace p)

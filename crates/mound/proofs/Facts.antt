@@ -1,14 +1,15 @@
--- What holds of a thread at each place, beside its operation in the ledger, and that it stays so when another thread moves (`Rely`).
--- Assumes nothing.
+-- What holds of a thread at each place, beside its operation in the ledger, and that it stays so when another thread moves (`Rely`) and leaves
+-- what this one holds. Assumes nothing.
 use Prim.Native.Nat.{ℕ, _+_, _*_, _/_, _^_, _≤_, _<_}
 use native.Mathlib.Omega.{arith}
 use mathlib.Core.Path.{_≡_, refl, sym, ap, subst, _∙_}
 use mathlib.Core.Bool.{true, false}
-use mathlib.Core.List.{[], _∷_}
+use mathlib.Core.List.{List, [], _∷_}
 use lib.Dec.{eqb}
 use lib.Pow.{pow-mono}
 use Rattle.region.specs.Level.{level}
 use Rattle.region.specs.Pick.{pick}
+use Rattle.region.specs.Shape.{between}
 use Rattle.region.specs.Shared.{Shared}
 use Rattle.region.specs.declared.place.Place.{Place}
 use Rattle.region.specs.declared.place.Place.the-variants.{Idle, ReadDepth, ReadLeaf, ReadAncestor, GrowDepth, ReadTarget, InsertAtRoot, ReadParent, InsertBelow, ReadRoot, RemoveHead, MendReadNode, MendReadDepth, MendReadLeft, MendReadRight, MendSwap, MendClean}
@@ -20,6 +21,7 @@ use Rattle.region.specs.declared.thread.Search.{Search}
 use Rattle.region.specs.declared.thread.Thread.{Thread}
 use Rattle.access.specs.Order.{itemLe, val, valueOf}
 use Rattle.access.specs.Read.{readNode}
+use Rattle.mound.specs.Account.{isPutPlace}
 use Rattle.mound.specs.Ledger.{Operation, none, putting, taking, holding}
 use Rattle.mound.proofs.Chains.{HasItems, ItemsStay}
 use Rattle.mound.proofs.Effects.{Rely}
@@ -44,16 +46,14 @@ UpTo k v = AtMost v (valueOf k)
 
 -- The facts name the fields that they speak of, so that a step that leaves these leaves the fact.
 
--- What a thread holds is the chain from its own cell `own`, by its items: a put's item, and nothing for any other operation.
-
--- a put of item i that has not decided
+-- a put of item i that has not decided: the chain from its own cell has that item
 pub record Putting (m : Shared) (permission own : ℕ) (i : Item) (op : Operation) : Type 0 where
   pub operation : op ≡ putting i
   pub permitted : 1 ≤ permission
   pub has : HasItems (m .cell) own (i ∷ [])
   pub proper : Proper i
 
--- a take that is at this point
+-- a take that is at this point and holds no cell
 pub record Taking (m : Shared) (permission own : ℕ) (at op : Operation) : Type 0 where
   pub operation : op ≡ at
   pub permitted : 1 ≤ permission
@@ -152,6 +152,30 @@ At s m t op (MendReadRight w) =
     Mends m t op × Inner m (t .node) (t .copies .first) × ChildRead m (t .node) (t .copies .first) (2 * t .node) (t .copies .second)
 At s m t op (MendSwap w) = Mends m t op × Inner m (t .node) (t .copies .first) × Swappable m (t .node) (t .copies)
 At s m t op (MendClean w) = Mends m t op × Dirty m (t .node) (t .copies .first) × Mended m (t .node) (t .copies .first)
+
+-- what a thread holds, by the items of the chain from its own cell: its put's item at I1 to I8, nothing elsewhere
+unfoldable pub inHand : Thread → Place → List Item
+inHand t p = pick (isPutPlace p) (t .item ∷ []) []
+
+pub in-hand : (s : Shape) (m : Shared) (t : Thread) (op : Operation) (p : Place) → At s m t op p → HasItems (m .cell) (t .own) (inHand t p)
+unfolding inHand isPutPlace between pick
+in-hand s m t op Idle h = h .1
+in-hand s m t op ReadDepth h = h .has
+in-hand s m t op ReadLeaf h = h .0 .has
+in-hand s m t op ReadAncestor h = h .0 .has
+in-hand s m t op GrowDepth h = h .0 .has
+in-hand s m t op ReadTarget h = h .0 .has
+in-hand s m t op InsertAtRoot h = h .0 .has
+in-hand s m t op ReadParent h = h .0 .has
+in-hand s m t op InsertBelow h = h .0 .has
+in-hand s m t op ReadRoot h = h .has
+in-hand s m t op RemoveHead h = h .0 .has
+in-hand s m t op (MendReadNode w) h = h .0 .has
+in-hand s m t op (MendReadDepth w) h = h .0 .0 .has
+in-hand s m t op (MendReadLeft w) h = h .0 .0 .has
+in-hand s m t op (MendReadRight w) h = h .0 .0 .has
+in-hand s m t op (MendSwap w) h = h .0 .0 .has
+in-hand s m t op (MendClean w) h = h .0 .0 .has
 
 pub sound-read : (m : Shared) (n : ℕ) → Sound m n (readNode m n)
 unfolding readNode
