@@ -39,7 +39,7 @@ use Rattle.mound.specs.Ledger.{Operation, Ledger, Follows, still}
 use Rattle.mound.specs.Told.{Told, nothing, beginsPut, beginsTake}
 use Rattle.mound.proofs.Facts.{At}
 use Rattle.mound.proofs.Plans.{Allowed, OwnAfter, Planned, Speaks, rests, refuses, moves, planned, speaks-moves}
-use Rattle.mound.proofs.Steps.{Invariant, NextState, effectTells, owns, put-starts, quietTells, take-starts, turn-moves}
+use Rattle.mound.proofs.Steps.{Invariant, NextState, effectTells, owns, put-begun, quietTells, take-begun, turn-moves}
 use Rattle.bag.specs.History.{rootItem, servedOn, turned}
 use Rattle.bag.specs.Told.{tells}
 use Rattle.bag.proofs.Answers.{turn-tells}
@@ -153,7 +153,7 @@ module _ (s : Shape) (b : List ℕ) (l : Ledger) (g : Region s b l) (t : ℕ) (l
         (thread-fit s (g .good .range) taker (begun-take-good s (th s b l g t) (good-thread s b (g .good) t)))
 
     pub take-next : Good s (setThreadIn (frameOf s) b t taker) → Follow s l (beginsTake t) (setThreadIn (frameOf s) b t taker)
-    take-next good = followed good take-shared take-threads (take-starts s (m s b l g) (th s b l g) l (g .holds) t lt ut idle may)
+    take-next good = followed good take-shared take-threads (take-begun s (m s b l g) (th s b l g) l (g .holds) t lt ut idle may)
 
   -- a put
   module _ (may : 1 ≤ threadIn (frameOf s) b t .permission) (i : Item) (key : i .key ≤ 4294967294) (tag : i .tag ≤ 65535)
@@ -209,4 +209,4 @@ module _ (s : Shape) (b : List ℕ) (l : Ledger) (g : Region s b l) (t : ℕ) (l
     unfolding begun sharedIn
     put-next good =
         followed good put-shared put-threads
-        (put-starts s (m s b l g) (th s b l g) l (g .holds) t lt ut idle may i (item-below-top i (omega arith) tag) (omega arith))
+        (put-begun s (m s b l g) (th s b l g) l (g .holds) t lt ut idle may i (item-below-top i (omega arith) tag) (omega arith))

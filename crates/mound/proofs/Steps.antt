@@ -342,9 +342,9 @@ module _ (s : Shape) (m : Shared) (th : ℕ → Thread) (l : Ledger) {all : ℕ}
     begins op = record { bag = l .bag; operation = upd (l .operation) t op }
 
     -- a take begins
-    pub take-starts : NextState s l all (beginsTake t) m (upd th t (begunTake (th t)))
+    pub take-begun : NextState s l all (beginsTake t) m (upd th t (begunTake (th t)))
     unfolding begins begunTake atPlace
-    take-starts =
+    take-begun =
         let v = begunTake (th t) in
         record {
           next = begins taking;
@@ -396,9 +396,9 @@ module _ (s : Shape) (m : Shared) (th : ℕ → Thread) (l : Ledger) {all : ℕ}
                 refl refl refl own-cell (own-still putter) j);
           }
 
-      pub put-starts : NextState s l all (beginsPut t i) begun (upd th t putter)
+      pub put-begun : NextState s l all (beginsPut t i) begun (upd th t putter)
       unfolding begins begunPut atPlace withOwn withItem
-      put-starts =
+      put-begun =
           record {
             next = begins (putting i);
             follows = put-begins (resting .0);

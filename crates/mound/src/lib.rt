@@ -1,1 +1,1 @@
-// Definitions and theory of the mound itself, of shared memory and threads' records, no byte; this crate has no code.
+// The mound itself, over shared memory as functions and threads' records, with no byte; this crate has no code.
