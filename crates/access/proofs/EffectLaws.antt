@@ -8,15 +8,14 @@ use lib.ListN.{length}
 use Rattle.words.specs.Word.{word}
 use Rattle.words.specs.Inner.{Fit}
 use Rattle.words.proofs.Laws.{word-other, length-setWord}
-use Rattle.region.specs.Frame.{nodesOf, cellsOf}
-use Rattle.region.specs.Inner.{Parted, Within, partSize}
+use Rattle.region.specs.Inner.{Framed}
 use Rattle.region.specs.Record.{nodeWords, cellWords, zeroItem}
 use Rattle.region.specs.Shape.{nodeCount}
 use Rattle.region.specs.Shared.{putNode, putCell, putFree, cellIn, sharedIn, setNodeIn, setCellIn}
 use Rattle.region.specs.declared.frame.Frame.{Frame}
 use Rattle.region.specs.declared.record.Cell.{Cell}
 use Rattle.region.specs.declared.record.Node.{Node}
-use Rattle.region.proofs.Views.{Outside, length-setNodeIn, length-setCellIn, word-setNodeIn, word-setCellIn, shared-setNode, shared-setCell, shared-setDepth, shared-setFree}
+use Rattle.region.proofs.Views.{OutsideShared, outside-word, length-setNodeIn, length-setCellIn, word-setNodeIn, word-setCellIn, shared-setNode, shared-setCell, shared-setDepth, shared-setFree}
 use Rattle.access.specs.Effect.{effectShared, effectBytes, freedBytes, pushBytes, freed}
 use Rattle.access.specs.declared.effect.Effect.{Effect}
 use Rattle.access.specs.declared.effect.Effect.the-variants.{Nothing, Grow, Push, Pop, Exchange, Clean}
@@ -52,82 +51,73 @@ length-effect f b (Pop v c) = length-freed f (setNodeIn f b 1 v) c ∙ length-se
 length-effect f b (Exchange n v k w) = length-setNodeIn f (setNodeIn f b n v) k w ∙ length-setNodeIn f b n v
 length-effect f b (Clean n v) = length-setNodeIn f b n v
 
-module _ (f : Frame) (parted : Parted f) where
-  within-after : (b b′ : List ℕ) → length b′ ≡ length b → Within f (length b) → Within f (length b′)
-  within-after b b′ e w = subst (Within f) (sym e) w
+framed-after : (f : Frame) (b b′ : List ℕ) → length b′ ≡ length b → Framed f (length b) → Framed f (length b′)
+framed-after f b b′ e placed = subst (Framed f) (sym e) placed
 
-  -- The two sayings of an effect agree.
-  freed-shared : (b : List ℕ) (c : ℕ) → Within f (length b) → IsCell f c → word b (f .free) < 2 ^ 32 → c < 2 ^ 32
+framed-node : (f : Frame) (b : List ℕ) (n : ℕ) (v : Node) → Framed f (length b) → Framed f (length (setNodeIn f b n v))
+framed-node f b n v = framed-after f b (setNodeIn f b n v) (length-setNodeIn f b n v)
+
+-- The two sayings of an effect agree.
+module _ (f : Frame) where
+  freed-shared : (b : List ℕ) (c : ℕ) → Framed f (length b) → IsCell f c → word b (f .free) < 2 ^ 32 → c < 2 ^ 32
       → sharedIn f (freedBytes f b c) ≡ freed (sharedIn f b) c
   unfolding freedBytes sharedIn
-  freed-shared b c w i h hc =
+  freed-shared b c placed i h hc =
       let z : Cell = record { item = zeroItem; next = word b (f .free) } in
       let b₁ : List ℕ = setCellIn f b c z in
-      let w₁ = within-after b b₁ (length-setCellIn f b c z) w in
-      shared-setFree f b₁ w₁ parted c hc
-      ∙ ap (λ m. putFree m c) (shared-setCell f b w parted c z (i .0) (i .1) (omega arith, (omega arith, (h, tt))))
+      shared-setFree f b₁ (framed-after f b b₁ (length-setCellIn f b c z) placed) c hc
+      ∙ ap (λ m. putFree m c) (shared-setCell f b placed c z (i .0) (i .1) (omega arith, (omega arith, (h, tt))))
 
-  module _ (b : List ℕ) (w : Within f (length b)) (few : f .shape .cells < 2 ^ 32) where
+  module _ (b : List ℕ) (placed : Framed f (length b)) (few : f .shape .cells < 2 ^ 32) where
     push-shared : (n : ℕ) (v : Node) (c x : ℕ) → EffectFits f b (Push n v c x)
         → sharedIn f (pushBytes f b n v c x)
         ≡ putCell (putNode (sharedIn f b) n v) c (record { item = sharedIn f b .cell c .item; next = x })
     unfolding pushBytes sharedIn
     push-shared n v c x g =
         let y : Cell = record { item = cellIn f b c .item; next = x } in
-        let w₁ = within-after b (setNodeIn f b n v) (length-setNodeIn f b n v) w in
-        shared-setCell f (setNodeIn f b n v) w₁ parted c y (g .1 .0) (g .1 .1) (g .3)
-        ∙ ap (λ m. putCell m c y) (shared-setNode f b w parted n v (g .0 .0) (g .0 .1) (g .2))
+        shared-setCell f (setNodeIn f b n v) (framed-node f b n v placed) c y (g .1 .0) (g .1 .1) (g .3)
+        ∙ ap (λ m. putCell m c y) (shared-setNode f b placed n v (g .0 .0) (g .0 .1) (g .2))
 
     pop-shared : (v : Node) (c : ℕ) → EffectFits f b (Pop v c)
         → sharedIn f (freedBytes f (setNodeIn f b 1 v) c) ≡ freed (putNode (sharedIn f b) 1 v) c
     unfolding sharedIn
     pop-shared v c g =
-        let e = shared-setNode f b w parted 1 v (g .0 .0) (g .0 .1) (g .2) in
-        let w₁ = within-after b (setNodeIn f b 1 v) (length-setNodeIn f b 1 v) w in
+        let e = shared-setNode f b placed 1 v (g .0 .0) (g .0 .1) (g .2) in
         let k : word (setNodeIn f b 1 v) (f .free) ≡ word b (f .free) = ap (λ m. m .free) e in
-        freed-shared (setNodeIn f b 1 v) c w₁ (g .1) (omega (arith, k, g .3)) (omega (arith, g .1 .1, few))
+        freed-shared (setNodeIn f b 1 v) c (framed-node f b 1 v placed) (g .1) (omega (arith, k, g .3)) (omega (arith, g .1 .1, few))
         ∙ ap (λ m. freed m c) e
 
     exchange-shared : (n : ℕ) (v : Node) (k : ℕ) (x : Node) → EffectFits f b (Exchange n v k x)
         → sharedIn f (setNodeIn f (setNodeIn f b n v) k x) ≡ putNode (putNode (sharedIn f b) n v) k x
     exchange-shared n v k x g =
-        let w₁ = within-after b (setNodeIn f b n v) (length-setNodeIn f b n v) w in
-        shared-setNode f (setNodeIn f b n v) w₁ parted k x (g .1 .0) (g .1 .1) (g .3)
-        ∙ ap (λ m. putNode m k x) (shared-setNode f b w parted n v (g .0 .0) (g .0 .1) (g .2))
+        shared-setNode f (setNodeIn f b n v) (framed-node f b n v placed) k x (g .1 .0) (g .1 .1) (g .3)
+        ∙ ap (λ m. putNode m k x) (shared-setNode f b placed n v (g .0 .0) (g .0 .1) (g .2))
 
     pub effect-shared : (e : Effect) → EffectFits f b e → sharedIn f (effectBytes f b e) ≡ effectShared (sharedIn f b) e
     unfolding effectBytes effectShared
     effect-shared Nothing g = refl
-    effect-shared (Grow d) g = shared-setDepth f b w parted d g
+    effect-shared (Grow d) g = shared-setDepth f b placed d g
     effect-shared (Push n v c x) g = push-shared n v c x g
     effect-shared (Pop v c) g = pop-shared v c g
     effect-shared (Exchange n v k x) g = exchange-shared n v k x g
-    effect-shared (Clean n v) g = shared-setNode f b w parted n v (g .0 .0) (g .0 .1) (g .1)
+    effect-shared (Clean n v) g = shared-setNode f b placed n v (g .0 .0) (g .0 .1) (g .1)
 
-  -- Words outside the parts that effects store to.
-  pub record Elsewhere (j : ℕ) : Type 0 where
-    pub nodes : Outside (nodesOf f .start) (partSize (nodesOf f)) j
-    pub cells : Outside (cellsOf f .start) (partSize (cellsOf f)) j
-    pub depth : j ≡ f .depth → ⊥
-    pub free : j ≡ f .free → ⊥
+-- Words outside the parts that effects store to.
+module _ (f : Frame) (j : ℕ) (o : OutsideShared f j) where
+  node-word : (b : List ℕ) (n : ℕ) (v : Node) → Framed f (length b) → word (setNodeIn f b n v) j ≡ word b j
+  node-word b n v placed = word-setNodeIn f b placed n j v (o .nodes)
 
-  module _ (j : ℕ) (o : Elsewhere j) where
-    node-word : (b : List ℕ) (n : ℕ) (v : Node) → Within f (length b) → word (setNodeIn f b n v) j ≡ word b j
-    node-word b n v w = word-setNodeIn f b w n j v (o .nodes)
+  freed-word : (b : List ℕ) (c : ℕ) → Framed f (length b) → word (freedBytes f b c) j ≡ word b j
+  unfolding freedBytes
+  freed-word b c placed = word-other _ (f .free) j c (outside-word (o .free)) ∙ word-setCellIn f b placed c j _ (o .cells)
 
-    freed-word : (b : List ℕ) (c : ℕ) → Within f (length b) → word (freedBytes f b c) j ≡ word b j
-    unfolding freedBytes
-    freed-word b c w = word-other _ (f .free) j c (o .free) ∙ word-setCellIn f b w c j _ (o .cells)
-
-    pub effect-word : (b : List ℕ) → Within f (length b) → (e : Effect) → word (effectBytes f b e) j ≡ word b j
-    unfolding effectBytes pushBytes
-    effect-word b w Nothing = refl
-    effect-word b w (Grow d) = word-other b (f .depth) j d (o .depth)
-    effect-word b w (Push n v c x) =
-        word-setCellIn f (setNodeIn f b n v) (within-after b (setNodeIn f b n v) (length-setNodeIn f b n v) w) c j _ (o .cells)
-        ∙ node-word b n v w
-    effect-word b w (Pop v c) =
-        freed-word (setNodeIn f b 1 v) c (within-after b (setNodeIn f b 1 v) (length-setNodeIn f b 1 v) w) ∙ node-word b 1 v w
-    effect-word b w (Exchange n v k x) =
-        node-word (setNodeIn f b n v) k x (within-after b (setNodeIn f b n v) (length-setNodeIn f b n v) w) ∙ node-word b n v w
-    effect-word b w (Clean n v) = node-word b n v w
+  pub effect-word : (b : List ℕ) → Framed f (length b) → (e : Effect) → word (effectBytes f b e) j ≡ word b j
+  unfolding effectBytes pushBytes
+  effect-word b placed Nothing = refl
+  effect-word b placed (Grow d) = word-other b (f .depth) j d (outside-word (o .depth))
+  effect-word b placed (Push n v c x) =
+      word-setCellIn f (setNodeIn f b n v) (framed-node f b n v placed) c j _ (o .cells) ∙ node-word b n v placed
+  effect-word b placed (Pop v c) = freed-word (setNodeIn f b 1 v) c (framed-node f b 1 v placed) ∙ node-word b 1 v placed
+  effect-word b placed (Exchange n v k x) =
+      node-word (setNodeIn f b n v) k x (framed-node f b n v placed) ∙ node-word b n v placed
+  effect-word b placed (Clean n v) = node-word b n v placed

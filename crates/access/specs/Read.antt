@@ -2,6 +2,7 @@
 use Prim.Native.Nat.{ℕ, _+_}
 use mathlib.Core.Bool.{Bool, not, _&&_}
 use lib.Dec.{eqb}
+use Rattle.region.specs.Record.{greatestCounter}
 use Rattle.region.specs.Shape.{between, nodeCount}
 use Rattle.region.specs.Shared.{Shared}
 use Rattle.region.specs.declared.record.Node.{Node}
@@ -21,7 +22,7 @@ isDirty n = not (eqb (n .dirty) 0)
 
 -- "11: an update whose comparison holds meets a counter of 4,294,967,295 in a node it would change"
 unfoldable pub isSpent : Node → Bool
-isSpent n = eqb (n .counter) 4294967295
+isSpent n = eqb (n .counter) greatestCounter
 
 -- "Each update adds 1 to the counter of every node it changes": the node with another list and mark
 unfoldable pub updated : Node → ℕ → ℕ → Node

@@ -7,6 +7,7 @@ ghost use Rattle.region.specs.Inner.{Within};
 ghost use Rattle.region.specs.Shared.{sharedIn};
 ghost use Rattle.access.specs.Read.{isDirty, isLevel, isNode, isSpent, readNode, sameNode, updated};
 use region::Frame;
+use region::GREATEST_COUNTER;
 use region::Node;
 use region::NodeCopy;
 use region::Shape;
@@ -44,7 +45,7 @@ pub fn is_dirty(n: Node) -> bool
 pub fn is_spent(n: Node) -> bool
     ensures { λ r. ⌜ r ≡ isSpent n ⌝ }
 {
-    n.counter == 4294967295
+    n.counter == GREATEST_COUNTER
 }
 
 // The node with another list and mark, and its counter one up.

@@ -3,7 +3,7 @@
 use Prim.Native.Nat.{ℕ}
 use native.Mathlib.Decide.{ℕ-discrete}
 use native.Mathlib.Omega.{arith}
-use mathlib.Core.Path.{_≡_, refl, sym, ap, subst, _∙_}
+use mathlib.Core.Path.{_≡_, refl, ap, _∙_}
 use mathlib.Core.Bool.{Bool, true, false, not}
 use mathlib.Core.List.{List}
 use borrow.Author.Tests.{eq-eqb, ne-eqb}
@@ -14,9 +14,7 @@ use Rattle.region.specs.Frame.{frameOf}
 use Rattle.region.specs.Pick.{pick}
 use Rattle.region.specs.Shared.{sharedIn, threadIn}
 use Rattle.region.specs.declared.record.Item.{Item}
-use Rattle.region.specs.declared.shape.Shape.{Shape}
 use Rattle.readable.specs.Readable.{shapeIn}
-use Rattle.readable.proofs.Laws.{Good}
 use Rattle.machine.specs.Begin.{frameIn, hasFreeCell, putRefusal}
 use Rattle.mound.specs.Ledger.{Ledger}
 use Rattle.mound.proofs.Account.{all-cells, full-without, not-full-with}
@@ -29,12 +27,8 @@ cell-decides : (b : List ℕ) (t : ℕ) (i : Item) → NothingElseRefuses b t i
 unfolding putRefusal hasFreeCell pick
 cell-decides b t i a = rw (a .region, a .thread, a .item, a .permitted, a .idle) refl
 
--- Both, of every readable region of which the invariant holds.
-module _ (s : Shape) (b : List ℕ) (l : Ledger) (g : Good s b)
-    (inv : Invariant s (sharedIn (frameOf s) b) (threadIn (frameOf s) b) l (s .cells)) where
-  here : Invariant (shapeIn b) (sharedIn (frameIn b) b) (threadIn (frameIn b) b) l (shapeIn b .cells)
-  here = subst (λ x. Invariant x (sharedIn (frameOf x) b) (threadIn (frameOf x) b) l (x .cells)) (sym (g .shape)) inv
-
+-- Both, of every region of one queue of which the invariant holds.
+module _ (b : List ℕ) (l : Ledger) (here : Invariant (shapeIn b) (sharedIn (frameIn b) b) (threadIn (frameIn b) b) l (shapeIn b .cells)) where
   pub all-cells-accounted : AllCellsAccounted b
   unfolding treeCells begunPuts freeCells frameOf
   all-cells-accounted = all-cells (shapeIn b) (sharedIn (frameIn b) b) (threadIn (frameIn b) b) l here

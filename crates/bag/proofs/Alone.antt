@@ -12,7 +12,6 @@ use lib.Dec.{eqb}
 use lib.ListN.{length}
 use lib.Pow.{pow-mono}
 use Rattle.region.specs.Answer.{counterSpent}
-use Rattle.region.specs.Frame.{frameOf}
 use Rattle.region.specs.Level.{digits, level}
 use Rattle.region.specs.Pick.{pick, upd}
 use Rattle.region.specs.Shape.{nodeCount}
@@ -44,7 +43,7 @@ use Rattle.moundify.specs.Moundify.{returning, mendReadNode, depthRead, mendRea
 use Rattle.machine.specs.Turn.{decide, decideAt, staysPut, turnAnswer, turnBytes, turnPlan}
 use Rattle.cost.specs.Cost.{lesserChild, levelsDown, withoutHead}
 use Rattle.cost.proofs.Laws.{goes-down, lesser-is-child, levels-same, rests-deepest, rests-there, swaps-as-placed, tests-as-placed}
-use Rattle.preserved.proofs.Proved.{turn-good}
+use Rattle.preserved.proofs.Proved.{turn-keeps}
 use Rattle.preserved.proofs.TreeLevels.{level-child, twice}
 use Rattle.mound.specs.Tree.{listFrom}
 use Rattle.mound.proofs.Sorted.{valueAt}
@@ -87,23 +86,26 @@ clean-but : (f : ℕ → Node) (n c : ℕ) (v w : Node) → v .dirty ≡ 0 → (
     → (x : ℕ) → (x ≡ c → ⊥) → upd (upd f n v) c w x .dirty ≡ 0
 clean-but f n c v w e h x nc = ap (λ y. y .dirty) (upd-other (upd f n v) c x w nc) ∙ clean-now f n v e h x
 
-module _ (s : Shape) (t : ℕ) (t-least : 1 ≤ t) (t-most : t ≤ s .threads) where
+module _ (f : Frame) (t : ℕ) (t-least : 1 ≤ t) (t-most : t ≤ f .shape .threads) where
+  abbrev s : Shape
+  s = f .shape
+
   -- E1 at an empty root answers empty.
   pub empty-ends : (m : Shared) (u : Thread) → u .place ≡ ReadRoot → m .node 1 .first ≡ 0 → m .node 1 .dirty ≡ 0 → (b cs : List ℕ)
-      → sharedIn (frameOf s) b ≡ m → threadIn (frameOf s) b t ≡ u → 1 ≤ length cs
-      → EndsAt (λ x. x .answer ≡ Empty) 1 (alone (frameOf s) b t cs)
+      → sharedIn f b ≡ m → threadIn f b t ≡ u → 1 ≤ length cs
+      → EndsAt (λ x. x .answer ≡ Empty) 1 (alone f b t cs)
   unfolding alone turnAnswer decide readRoot rootRead plan pick readNode
   empty-ends m u place none clean b [] em eu long = absurd (omega arith)
   empty-ends m u place none clean b (c ∷ cs) em eu long =
       let e : decide s m u c ≡ plan Nothing (goneIdle u) Empty =
       ap (decideAt s m u c) place ∙ rw (not-dirty {n = m .node 1} refl clean, eq-eqb (m .node 1 .first) 0 none) refl
       in
-      last (ap (λ x. x .answer) (turn-decides s b t c t-least t-most ∙ (λ i. decide s (em i) (eu i) c) ∙ e))
+      last (ap (λ x. x .answer) (turn-decides f b t c t-least t-most ∙ (λ i. decide s (em i) (eu i) c) ∙ e))
 
   -- A take begun on the region b₀. Its root's list without its head begins with the cell `first` of these cells, and is to come to rest at
   -- level j, d being the present depth.
   module _ (b₀ : List ℕ) (d j : ℕ) (cell : ℕ → Cell) (first : ℕ)
-      (behind : listOf (frameOf s) b₀ 1 ≡ rootHead (frameOf s) b₀ ∷ listFrom cell (frameOf s .shape .cells) first) where
+      (behind : listOf f b₀ 1 ≡ rootHead f b₀ ∷ listFrom cell (f .shape .cells) first) where
     -- Accesses made are counted from 3 at E1: so 4 at E2, 5 × l at M1 of a node of level l, and this when the list has come to rest.
     abbrev pub end : ℕ
     end = min (5 * j + 5) (5 * d + 3)
@@ -112,31 +114,31 @@ module _ (s : Shape) (t : ℕ) (t-least : 1 ≤ t) (t-most : t ≤ s .threads) w
     pub record Rests (spent : ℕ) (b cs : List ℕ) : Type 0 where
       pub count : ℕ
       pub exact : spent + count ≡ end
-      pub rests : EndsAt (LeavesList (frameOf s) b₀ t j) count (alone (frameOf s) b t cs)
+      pub rests : EndsAt (LeavesList f b₀ t j) count (alone f b t cs)
 
     -- from every region with this shared memory and this record of thread t, with choices enough and no turn refused 11
     abbrev RestsFrom : ℕ → Shared → Thread → Type 0
     RestsFrom spent m u =
-        (b cs : List ℕ) → Good s b → sharedIn (frameOf s) b ≡ m → threadIn (frameOf s) b t ≡ u → end ≤ spent + length cs
-        → NoneSpent (alone (frameOf s) b t cs) → Rests spent b cs
+        (b cs : List ℕ) → Good f b → sharedIn f b ≡ m → threadIn f b t ≡ u → end ≤ spent + length cs
+        → NoneSpent (alone f b t cs) → Rests spent b cs
 
     -- A turn that is refused 11 or goes by p.
     module _ (spent : ℕ) (m : Shared) (u : Thread) (few : spent < end) (q : Bool) (p : Plan)
         (decides : (c : ℕ) → decide s m u c ≡ pick q (refused u counterSpent) p) where
-      module _ (b : List ℕ) (c : ℕ) (cs : List ℕ) (em : sharedIn (frameOf s) b ≡ m) (eu : threadIn (frameOf s) b t ≡ u)
-          (none : NoneSpent (alone (frameOf s) b t (c ∷ cs))) where
-        by-place : turnPlan (frameOf s) b t c ≡ pick q (refused u counterSpent) p
-        by-place = turn-decides s b t c t-least t-most ∙ (λ i. decide s (em i) (eu i) c) ∙ decides c
+      module _ (b : List ℕ) (c : ℕ) (cs : List ℕ) (em : sharedIn f b ≡ m) (eu : threadIn f b t ≡ u)
+          (none : NoneSpent (alone f b t (c ∷ cs))) where
+        by-place : turnPlan f b t c ≡ pick q (refused u counterSpent) p
+        by-place = turn-decides f b t c t-least t-most ∙ (λ i. decide s (em i) (eu i) c) ∙ decides c
 
         not-spent : q ≡ false
         unfolding alone turnAnswer pick refused plan
         not-spent = go q by-place
           where
-            go : (q : Bool) → turnPlan (frameOf s) b t c ≡ pick q (refused u counterSpent) p → q ≡ false
+            go : (q : Bool) → turnPlan f b t c ≡ pick q (refused u counterSpent) p → q ≡ false
             go true e = absurd (none .0 (ap (λ x. x .answer) e))
             go false e = refl
 
-        planned : turnPlan (frameOf s) b t c ≡ p
+        planned : turnPlan f b t c ≡ p
         unfolding pick
         planned = by-place ∙ ap (λ x. pick x (refused u counterSpent) p) not-spent
 
@@ -147,11 +149,11 @@ module _ (s : Shape) (t : ℕ) (t-least : 1 ≤ t) (t-most : t ≤ s .threads) w
       moves a next up after b [] g em eu long none = absurd (omega arith)
       moves a next up after b (c ∷ cs) g em eu long none =
           let e = planned b c cs em eu none in
-          let answered : turnPlan (frameOf s) b t c .answer ≡ Moved = ap (λ x. x .answer) e ∙ a in
-          let goes : staysPut (turnPlan (frameOf s) b t c .answer) ≡ false = ap staysPut answered in
-          let r = after (turnBytes (frameOf s) b t c) cs (turn-good s b g t c)
-          (turn-shared s b t c g goes ∙ (λ i. effectShared (em i) (e i .effect)))
-          (ap (λ h. h t) (turn-threads s b t c g goes) ∙ upd-same (threadIn (frameOf s) b) t (turnPlan (frameOf s) b t c .thread)
+          let answered : turnPlan f b t c .answer ≡ Moved = ap (λ x. x .answer) e ∙ a in
+          let goes : staysPut (turnPlan f b t c .answer) ≡ false = ap staysPut answered in
+          let r = after (turnBytes f b t c) cs (turn-keeps f b g t c .good)
+          (turn-shared f b t c g goes ∙ (λ i. effectShared (em i) (e i .effect)))
+          (ap (λ h. h t) (turn-threads f b t c g goes) ∙ upd-same (threadIn f b) t (turnPlan f b t c .thread)
           ∙ ap (λ x. x .thread) e)
           (omega arith)
           (none .1)
@@ -160,8 +162,8 @@ module _ (s : Shape) (t : ℕ) (t-least : 1 ≤ t) (t-most : t ≤ s .threads) w
 
       -- p is the last
       comes-to-rest : spent + 1 ≡ end
-          → ((b : List ℕ) (c : ℕ) → Good s b → sharedIn (frameOf s) b ≡ m → threadIn (frameOf s) b t ≡ u → turnPlan (frameOf s) b t c ≡ p
-          → LeavesList (frameOf s) b₀ t j (stepOf (frameOf s) b t c))
+          → ((b : List ℕ) (c : ℕ) → Good f b → sharedIn f b ≡ m → threadIn f b t ≡ u → turnPlan f b t c ≡ p
+          → LeavesList f b₀ t j (stepOf f b t c))
           → RestsFrom spent m u
       unfolding alone
       comes-to-rest exact leaves b [] g em eu long none = absurd (omega arith)
@@ -178,7 +180,7 @@ module _ (s : Shape) (t : ℕ) (t-least : 1 ≤ t) (t-most : t ≤ s .threads) w
     record Mending (l : ℕ) (m : Shared) (u : Thread) (p : Place) : Type 0 where
       place : u .place ≡ p
       after : u .after ≡ 1
-      result : u .result ≡ rootItem (frameOf s) b₀
+      result : u .result ≡ rootItem f b₀
       some : 1 ≤ u .node
       few : u .node ≤ nodeCount s
       at-level : level (u .node) ≡ l
@@ -222,11 +224,11 @@ module _ (s : Shape) (t : ℕ) (t-least : 1 ≤ t) (t-most : t ≤ s .threads) w
         (λ c. ap (decideAt s m u c) (h .place) ∙ rw (ne-eqb (u .node) 0 (λ z. omega (arith, h .some)), same-copy same) refl)
         exact
         (λ b c g em eu e.
-        let answered : turnPlan (frameOf s) b t c .answer ≡ Took (u .result) =
+        let answered : turnPlan f b t c .answer ≡ Took (u .result) =
         ap (λ x. x .answer) e ∙ rw (eq-eqb (u .after) 1 (h .after)) refl
         in
-        let after : sharedIn (frameOf s) (turnBytes (frameOf s) b t c) ≡ effectShared m (Clean (u .node) v) =
-        turn-shared s b t c g (ap staysPut answered) ∙ (λ i. effectShared (em i) (e i .effect))
+        let after : sharedIn f (turnBytes f b t c) ≡ effectShared m (Clean (u .node) v) =
+        turn-shared f b t c g (ap staysPut answered) ∙ (λ i. effectShared (em i) (e i .effect))
         in
         let begins : upd (m .node) (u .node) v (u .node) .first ≡ first =
         ap (λ x. x .first) (upd-same (m .node) (u .node) v) ∙ updated-first n (n .first) 0 ∙ ap (λ x. x .first) same ∙ h .list
@@ -241,9 +243,9 @@ module _ (s : Shape) (t : ℕ) (t-least : 1 ≤ t) (t-most : t ≤ s .threads) w
           clean = λ x p q. ap (λ y. y .node x .dirty) after ∙ clean-now (m .node) (u .node) v (updated-dirty n (n .first) 0) (h .clean) x;
           list =
               behind
-              ∙ ap (λ xs. rootHead (frameOf s) b₀ ∷ xs)
-              (sym (ap (λ y. listFrom (y .cell) (frameOf s .shape .cells) (y .node (u .node) .first)) after
-              ∙ (λ i. listFrom (h .cells i) (frameOf s .shape .cells) (begins i))));
+              ∙ ap (λ xs. rootHead f b₀ ∷ xs)
+              (sym (ap (λ y. listFrom (y .cell) (f .shape .cells) (y .node (u .node) .first)) after
+              ∙ (λ i. listFrom (h .cells i) (f .shape .cells) (begins i))));
           answer = answered ∙ ap Took (h .result);
         })
 
@@ -437,7 +439,7 @@ module _ (s : Shape) (t : ℕ) (t-least : 1 ≤ t) (t-most : t ≤ s .threads) w
     -- E2 and E1, with the root not empty and every node clean
     module _ (r : InRange s) (some : 1 ≤ d) (deep : d ≤ s .depth) (m : Shared) (depth : m .depth ≡ d)
         (full : m .node 1 .first ≡ 0 → ⊥) (clean : (x : ℕ) → m .node x .dirty ≡ 0)
-        (taken : m .cell (m .node 1 .first) .item ≡ rootItem (frameOf s) b₀) (begins : m .cell (m .node 1 .first) .next ≡ first)
+        (taken : m .cell (m .node 1 .first) .item ≡ rootItem f b₀) (begins : m .cell (m .node 1 .first) .next ≡ first)
         (cells : popped m .cell ≡ cell) (goes : 1 + levelsDown (val (popped m)) (val (popped m) 1) (d - 1) 1 ≡ j) where
       head-rests : (u : Thread) → u .place ≡ RemoveHead → u .copies .first ≡ readNode m 1 → RestsFrom 4 m u
       unfolding decide removeHead headRemoved effectShared plan pick mending atPlace withNode withAfter withResult level digits readNode popped withoutHead

@@ -4,7 +4,6 @@ use mathlib.Core.Path.{_≡_, refl, sym, ap, subst, _∙_}
 use mathlib.Core.Bool.{Bool, true, false, _&&_, _||_}
 use mathlib.Core.List.{List}
 use lib.Dec.{eqb}
-use Rattle.region.specs.Frame.{frameOf}
 use Rattle.region.specs.Pick.{pick}
 use Rattle.region.specs.Shared.{Shared, sharedIn, threadIn}
 use Rattle.region.specs.Thread.{atPlace, goneIdle, mending, returned, returnAnswer, withDepth}
@@ -161,21 +160,21 @@ plan-spoken f b t c =
     (at-place-says (rootItem f b) t (f .shape) (sharedIn f b) (threadIn f b t) c (threadIn f b t .place))
     (refused-says (rootItem f b) t _ _ _)
 
--- a turn on a readable region
-module _ (s : Shape) (b : List ℕ) (g : Good s b) (x : Turn) where
+-- a turn on bytes in range
+module _ (f : Frame) (b : List ℕ) (g : Good f b) (x : Turn) where
   abbrev p : Plan
-  p = turnPlan (frameOf s) b (x .thread) (x .choice)
+  p = turnPlan f b (x .thread) (x .choice)
 
-  pub turn-tells : tells (turned (servedOn (frameOf s) b x)) ≡ effectTells (rootItem (frameOf s) b) (x .thread) (p .answer) (p .effect)
+  pub turn-tells : tells (turned (servedOn f b x)) ≡ effectTells (rootItem f b) (x .thread) (p .answer) (p .effect)
   unfolding servedOn turnAnswer
   turn-tells =
       let t = x .thread in
       let c = x .choice in
-      place-after (rootItem (frameOf s) b) t _ _ (p .thread .place) (p .answer) (λ e.
-      let moved-on = ap (λ h. h t) (turn-threads s b t c g (ap staysPut e)) ∙ upd-same (threadIn (frameOf s) b) t (p .thread) in
+      place-after (rootItem f b) t _ _ (p .thread .place) (p .answer) (λ e.
+      let moved-on = ap (λ h. h t) (turn-threads f b t c g (ap staysPut e)) ∙ upd-same (threadIn f b) t (p .thread) in
       ap (λ y. y .place) moved-on)
-      ∙ plan-spoken (frameOf s) b t c .tells-so
+      ∙ plan-spoken f b t c .tells-so
 
-  pub turn-says : Says (x .thread) (turnAnswer (frameOf s) b (x .thread) (x .choice)) (tells (turned (servedOn (frameOf s) b x)))
+  pub turn-says : Says (x .thread) (turnAnswer f b (x .thread) (x .choice)) (tells (turned (servedOn f b x)))
   unfolding turnAnswer
-  turn-says = subst (Says (x .thread) (p .answer)) (sym turn-tells) (plan-spoken (frameOf s) b (x .thread) (x .choice) .says)
+  turn-says = subst (Says (x .thread) (p .answer)) (sym turn-tells) (plan-spoken f b (x .thread) (x .choice) .says)

@@ -1,18 +1,15 @@
--- A turn on the bytes of a readable region, read as shared memory and threads' records: its thread's record is stored and its plan's
+-- A turn on bytes in range under a frame, read as shared memory and threads' records: its thread's record is stored and its plan's
 -- effect carried out, or no byte changes. Assumes nothing.
 use Prim.Native.Nat.{ℕ, _≤_}
 use mathlib.Core.Path.{_≡_, refl, ap, _∙_}
 use mathlib.Core.Bool.{Bool, true, false, true≢false}
 use mathlib.Core.List.{List}
 use Rattle.region.specs.Answer.{badThread}
-use Rattle.region.specs.Frame.{frameOf}
 use Rattle.region.specs.Pick.{pick, upd}
 use Rattle.region.specs.Shape.{between}
 use Rattle.region.specs.Shared.{sharedIn, setThreadIn, threadIn}
 use Rattle.region.specs.Thread.{idleThread}
 use Rattle.region.specs.declared.frame.Frame.{Frame}
-use Rattle.region.specs.declared.shape.Shape.{Shape}
-use Rattle.region.proofs.Frames.{frame-parted}
 use Rattle.region.proofs.Shapes.{between-least, between-most, is-between}
 use Rattle.region.proofs.Views.{shared-setThread, threads-setThread}
 use Rattle.access.specs.Effect.{effectShared}
@@ -20,11 +17,11 @@ use Rattle.access.specs.Plan.{refused}
 use Rattle.access.specs.declared.plan.Plan.{Plan}
 use Rattle.access.proofs.EffectLaws.{effect-shared}
 use Rattle.readable.proofs.Laws.{Good}
-use Rattle.readable.proofs.Stores.{good-shared, good-thread, good-within, thread-fit}
+use Rattle.readable.proofs.Stores.{good-shared, thread-fit}
 use Rattle.machine.specs.Turn.{carriedOut, decide, staysPut, turnBytes, turnPlan}
-use Rattle.preserved.proofs.EffectsGood.{fits-of, frame-cells}
+use Rattle.preserved.proofs.EffectsGood.{few-cells, fits-of}
 use Rattle.preserved.proofs.PlansGood.{PlanGood}
-use Rattle.preserved.proofs.Proved.{decided, effect-threads, record-good}
+use Rattle.preserved.proofs.Proved.{effect-threads, plan-in-range, record-keeps}
 
 -- a plan whose answer is idle or refused changes no byte
 carried-stays : (f : Frame) (b : List ℕ) (t : ℕ) (p : Plan) → staysPut (p .answer) ≡ true → carriedOut f b t p ≡ b
@@ -32,75 +29,72 @@ unfolding carriedOut pick
 carried-stays f b t p e = rw e refl
 
 -- any other, in range
-module _ (s : Shape) (b : List ℕ) (g : Good s b) (t : ℕ) (l : 1 ≤ t) (u : t ≤ s .threads) (p : Plan) (gp : PlanGood s p)
-    (e : staysPut (p .answer) ≡ false) where
+module _ (f : Frame) (b : List ℕ) (g : Good f b) (t : ℕ) (l : 1 ≤ t) (u : t ≤ f .shape .threads) (p : Plan)
+    (gp : PlanGood (f .shape) p) (e : staysPut (p .answer) ≡ false) where
   stored : List ℕ
-  stored = setThreadIn (frameOf s) b t (p .thread)
+  stored = setThreadIn f b t (p .thread)
 
-  stored-good : Good s stored
+  stored-good : Good f stored
   unfolding stored
-  stored-good = record-good s b g t l u p gp
+  stored-good = record-keeps f b g t l u p gp .good
 
-  carried-shared : sharedIn (frameOf s) (carriedOut (frameOf s) b t p) ≡ effectShared (sharedIn (frameOf s) b) (p .effect)
+  carried-shared : sharedIn f (carriedOut f b t p) ≡ effectShared (sharedIn f b) (p .effect)
   unfolding carriedOut pick stored
   carried-shared =
       rw e
-      (effect-shared (frameOf s) (frame-parted s) stored (good-within s stored stored-good) (frame-cells s (g .range)) (p .effect)
-      (fits-of s (g .range) stored (good-shared s stored stored-good) (p .effect) (gp .effect))
-      ∙ ap (λ m. effectShared m (p .effect))
-      (shared-setThread (frameOf s) b (good-within s b g) (frame-parted s) t (p .thread)))
+      (effect-shared f stored (stored-good .placed) (few-cells (f .shape) (g .range)) (p .effect)
+      (fits-of f (g .range) stored (good-shared f stored stored-good) (p .effect) (gp .effect))
+      ∙ ap (λ m. effectShared m (p .effect)) (shared-setThread f b (g .placed) t (p .thread)))
 
-  carried-threads : threadIn (frameOf s) (carriedOut (frameOf s) b t p) ≡ upd (threadIn (frameOf s) b) t (p .thread)
-  unfolding carriedOut pick frameOf stored
+  carried-threads : threadIn f (carriedOut f b t p) ≡ upd (threadIn f b) t (p .thread)
+  unfolding carriedOut pick stored
   carried-threads =
       rw e
-      (effect-threads s stored stored-good (p .effect)
-      ∙ threads-setThread (frameOf s) b (good-within s b g) (frame-parted s) t (p .thread) l u
-      (thread-fit s (g .range) (p .thread) (gp .thread)))
+      (effect-threads f stored stored-good (p .effect)
+      ∙ threads-setThread f b (g .placed) t (p .thread) l u (thread-fit (f .shape) (g .range) (p .thread) (gp .thread)))
 
 -- A turn of thread t with choice c.
-module _ (s : Shape) (b : List ℕ) (t c : ℕ) where
+module _ (f : Frame) (b : List ℕ) (t c : ℕ) where
   -- a thread that exists goes by its place
-  pub turn-decides : 1 ≤ t → t ≤ s .threads
-      → turnPlan (frameOf s) b t c ≡ decide s (sharedIn (frameOf s) b) (threadIn (frameOf s) b t) c
-  unfolding turnPlan frameOf pick
-  turn-decides l u = rw (is-between 1 t (s .threads) l u) refl
+  pub turn-decides : 1 ≤ t → t ≤ f .shape .threads
+      → turnPlan f b t c ≡ decide (f .shape) (sharedIn f b) (threadIn f b t) c
+  unfolding turnPlan pick
+  turn-decides l u = rw (is-between 1 t (f .shape .threads) l u) refl
 
   -- no other thread's turn changes anything
-  thread-exists : staysPut (turnPlan (frameOf s) b t c .answer) ≡ false → between 1 t (s .threads) ≡ true
-  unfolding turnPlan frameOf pick refused
-  thread-exists e = go (between 1 t (s .threads)) e
+  thread-exists : staysPut (turnPlan f b t c .answer) ≡ false → between 1 t (f .shape .threads) ≡ true
+  unfolding turnPlan pick refused
+  thread-exists e = go (between 1 t (f .shape .threads)) e
     where
       go : (q : Bool)
-          → staysPut (pick q (decide s (sharedIn (frameOf s) b) (threadIn (frameOf s) b t) c) (refused (idleThread 0) badThread) .answer) ≡ false
+          → staysPut (pick q (decide (f .shape) (sharedIn f b) (threadIn f b t) c) (refused (idleThread 0) badThread) .answer) ≡ false
           → q ≡ true
       go true h = refl
       go false h = absurd (true≢false h)
 
   -- idle or refused
-  pub turn-stays : staysPut (turnPlan (frameOf s) b t c .answer) ≡ true → turnBytes (frameOf s) b t c ≡ b
+  pub turn-stays : staysPut (turnPlan f b t c .answer) ≡ true → turnBytes f b t c ≡ b
   unfolding turnBytes
-  turn-stays e = carried-stays (frameOf s) b t (turnPlan (frameOf s) b t c) e
+  turn-stays e = carried-stays f b t (turnPlan f b t c) e
 
-  -- any other, on a readable region
-  module _ (g : Good s b) (e : staysPut (turnPlan (frameOf s) b t c .answer) ≡ false) where
+  -- any other, on bytes in range
+  module _ (g : Good f b) (e : staysPut (turnPlan f b t c .answer) ≡ false) where
     pub turn-least : 1 ≤ t
-    turn-least = between-least 1 t (s .threads) (thread-exists e)
+    turn-least = between-least 1 t (f .shape .threads) (thread-exists e)
 
-    pub turn-most : t ≤ s .threads
-    turn-most = between-most 1 t (s .threads) (thread-exists e)
+    pub turn-most : t ≤ f .shape .threads
+    turn-most = between-most 1 t (f .shape .threads) (thread-exists e)
 
-    pub turn-plan-good : PlanGood s (turnPlan (frameOf s) b t c)
+    pub turn-plan-good : PlanGood (f .shape) (turnPlan f b t c)
     turn-plan-good =
-        rw (turn-decides turn-least turn-most)
-        (decided s (g .range) (sharedIn (frameOf s) b) (good-shared s b g) (threadIn (frameOf s) b t) (good-thread s b g t) c)
+        rw (turn-decides turn-least turn-most) (plan-in-range f b g t c)
 
-    pub turn-shared : sharedIn (frameOf s) (turnBytes (frameOf s) b t c)
-        ≡ effectShared (sharedIn (frameOf s) b) (turnPlan (frameOf s) b t c .effect)
+    pub turn-shared : sharedIn f (turnBytes f b t c)
+        ≡ effectShared (sharedIn f b) (turnPlan f b t c .effect)
     unfolding turnBytes
-    turn-shared = carried-shared s b g t turn-least turn-most (turnPlan (frameOf s) b t c) turn-plan-good e
+    turn-shared = carried-shared f b g t turn-least turn-most (turnPlan f b t c) turn-plan-good e
 
-    pub turn-threads : threadIn (frameOf s) (turnBytes (frameOf s) b t c)
-        ≡ upd (threadIn (frameOf s) b) t (turnPlan (frameOf s) b t c .thread)
+    pub turn-threads : threadIn f (turnBytes f b t c)
+        ≡ upd (threadIn f b) t (turnPlan f b t c .thread)
     unfolding turnBytes
-    turn-threads = carried-threads s b g t turn-least turn-most (turnPlan (frameOf s) b t c) turn-plan-good e
+    turn-threads = carried-threads f b g t turn-least turn-most (turnPlan f b t c) turn-plan-good e

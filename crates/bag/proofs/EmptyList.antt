@@ -23,16 +23,16 @@ use Rattle.layout.specs.Layout.{layoutRefusal, layoutBytes}
 use Rattle.layout.proofs.Laws.{laid-exact}
 use Rattle.layout.proofs.LayoutReads.{laid-thread}
 use Rattle.readable.specs.Readable.{readable, shapeIn}
-use Rattle.readable.proofs.Laws.{good, readable-good}
+use Rattle.readable.proofs.Laws.{readable-length}
 use Rattle.machine.specs.Begin.{frameIn, mayPut, mayTake, putBytes, putRefusal, takeBytes, takeRefusal}
 use Rattle.machine.specs.Turn.{carriedOut, decide, decideAt, turnBytes, turnPlan}
+use Rattle.queue.proofs.LaidOutIsReadable.{laid-out-is-readable, same-shape}
 use Rattle.preserved.proofs.Proved.{put-passed, take-passed, put-keeps-readable, put-keeps-shape, put-leaves-others, take-keeps-readable, take-keeps-shape, take-leaves-others, turn-keeps-readable, turn-keeps-shape, turn-leaves-others}
 use Rattle.bag.specs.Calls.{Call, NoAcceptedLayout}
 use Rattle.bag.specs.Demand3.{makes}
 use Rattle.bag.specs.History.{Event, Moment, history, servedOn}
 use Rattle.bag.specs.Moments.{EachMoment}
 use Rattle.bag.proofs.Histories.{Kept, Next, calls-kept}
-use Rattle.bag.proofs.Start.{laid-good}
 
 -- the turn of an idle thread
 idle-turn : (f : Frame) (b : List ℕ) (t c : ℕ) → threadIn f b t ≡ idleThread 0 → turnBytes f b t c ≡ b
@@ -107,7 +107,7 @@ module _ (s : Shape) (t : ℕ) (b : List ℕ) (h : Barred s t b) where
           (turn-leaves-others b (h .reads) u c t n)
 
   barred-long : length b ≡ 4 * regionWords s
-  barred-long = good b (h .reads) .exact ∙ ap (λ x. 4 * regionWords x) (h .shape)
+  barred-long = readable-length b (h .reads) ∙ ap (λ x. 4 * regionWords x) (h .shape)
 
 -- beside the region nothing is known but the region itself, and t's moments leave it as it is
 abbrev Still : ℕ → Event → List ℕ → List ℕ → Type 0
@@ -134,8 +134,8 @@ module _ (s : Shape) (t : ℕ) where
       → Kept (BarredFrom s t) (Still t) b (history b calls)
   unfolding servedOn
   barred-kept calls b h n =
-      calls-kept (BarredFrom s t) (Still t) s
-      (λ b x h. h .0 .shape) (λ b x h. barred-long s t b (h .0))
+      calls-kept (BarredFrom s t) (Still t) (frameOf s) (4 * regionWords s)
+      (λ b x h. ap frameOf (h .0 .shape)) (λ b x h. barred-long s t b (h .0))
       (λ b x h u i. next-barred b x h _ _ (put-keeps s t b (h .0) u i)
       (λ e. subst (λ k. putBytes b k i ≡ b) (eqb-true t u e) (put-stays s t b (h .0) i)))
       (λ b x h u. next-barred b x h _ _ (take-keeps s t b (h .0) u)
@@ -151,11 +151,10 @@ pub empty-list-changes-nothing : (s : Shape) (ps b : List ℕ) → layoutRefusal
     → EachMoment (λ before m. makes t (m .event) ≡ true → m .region ≡ before) (layoutBytes s ps b) (history (layoutBytes s ps b) calls)
 empty-list-changes-nothing s ps b e calls n t l u z =
     let laid = layoutBytes s ps b in
-    let g = laid-good s ps b e in
     let barred : Barred s t laid = record {
-      reads = readable-good s laid g;
-      shape = g .shape;
+      reads = laid-out-is-readable s ps b e;
+      shape = same-shape s ps b e;
       idle = laid-thread s ps b e t l u ∙ ap idleThread z;
     } in
     each-still s t (history laid calls) laid
-    (barred-kept s t calls laid barred (subst (λ k. NoAcceptedLayout k calls) (laid-exact s ps b e ∙ sym (g .exact)) n))
+    (barred-kept s t calls laid barred (subst (λ k. NoAcceptedLayout k calls) (laid-exact s ps b e ∙ sym (barred-long s t laid barred)) n))

@@ -1,7 +1,7 @@
 -- A property that every call and every turn keeps holds all along a history. P holds of a region and of what is known beside it, F
 -- says how the latter follows at a moment: for demand 3 the ledger, for a thread with an empty permission list the region itself.
 -- Assumes nothing.
-use Prim.Native.Nat.{ℕ, _*_, _/_}
+use Prim.Native.Nat.{ℕ, _/_}
 use mathlib.Core.Path.{_≡_, refl, sym, subst, _∙_}
 use mathlib.Core.Bool.{Bool, true, false}
 use mathlib.Core.List.{List, [], _∷_, _++_, append-assoc}
@@ -9,13 +9,12 @@ use borrow.Author.Tests.{ne-eqb}
 use lib.Dec.{eqb}
 use lib.ListN.{length}
 use Rattle.region.specs.Answer.{done}
-use Rattle.region.specs.Frame.{frameOf}
 use Rattle.region.specs.Pick.{pick}
-use Rattle.region.specs.Shape.{regionWords}
+use Rattle.region.specs.declared.frame.Frame.{Frame}
 use Rattle.region.specs.declared.record.Item.{Item}
 use Rattle.region.specs.declared.shape.Shape.{Shape}
 use Rattle.layout.specs.Layout.{layoutRefusal, layoutBytes}
-use Rattle.readable.specs.Readable.{checkAnswer, shapeIn}
+use Rattle.readable.specs.Readable.{checkAnswer}
 use Rattle.machine.specs.Begin.{frameIn, putBytes, putRefusal, takeBytes, takeRefusal}
 use Rattle.machine.specs.Run.{Served, Turn, runRefusal, runResult, serve, serveAll, soFar, turnsFrom}
 use Rattle.machine.specs.Turn.{turnBytes}
@@ -51,36 +50,37 @@ module _ {X : Type 0} (P : List ℕ → X → Type 0) (F : Event → X → X →
       → Kept x (record { event = e; region = b } ∷ rest)
   then x e b rest n k = (n .next, n .follows, n .region, k (n .next) (n .region))
 
-  module _ (s : Shape)
-      (shaped : (b : List ℕ) (x : X) → P b x → shapeIn b ≡ s)
-      (long : (b : List ℕ) (x : X) → P b x → length b ≡ 4 * regionWords s)
+  -- the frame f and the length l stay all along
+  module _ (f : Frame) (l : ℕ)
+      (framed : (b : List ℕ) (x : X) → P b x → frameIn b ≡ f)
+      (long : (b : List ℕ) (x : X) → P b x → length b ≡ l)
       (put-next : (b : List ℕ) (x : X) → P b x → (t : ℕ) (i : Item) → Next P F x (called (put t i) (putRefusal b t i)) (putBytes b t i))
       (take-next : (b : List ℕ) (x : X) → P b x → (t : ℕ) → Next P F x (called (take t) (takeRefusal b t)) (takeBytes b t))
       (turn-next : (b : List ℕ) (x : X) → P b x → (t : Turn)
-      → Next P F x (turned (servedOn (frameOf s) b t)) (turnBytes (frameOf s) b (t .thread) (t .choice)))
+      → Next P F x (turned (servedOn f b t)) (turnBytes f b (t .thread) (t .choice)))
       -- any other call tells nothing, and its own moment leaves the region as it is
       (still : (b : List ℕ) (x : X) → P b x → (c : Call) (r : ℕ) → callTells c ≡ nothing → Next P F x (called c r) b) where
     -- the turns of a run
     turns-kept : (limit : ℕ) (ts : List Turn) (r : Served) (x : X) → P (r .region) x → (rest : List Moment)
-        → ((x′ : X) → P (serveAll (frameOf s) limit ts r .region) x′ → Kept x′ rest) → Kept x (turnMoments (frameOf s) limit ts r ++ rest)
+        → ((x′ : X) → P (serveAll f limit ts r .region) x′ → Kept x′ rest) → Kept x (turnMoments f limit ts r ++ rest)
     unfolding turnMoments serveAll serve pick
     turns-kept limit [] r x g rest k = k x g
-    turns-kept limit (t ∷ ts) r x g rest k = go (eqb (r .accesses) limit) k (turns-kept limit ts (serve (frameOf s) t r))
+    turns-kept limit (t ∷ ts) r x g rest k = go (eqb (r .accesses) limit) k (turns-kept limit ts (serve f t r))
       where
-        go : (q : Bool) → ((x′ : X) → P (pick q r (serveAll (frameOf s) limit ts (serve (frameOf s) t r)) .region) x′ → Kept x′ rest)
-            → ((x : X) → P (serve (frameOf s) t r .region) x → (rest : List Moment)
-            → ((x′ : X) → P (serveAll (frameOf s) limit ts (serve (frameOf s) t r) .region) x′ → Kept x′ rest)
-            → Kept x (turnMoments (frameOf s) limit ts (serve (frameOf s) t r) ++ rest))
-            → Kept x (pick q [] (record { event = turned (servedOn (frameOf s) (r .region) t); region = serve (frameOf s) t r .region }
-            ∷ turnMoments (frameOf s) limit ts (serve (frameOf s) t r)) ++ rest)
+        go : (q : Bool) → ((x′ : X) → P (pick q r (serveAll f limit ts (serve f t r)) .region) x′ → Kept x′ rest)
+            → ((x : X) → P (serve f t r .region) x → (rest : List Moment)
+            → ((x′ : X) → P (serveAll f limit ts (serve f t r) .region) x′ → Kept x′ rest)
+            → Kept x (turnMoments f limit ts (serve f t r) ++ rest))
+            → Kept x (pick q [] (record { event = turned (servedOn f (r .region) t); region = serve f t r .region }
+            ∷ turnMoments f limit ts (serve f t r)) ++ rest)
         go true k more = k x g
         go false k more =
-            then x (turned (servedOn (frameOf s) (r .region) t)) (serve (frameOf s) t r .region)
-            (turnMoments (frameOf s) limit ts (serve (frameOf s) t r) ++ rest) (turn-next (r .region) x g t) (λ x′ g′. more x′ g′ rest k)
+            then x (turned (servedOn f (r .region) t)) (serve f t r .region)
+            (turnMoments f limit ts (serve f t r) ++ rest) (turn-next (r .region) x g t) (λ x′ g′. more x′ g′ rest k)
 
     run-kept : (limit : ℕ) (ts : List Turn) (r : Served) (x : X) → P (r .region) x → (rest : List Moment) (q : Bool)
-        → ((x′ : X) → P (pick q (serveAll (frameOf s) limit ts r) r .region) x′ → Kept x′ rest)
-        → Kept x (pick q (turnMoments (frameOf s) limit ts r) [] ++ rest)
+        → ((x′ : X) → P (pick q (serveAll f limit ts r) r .region) x′ → Kept x′ rest)
+        → Kept x (pick q (turnMoments f limit ts r) [] ++ rest)
     unfolding pick
     run-kept limit ts r x g rest true k = turns-kept limit ts r x g rest k
     run-kept limit ts r x g rest false k = k x g
@@ -100,8 +100,8 @@ module _ {X : Type 0} (P : List ℕ → X → Type 0) (F : Event → X → X →
           let e = called (run schedule limit answers) n in
           let last : Moment = record { event = e; region = b′ } in
           subst (Kept x) (sym (append-assoc (pick q (turnMoments (frameIn b) limit ts r) []) (last ∷ []) rest))
-          (subst (λ y. ((x′ : X) → P (pick q (serveAll (frameOf y) limit ts r) r .region) x′ → Kept x′ (last ∷ rest))
-          → Kept x (pick q (turnMoments (frameOf y) limit ts r) [] ++ last ∷ rest)) (sym (shaped b x g))
+          (subst (λ y. ((x′ : X) → P (pick q (serveAll y limit ts r) r .region) x′ → Kept x′ (last ∷ rest))
+          → Kept x (pick q (turnMoments y limit ts r) [] ++ last ∷ rest)) (sym (framed b x g))
           (run-kept limit ts r x g (last ∷ rest) q)
           (λ x′ g′. then x′ e b′ rest (still b′ x′ g′ (run schedule limit answers) n refl) k))
 

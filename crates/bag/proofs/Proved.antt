@@ -1,127 +1,170 @@
 -- Demand 3: the invariant holds of a laid-out region with the empty ledger, and every call and turn keeps it. Assumes nothing.
-use Prim.Native.Nat.{ℕ}
+use Prim.Native.Nat.{ℕ, _*_}
 use mathlib.Core.Path.{_≡_, refl, sym, ap, subst, _∙_}
 use mathlib.Core.Bool.{Bool, true, false}
 use mathlib.Core.List.{List, [], _∷_}
 use borrow.Author.Tests.{eqb-true}
 use lib.Dec.{eqb}
+use lib.ListN.{length}
 use Rattle.region.specs.Answer.{done}
 use Rattle.region.specs.Frame.{frameOf}
 use Rattle.region.specs.Pick.{pick}
+use Rattle.region.specs.Shape.{regionWords}
 use Rattle.region.specs.Shared.{setThreadIn, threadIn}
 use Rattle.region.specs.Thread.{begunTake}
+use Rattle.region.specs.declared.frame.Frame.{Frame}
 use Rattle.region.specs.declared.record.Item.{Item}
 use Rattle.region.specs.declared.shape.Shape.{Shape}
-use Rattle.region.proofs.Shapes.{between-least, between-most}
-use Rattle.layout.specs.Layout.{layoutBytes}
+use Rattle.layout.specs.Layout.{layoutBytes, layoutRefusal}
 use Rattle.layout.proofs.Laws.{laid-exact}
-use Rattle.readable.specs.Readable.{shapeIn}
-use Rattle.readable.proofs.Laws.{Good}
+use Rattle.readable.specs.Readable.{readable, shapeIn}
+use Rattle.readable.proofs.Laws.{readable-length}
+use Rattle.readable.proofs.Stores.{Keeps, readable-kept, shape-kept}
 use Rattle.machine.specs.Begin.{frameIn, acceptedPut, putBytes, putRefusal, takeBytes, takeRefusal}
-use Rattle.machine.proofs.Laws.{is-idle, may-put, may-take}
-use Rattle.preserved.proofs.Proved.{put-free, put-good, put-key, put-least, put-most, put-passed, put-tag, take-good, take-passed}
+use Rattle.machine.specs.Run.{Turn}
+use Rattle.machine.specs.Turn.{turnBytes}
+use Rattle.preserved.proofs.Proved.{put-keeps, put-passed, take-keeps, take-passed, turn-keeps}
+use Rattle.queue.proofs.LaidOutIsReadable.{laid-out-is-readable, same-shape}
 use Rattle.mound.specs.Ledger.{Ledger, Follows, emptyLedger, still}
 use Rattle.mound.specs.Told.{Told, nothing, beginsPut, beginsTake}
 use Rattle.bag.specs.Calls.{Call, NoAcceptedLayout}
 use Rattle.bag.specs.Demand3.{Agrees, AnswerSays, HoldsTheSame, RegionIsABag, inTree}
-use Rattle.bag.specs.History.{Event, called, Moment, history, servedOn}
+use Rattle.bag.specs.History.{Event, called, turned, Moment, history, servedOn}
 use Rattle.bag.specs.Moments.{EachMoment, InEveryHistory}
 use Rattle.bag.specs.Told.{callTells, tells}
 use Rattle.bag.proofs.Answers.{turn-says}
 use Rattle.bag.proofs.EmptyList.{empty-list-changes-nothing}
 use Rattle.bag.proofs.Histories.{Kept, Next, calls-kept}
 use Rattle.bag.proofs.Operations.{Followed, at-most-once, exactly-once}
-use Rattle.bag.proofs.Regions.{Follow, Region, put-next, take-next, turn-next}
+use Rattle.bag.proofs.Regions.{Follow, Region, put-next, stays, take-next, turn-next}
 use Rattle.bag.proofs.Start.{laid-region}
 
--- the two beginnings, refused or not
-module _ (b : List ℕ) (l : Ledger) (g : Region (shapeIn b) b l) where
-  abbrev s : Shape
-  s = shapeIn b
+-- the readable region of one queue of shape s, on which the invariant holds with all its cells accounted for
+pub record QueueRegion (s : Shape) (b : List ℕ) (l : Ledger) : Type 0 where
+  pub reads : readable b ≡ true
+  pub shape : shapeIn b ≡ s
+  pub region : Region (frameIn b) (shapeIn b .cells) b l
 
-  stays : Follow s l nothing b
-  stays = record { next = l; follows = still; region = g }
+module _ (s : Shape) (b : List ℕ) (l : Ledger) (g : QueueRegion s b l) where
+  abbrev f : Frame
+  f = frameIn b
 
-  put-followed : (t : ℕ) (i : Item) → Follow s l (pick (eqb (putRefusal b t i) done) (beginsPut t i) nothing) (putBytes b t i)
+  abbrev all : ℕ
+  all = shapeIn b .cells
+
+  pub queue-frame : frameIn b ≡ frameOf s
+  queue-frame = ap frameOf (g .shape)
+
+  pub queue-long : length b ≡ 4 * regionWords s
+  queue-long = readable-length b (g .reads) ∙ ap (λ x. 4 * regionWords x) (g .shape)
+
+  -- what keeps the bytes in range keeps the region one of this queue
+  still-queue : {told : Told} {b′ : List ℕ} → Keeps f b b′ → Follow f all l told b′ → Next (QueueRegion s) Follows l told b′
+  still-queue {b′ = b′} k n =
+      let same = shape-kept b b′ (g .reads) k in
+      record {
+        next = n .next;
+        follows = n .follows;
+        region =
+            record {
+              reads = readable-kept b b′ (g .reads) k;
+              shape = same ∙ g .shape;
+              region = subst (λ x. Region (frameOf x) (x .cells) b′ (n .next)) (sym same) (n .region);
+            };
+      }
+
+  -- a turn
+  turn-followed : (x : Turn) → Next (QueueRegion s) Follows l (tells (turned (servedOn (frameOf s) b x)))
+      (turnBytes (frameOf s) b (x .thread) (x .choice))
+  turn-followed x =
+      subst (λ y. Next (QueueRegion s) Follows l (tells (turned (servedOn y b x))) (turnBytes y b (x .thread) (x .choice))) queue-frame
+      (still-queue (turn-keeps f b (g .region .good) (x .thread) (x .choice)) (turn-next f all b l (g .region) x))
+
+  turn-answered : (x : Turn) → AnswerSays (turned (servedOn (frameOf s) b x))
+  unfolding servedOn
+  turn-answered x = subst (λ y. AnswerSays (turned (servedOn y b x))) queue-frame (turn-says f b (g .region .good) x)
+
+  -- the two beginnings, refused or not
+  put-followed : (t : ℕ) (i : Item) → Next (QueueRegion s) Follows l (pick (eqb (putRefusal b t i) done) (beginsPut t i) nothing) (putBytes b t i)
   unfolding putBytes pick
-  put-followed t i = go (eqb (putRefusal b t i) done) refl (put-good b (g .good) t i)
+  put-followed t i = still-queue (put-keeps b (g .region .good) t i) follows
     where
-      go : (q : Bool) → eqb (putRefusal b t i) done ≡ q → Good s (pick q (acceptedPut (frameIn b) b t i) b)
-          → Follow s l (pick q (beginsPut t i) nothing) (pick q (acceptedPut (frameIn b) b t i) b)
-      go true h good =
-          let e = eqb-true (putRefusal b t i) done h in
-          let x = threadIn (frameIn b) b t in
-          let p = put-passed b t i e in
-          put-next s b l g t (put-least b t i e) (put-most b t i e) (is-idle x (p .idle)) (may-put x (p .permitted)) i
-          (put-key b t i e) (put-tag b t i e) (put-free b t i e) good
-      go false h good = stays
+      follows : Follow f all l (pick (eqb (putRefusal b t i) done) (beginsPut t i) nothing) (putBytes b t i)
+      follows = go (eqb (putRefusal b t i) done) refl
+        where
+          go : (q : Bool) → eqb (putRefusal b t i) done ≡ q
+              → Follow f all l (pick q (beginsPut t i) nothing) (pick q (acceptedPut f b t i) b)
+          go true h = put-next f all b l (g .region) t i (put-passed b t i (eqb-true (putRefusal b t i) done h))
+          go false h = stays f all b l (g .region)
 
-  take-followed : (t : ℕ) → Follow s l (pick (eqb (takeRefusal b t) done) (beginsTake t) nothing) (takeBytes b t)
+  take-followed : (t : ℕ) → Next (QueueRegion s) Follows l (pick (eqb (takeRefusal b t) done) (beginsTake t) nothing) (takeBytes b t)
   unfolding takeBytes pick
-  take-followed t = go (eqb (takeRefusal b t) done) refl (take-good b t (g .good))
+  take-followed t = still-queue (take-keeps b (g .region .good) t) follows
     where
-      go : (q : Bool) → eqb (takeRefusal b t) done ≡ q
-          → Good s (pick q (setThreadIn (frameIn b) b t (begunTake (threadIn (frameIn b) b t))) b)
-          → Follow s l (pick q (beginsTake t) nothing) (pick q (setThreadIn (frameIn b) b t (begunTake (threadIn (frameIn b) b t))) b)
-      go true h good =
-          let e = eqb-true (takeRefusal b t) done h in
-          let x = threadIn (frameIn b) b t in
-          let p = take-passed b t e in
-          take-next s b l g t (between-least 1 t (s .threads) (p .thread)) (between-most 1 t (s .threads) (p .thread))
-          (is-idle x (p .idle)) (may-take x (p .permitted)) good
-      go false h good = stays
-
--- a region of shape s has its shape in its first words
-module _ (s : Shape) (b : List ℕ) (l : Ledger) (g : Region s b l) where
-  by-shape : (told : Told) (b′ : List ℕ) → (Region (shapeIn b) b l → Follow (shapeIn b) l told b′) → Follow s l told b′
-  by-shape told b′ h =
-      subst (λ x. Follow x l told b′) (g .good .shape) (h (subst (λ x. Region x b l) (sym (g .good .shape)) g))
+      follows : Follow f all l (pick (eqb (takeRefusal b t) done) (beginsTake t) nothing) (takeBytes b t)
+      follows = go (eqb (takeRefusal b t) done) refl
+        where
+          go : (q : Bool) → eqb (takeRefusal b t) done ≡ q
+              → Follow f all l (pick q (beginsTake t) nothing) (pick q (setThreadIn f b t (begunTake (threadIn f b t))) b)
+          go true h = take-next f all b l (g .region) t (take-passed b t (eqb-true (takeRefusal b t) done h))
+          go false h = stays f all b l (g .region)
 
   -- the bag holds exactly what the tree holds
   tree-agrees : HoldsTheSame l b
   unfolding inTree frameOf
-  tree-agrees i = g .holds .bag i ∙ ap (λ x. inTree (frameOf x) b i) (sym (g .good .shape))
+  tree-agrees i = g .region .holds .bag i
 
   -- any other call tells nothing
-  call-still : (c : Call) (r : ℕ) → callTells c ≡ nothing → Follow s l (tells (called c r)) b
+  call-still : (c : Call) (r : ℕ) → callTells c ≡ nothing → Next (QueueRegion s) Follows l (tells (called c r)) b
   unfolding pick
   call-still c r e = go (eqb r done)
     where
-      go : (q : Bool) → Follow s l (pick q (callTells c) nothing) b
+      go : (q : Bool) → Next (QueueRegion s) Follows l (pick q (callTells c) nothing) b
       go true = record { next = l; follows = subst (λ x. Follows x l l) (sym e) still; region = g }
       go false = record { next = l; follows = still; region = g }
+
+-- it begins with a layout
+pub laid-queue : (s : Shape) (ps b : List ℕ) → layoutRefusal s ps (length b) ≡ done → QueueRegion s (layoutBytes s ps b) emptyLedger
+laid-queue s ps b e =
+    let same = same-shape s ps b e in
+    record {
+      reads = laid-out-is-readable s ps b e;
+      shape = same;
+      region = subst (λ x. Region (frameOf x) (x .cells) (layoutBytes s ps b) emptyLedger) (sym same) (laid-region s ps b e);
+    }
 
 -- at every moment the ledger follows, and the answer says what was told
 abbrev pub Moves : Event → Ledger → Ledger → Type 0
 Moves e l l′ = Follows (tells e) l l′ × AnswerSays e
 
-said : {s : Shape} {l : Ledger} {e : Event} {b : List ℕ} → AnswerSays e → Follow s l (tells e) b → Next (Region s) Moves l e b
+said : {s : Shape} {l : Ledger} {e : Event} {b : List ℕ} → AnswerSays e → Next (QueueRegion s) Follows l (tells e) b
+    → Next (QueueRegion s) Moves l e b
 said a n = record { next = n .next; follows = (n .follows, a); region = n .region }
 
 -- every history of a laid-out region keeps the invariant
-pub history-kept : InEveryHistory λ s permissions b ms. Kept (Region s) Moves emptyLedger ms
-unfolding servedOn
+pub history-kept : InEveryHistory λ s permissions b ms. Kept (QueueRegion s) Moves emptyLedger ms
 history-kept s ps b e calls h =
-    calls-kept (Region s) Moves s
-    (λ b l g. g .good .shape) (λ b l g. g .good .exact)
-    (λ b l g t i. said tt (by-shape s b l g _ _ (λ g′. put-followed b l g′ t i)))
-    (λ b l g t. said tt (by-shape s b l g _ _ (λ g′. take-followed b l g′ t)))
-    (λ b l g t. said (turn-says s b (g .good) t) (turn-next s b l g t))
+    let laid = laid-queue s ps b e in
+    calls-kept (QueueRegion s) Moves (frameOf s) (4 * regionWords s)
+    (λ b l g. queue-frame s b l g) (λ b l g. queue-long s b l g)
+    (λ b l g t i. said tt (put-followed s b l g t i))
+    (λ b l g t. said tt (take-followed s b l g t))
+    (λ b l g t. said (turn-answered s b l g t) (turn-followed s b l g t))
     (λ b l g c r k. said tt (call-still s b l g c r k))
-    calls (layoutBytes s ps b) emptyLedger (laid-region s ps b e)
-    (subst (λ n. NoAcceptedLayout n calls) (laid-exact s ps b e ∙ sym (laid-region s ps b e .good .exact)) h)
+    calls (layoutBytes s ps b) emptyLedger laid
+    (subst (λ n. NoAcceptedLayout n calls) (laid-exact s ps b e ∙ sym (queue-long s (layoutBytes s ps b) emptyLedger laid)) h)
 
 -- what that says of each clause
 module _ (s : Shape) where
-  agrees : (ms : List Moment) (b : List ℕ) (l : Ledger) → Region s b l → Kept (Region s) Moves l ms → Agrees l b ms
+  agrees : (ms : List Moment) (b : List ℕ) (l : Ledger) → QueueRegion s b l → Kept (QueueRegion s) Moves l ms → Agrees l b ms
   agrees [] b l g k = tree-agrees s b l g
   agrees (m ∷ ms) b l g k = (tree-agrees s b l g, (k .0, k .1 .0, agrees ms (m .region) (k .0) (k .2) (k .3)))
 
-  followed : (ms : List Moment) (l : Ledger) → Kept (Region s) Moves l ms → Followed l ms
+  followed : (ms : List Moment) (l : Ledger) → Kept (QueueRegion s) Moves l ms → Followed l ms
   followed [] l k = tt
   followed (m ∷ ms) l k = (k .0, k .1 .0, k .1 .1, followed ms (k .0) (k .3))
 
-  answers-say : (ms : List Moment) (b : List ℕ) (l : Ledger) → Kept (Region s) Moves l ms
+  answers-say : (ms : List Moment) (b : List ℕ) (l : Ledger) → Kept (QueueRegion s) Moves l ms
       → EachMoment (λ before m. AnswerSays (m .event)) b ms
   answers-say [] b l k = tt
   answers-say (m ∷ ms) b l k = (k .1 .1, answers-say ms (m .region) (k .0) (k .3))
@@ -133,7 +176,7 @@ region-is-a-bag s ps b e calls n =
     let k = history-kept s ps b e calls n in
     let f = followed s ms emptyLedger k in
     record {
-      bag = agrees s ms laid emptyLedger (laid-region s ps b e) k;
+      bag = agrees s ms laid emptyLedger (laid-queue s ps b e) k;
       at-most-once = at-most-once emptyLedger ms f;
       answered-once = exactly-once emptyLedger ms f;
       answers-say = answers-say s ms laid emptyLedger k;

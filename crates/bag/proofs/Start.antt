@@ -24,9 +24,9 @@ use Rattle.access.specs.Order.{topItem, val, valueOf}
 use Rattle.access.specs.Read.{readNode}
 use Rattle.access.proofs.OrderLaws.{item-refl}
 use Rattle.layout.specs.Layout.{layoutRefusal, layoutBytes}
+use Rattle.layout.proofs.Laws.{laid-shape}
 use Rattle.layout.proofs.LayoutReads.{laid-cell, laid-depth, laid-free, laid-no-thread, laid-node, laid-thread, next-in-chain, next-past, nextFree}
-use Rattle.readable.proofs.Laws.{Good, good}
-use Rattle.queue.proofs.LaidOutIsReadable.{laid-out-is-readable, same-shape}
+use Rattle.queue.proofs.LaidOutIsReadable.{laid-good}
 use Rattle.mound.specs.Ledger.{emptyLedger, none}
 use Rattle.mound.specs.Tree.{sameItem}
 use Rattle.mound.proofs.Chains.{Chain, ends, link, among, items}
@@ -85,10 +85,6 @@ module _ (s : Shape) (ps b : List ℕ) (e : layoutRefusal s ps (length b) ≡ do
   abbrev laid : List ℕ
   laid = layoutBytes s ps b
 
-  -- it is readable, with the shape that layout was given
-  pub laid-good : Good s laid
-  laid-good = subst (λ x. Good x laid) (same-shape s ps b e) (good laid (laid-out-is-readable s ps b e))
-
   abbrev m : Shared
   m = sharedIn (frameOf s) laid
 
@@ -96,7 +92,7 @@ module _ (s : Shape) (ps b : List ℕ) (e : layoutRefusal s ps (length b) ≡ do
   th = threadIn (frameOf s) laid
 
   range : 1 ≤ s .cells
-  range = laid-good .range .cells-least
+  range = laid-shape s ps b e .cells-least
 
   -- every thread is idle
   idle : (t : ℕ) → (p : ℕ) × (th t ≡ idleThread p)
@@ -167,7 +163,7 @@ module _ (s : Shape) (ps b : List ℕ) (e : layoutRefusal s ps (length b) ≡ do
         ordered = λ a x p h z. subst₂ (λ u w. AtMost u w) (sym (no-value a)) (sym (no-value x)) (item-refl topItem);
         deep = λ n h. (ap (λ x. x .first) (laid-node s ps b e n), ap (λ x. x .dirty) (laid-node s ps b e n));
         depth-least = omega (arith, laid-depth s ps b e);
-        depth-most = omega (arith, laid-depth s ps b e, laid-good .range .depth-least);
+        depth-most = omega (arith, laid-depth s ps b e, laid-shape s ps b e .depth-least);
       }
 
   empty : (i : Item) → 0 ≡ counted s m i
@@ -178,10 +174,11 @@ module _ (s : Shape) (ps b : List ℕ) (e : layoutRefusal s ps (length b) ≡ do
       ∙ sum-zero (inChain (m .cell) (listed (s .cells)) (sameItem i)) (nodeCount s)
       (λ k l u. ap (λ l. among (sameItem i) (items (m .cell) l)) (none-at k l)))
 
-  pub laid-region : Region s laid emptyLedger
+  pub laid-region : Region (frameOf s) (s .cells) laid emptyLedger
+  unfolding frameOf
   laid-region =
       record {
-        good = laid-good;
+        good = laid-good s ps b e;
         holds =
             record {
               mound = mound;

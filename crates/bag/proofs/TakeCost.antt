@@ -10,7 +10,6 @@ use borrow.Author.Tests.{eq-eqb, eqb-true, eqb-false}
 use lib.Dec.{eqb}
 use lib.ListN.{length}
 use Rattle.region.specs.Answer.{done}
-use Rattle.region.specs.Frame.{frameOf}
 use Rattle.region.specs.Pick.{pick}
 use Rattle.region.specs.Record.{emptyNode}
 use Rattle.region.specs.Shape.{between, nodeCount}
@@ -19,8 +18,6 @@ use Rattle.region.specs.Thread.{atPlace, begunTake}
 use Rattle.region.specs.declared.answer.Answer.{Answer}
 use Rattle.region.specs.declared.answer.Answer.the-variants.{Moved, Idle, Inserted, Took, Empty, Refused}
 use Rattle.region.specs.declared.frame.Frame.{Frame}
-use Rattle.region.specs.declared.shape.Shape.{Shape}
-use Rattle.region.proofs.Frames.{frame-parted}
 use Rattle.region.proofs.Picks.{upd-same, upd-other}
 use Rattle.region.proofs.Shapes.{between-least, between-most}
 use Rattle.region.proofs.Views.{shared-setThread, threads-setThread}
@@ -29,14 +26,14 @@ use Rattle.access.specs.Order.{val, valueOf}
 use Rattle.access.specs.Read.{readNode, updated}
 use Rattle.access.proofs.ReadLaws.{updated-first}
 use Rattle.readable.specs.Readable.{readable, shapeIn}
-use Rattle.readable.proofs.Laws.{good}
-use Rattle.readable.proofs.Stores.{good-thread, good-within, thread-fit}
+use Rattle.readable.proofs.Laws.{Good, good}
+use Rattle.readable.proofs.Stores.{thread-fit}
 use Rattle.machine.specs.Begin.{frameIn, takeBytes, takeRefusal}
 use Rattle.machine.specs.Run.{Turn, accessesOf}
 use Rattle.machine.specs.Turn.{staysPut, turnAnswer, turnBytes}
 use Rattle.cost.specs.Cost.{levelsDown, restLevel, takeCost, withoutHead}
 use Rattle.cost.proofs.Laws.{cost-ceiling, cost-counted, cost-empty, cost-full, levels-same, rest-most}
-use Rattle.preserved.proofs.Proved.{begun-take-good, take-good, take-passed}
+use Rattle.preserved.proofs.Proved.{TakePassed, accepted-take-keeps, take-least, take-most, take-passed, taker-good}
 use Rattle.mound.specs.Tree.{listFrom}
 use Rattle.mound.proofs.Chains.{list-behind, next-apart}
 use Rattle.mound.proofs.Effects.{Mound, PopAsks, in-tree, pop-others, root-there}
@@ -65,10 +62,7 @@ no-access Empty h = absurd (omega arith)
 no-access (Refused n) h = refl
 
 -- turns of others that make no access leave thread t alone
-module _ (s : Shape) (t : ℕ) where
-  abbrev f : Frame
-  f = frameOf s
-
+module _ (f : Frame) (t : ℕ) where
   others-aside : (us : List Turn) (b : List ℕ) → NoOtherMoves f b t us → stepsOf f b t us ≡ alone f b t (choicesOf t us)
   unfolding stepsOf alone choicesOf pick turnAnswer
   others-aside [] b h = refl
@@ -88,70 +82,63 @@ module _ (s : Shape) (t : ℕ) where
       go false e more =
           more
           ∙ ap (λ b′. alone f b′ t (choicesOf t us))
-          (turn-stays s b (u .thread) (u .choice) (no-access (turnAnswer f b (u .thread) (u .choice)) (h .0 (eqb-false (u .thread) t e))))
+          (turn-stays f b (u .thread) (u .choice) (no-access (turnAnswer f b (u .thread) (u .choice)) (h .0 (eqb-false (u .thread) t e))))
 
 -- what holds of the last turn may be weakened
 ends-so : {P Q : Step → Type 0} {n : ℕ} {xs : List Step} → ((x : Step) → P x → Q x) → EndsAt P n xs → EndsAt Q n xs
 ends-so h (last {x = x} p) = last (h x p)
 ends-so h (moved-then e more) = moved-then e (ends-so h more)
 
--- A take begun on a readable region.
-module _ (b : List ℕ) (t : ℕ) (choices : List ℕ) (r : readable b ≡ true) (e : takeRefusal b t ≡ done) where
+-- A take begun on bytes in range.
+abbrev begunOn : Frame → List ℕ → ℕ → List ℕ
+begunOn f b t = setThreadIn f b t (begunTake (threadIn f b t))
+
+module _ (f : Frame) (b : List ℕ) (t : ℕ) (choices : List ℕ) (r : Good f b) (passed : TakePassed f b t) where
   t-least : 1 ≤ t
-  t-least = between-least 1 t (shapeIn b .threads) (take-passed b t e .thread)
+  t-least = take-least f b t passed
 
-  t-most : t ≤ shapeIn b .threads
-  t-most = between-most 1 t (shapeIn b .threads) (take-passed b t e .thread)
+  t-most : t ≤ f .shape .threads
+  t-most = take-most f b t passed
 
-  begun : takeBytes b t ≡ setThreadIn (frameIn b) b t (begunTake (threadIn (frameIn b) b t))
-  unfolding takeBytes pick
-  begun = rw (eq-eqb (takeRefusal b t) done e) refl
+  abbrev begun : List ℕ
+  begun = begunOn f b t
 
-  begun-shared : sharedIn (frameIn b) (takeBytes b t) ≡ sharedIn (frameIn b) b
-  begun-shared =
-      ap (sharedIn (frameIn b)) begun
-      ∙ shared-setThread (frameIn b) b (good-within (shapeIn b) b (good b r)) (frame-parted (shapeIn b)) t
-      (begunTake (threadIn (frameIn b) b t))
+  begun-shared : sharedIn f begun ≡ sharedIn f b
+  begun-shared = shared-setThread f b (r .placed) t (begunTake (threadIn f b t))
 
-  begun-thread : threadIn (frameIn b) (takeBytes b t) t ≡ begunTake (threadIn (frameIn b) b t)
-  unfolding frameOf
+  begun-thread : threadIn f begun t ≡ begunTake (threadIn f b t)
   begun-thread =
-      let s = shapeIn b in
-      let g = good b r in
-      let u = begunTake (threadIn (frameIn b) b t) in
-      ap (λ x. threadIn (frameIn b) x t) begun
-      ∙ ap (λ h. h t)
-      (threads-setThread (frameIn b) b (good-within s b g) (frame-parted s) t u t-least t-most
-      (thread-fit s (g .range) u (begun-take-good s (threadIn (frameIn b) b t) (good-thread s b g t))))
-      ∙ upd-same (threadIn (frameIn b) b) t u
+      let u = begunTake (threadIn f b t) in
+      ap (λ h. h t)
+      (threads-setThread f b (r .placed) t u t-least t-most (thread-fit (f .shape) (r .range) u (taker-good f b t passed r)))
+      ∙ upd-same (threadIn f b) t u
 
-  module _ (clean : AllClean (frameIn b) b) where
-    past : (x : ℕ) → between 1 x (nodeCount (shapeIn b)) ≡ false → nodeIn (frameIn b) b x ≡ emptyNode
-    unfolding nodeIn loadEntry frameOf pick
+  module _ (clean : AllClean f b) where
+    past : (x : ℕ) → between 1 x (nodeCount (f .shape)) ≡ false → nodeIn f b x ≡ emptyNode
+    unfolding nodeIn loadEntry pick
     past x n = rw n refl
 
     -- a number that no node has reads as a clean one
-    clean-all : (x : ℕ) → nodeIn (frameIn b) b x .dirty ≡ 0
-    unfolding frameOf
-    clean-all x = go (between 1 x (nodeCount (shapeIn b))) refl
+    clean-all : (x : ℕ) → nodeIn f b x .dirty ≡ 0
+    clean-all x = go (between 1 x (nodeCount (f .shape))) refl
       where
-        go : (q : Bool) → between 1 x (nodeCount (shapeIn b)) ≡ q → nodeIn (frameIn b) b x .dirty ≡ 0
-        go true h = clean x (between-least 1 x (nodeCount (shapeIn b)) h) (between-most 1 x (nodeCount (shapeIn b)) h)
+        go : (q : Bool) → between 1 x (nodeCount (f .shape)) ≡ q → nodeIn f b x .dirty ≡ 0
+        go true h = clean x (between-least 1 x (nodeCount (f .shape)) h) (between-most 1 x (nodeCount (f .shape)) h)
         go false h = ap (λ n. n .dirty) (past x h)
 
     -- an empty root: 1 access
-    take-empty : nodeIn (frameIn b) b 1 .first ≡ 0 → 1 ≤ length choices
-        → EndsAt (λ x. x .answer ≡ Empty) 1 (alone (frameIn b) (takeBytes b t) t choices)
+    take-empty : nodeIn f b 1 .first ≡ 0 → 1 ≤ length choices
+        → EndsAt (λ x. x .answer ≡ Empty) 1 (alone f begun t choices)
     unfolding sharedIn begunTake atPlace
     take-empty none long =
-        empty-ends (shapeIn b) t t-least t-most (sharedIn (frameIn b) b) (begunTake (threadIn (frameIn b) b t)) refl none (clean-all 1)
-        (takeBytes b t) choices begun-shared begun-thread long
+        empty-ends f t t-least t-most (sharedIn f b) (begunTake (threadIn f b t)) refl none (clean-all 1)
+        begun choices begun-shared begun-thread long
 
     -- any other, with the cells in order
-    module _ (own : ℕ → ℕ) {all : ℕ} (g : Mound (shapeIn b) (sharedIn (frameIn b) b) own all)
-        (full : sharedIn (frameIn b) b .node 1 .first ≡ 0 → ⊥) where
+    module _ (own : ℕ → ℕ) {all : ℕ} (g : Mound (f .shape) (sharedIn f b) own all)
+        (full : sharedIn f b .node 1 .first ≡ 0 → ⊥) where
       abbrev m : Shared
-      m = sharedIn (frameIn b) b
+      m = sharedIn f b
 
       abbrev c : ℕ
       c = m .node 1 .first
@@ -169,7 +156,7 @@ module _ (b : List ℕ) (t : ℕ) (choices : List ℕ) (r : readable b ≡ true)
       -- E2 leaves the value of every other node, and the root that of its second cell
       values-kept : (x : ℕ) → 1 < x → val (popped m) x ≡ val m x
       unfolding popped withoutHead effectShared
-      values-kept x l = ap valueOf (pop-others (shapeIn b) m own g (updated (m .node 1) second 1) c asks x (omega arith) (λ e. omega arith))
+      values-kept x l = ap valueOf (pop-others (f .shape) m own g (updated (m .node 1) second 1) c asks x (omega arith) (λ e. omega arith))
 
       root-kept : val (popped m) 1 ≡ val (withoutHead m) 1
       unfolding popped withoutHead readNode
@@ -178,7 +165,7 @@ module _ (b : List ℕ) (t : ℕ) (choices : List ℕ) (r : readable b ≡ true)
           ap (λ x. x .first) (upd-same (m .node) 1 (updated (m .node 1) second 1)) ∙ updated-first (m .node 1) second 1 in
           ap (λ x. valueOf (record { node = withoutHead m .node 1; head = x }))
           (upd-other (m .cell) c (withoutHead m .node 1 .first) _
-          (λ z. next-apart (node-chain (shapeIn b) m own (g .held) 1 (omega arith)) some (sym begins ∙ z)))
+          (λ z. next-apart (node-chain (f .shape) m own (g .held) 1 (omega arith)) some (sym begins ∙ z)))
 
       goes : 1 + levelsDown (val (popped m)) (val (popped m) 1) (m .depth - 1) 1 ≡ restLevel m
       unfolding restLevel
@@ -187,26 +174,30 @@ module _ (b : List ℕ) (t : ℕ) (choices : List ℕ) (r : readable b ≡ true)
           (ap (λ v. levelsDown (val (popped m)) v (m .depth - 1) 1) root-kept
           ∙ levels-same (val m) (val (popped m)) (val (withoutHead m) 1) (m .depth - 1) 1 (omega arith) values-kept)
 
-      behind : listOf (frameIn b) b 1 ≡ rootHead (frameIn b) b ∷ listFrom (popped m .cell) (frameIn b .shape .cells) second
-      unfolding popped withoutHead sharedIn frameOf
+      behind : listOf f b 1 ≡ rootHead f b ∷ listFrom (popped m .cell) (f .shape .cells) second
+      unfolding popped withoutHead sharedIn
       behind =
-          list-behind (popped m .cell) (shapeIn b .cells) (node-chain (shapeIn b) m own (g .held) 1 (omega arith)) some
+          list-behind (popped m .cell) (f .shape .cells) (node-chain (f .shape) m own (g .held) 1 (omega arith)) some
           (λ d n. upd-other (m .cell) c d _ n)
-          (few-cells (shapeIn b) m own (g .held) 1 (omega arith) (in-tree (shapeIn b) m own g 1 (root-there (shapeIn b) m own g)))
+          (few-cells (f .shape) m own (g .held) 1 (omega arith) (in-tree (f .shape) m own g 1 (root-there (f .shape) m own g)))
 
-      take-rests : end (shapeIn b) t t-least t-most b (m .depth) (restLevel m) (popped m .cell) second behind ≤ 3 + length choices
-          → NoneSpent (alone (frameIn b) (takeBytes b t) t choices)
-          → Rests (shapeIn b) t t-least t-most b (m .depth) (restLevel m) (popped m .cell) second behind 3 (takeBytes b t) choices
+      take-rests : end f t t-least t-most b (m .depth) (restLevel m) (popped m .cell) second behind ≤ 3 + length choices
+          → NoneSpent (alone f begun t choices)
+          → Rests f t t-least t-most b (m .depth) (restLevel m) (popped m .cell) second behind 3 begun choices
       unfolding begunTake atPlace sharedIn
       take-rests long spent =
-          let k = good b r in
-          root-rests (shapeIn b) t t-least t-most b (m .depth) (restLevel m) (popped m .cell) second behind (k .range) (g .depth-least)
-          (g .depth-most) m refl full clean-all refl refl refl goes (begunTake (threadIn (frameIn b) b t)) refl
-          (takeBytes b t) choices (take-good b t k) begun-shared begun-thread long spent
+          root-rests f t t-least t-most b (m .depth) (restLevel m) (popped m .cell) second behind (r .range) (g .depth-least)
+          (g .depth-most) m refl full clean-all refl refl refl goes (begunTake (threadIn f b t)) refl
+          begun choices (accepted-take-keeps f b t passed r .good) begun-shared begun-thread long spent
+
+-- on a region of one queue
+begun-is : (b : List ℕ) (t : ℕ) → takeRefusal b t ≡ done → takeBytes b t ≡ begunOn (frameIn b) b t
+unfolding takeBytes pick
+begun-is b t e = rw (eq-eqb (takeRefusal b t) done e) refl
 
 -- The figure, on a readable region whose cells are in order.
 pub take-costs : (b : List ℕ) → readable b ≡ true → (own : ℕ → ℕ) {all : ℕ}
-    → Mound (shapeIn b) (sharedIn (frameIn b) b) own all → TakesCost b
+    → Mound (frameIn b .shape) (sharedIn (frameIn b) b) own all → TakesCost b
 unfolding sharedIn
 take-costs b r own g t turns a = subst (EndsAt (LastAccess b t) (takeCost m)) (sym same) (go (ℕ-discrete (nodeIn (frameIn b) b 1 .first) 0))
   where
@@ -216,26 +207,30 @@ take-costs b r own g t turns a = subst (EndsAt (LastAccess b t) (takeCost m)) (s
     choices : List ℕ
     choices = choicesOf t turns
 
-    same : takeSteps b t turns ≡ alone (frameIn b) (takeBytes b t) t choices
-    same = others-aside (shapeIn b) t turns (takeBytes b t) (a .quiet)
+    same : takeSteps b t turns ≡ alone (frameIn b) (begunOn (frameIn b) b t) t choices
+    same = others-aside (frameIn b) t turns (takeBytes b t) (a .quiet) ∙ ap (λ x. alone (frameIn b) x t choices) (begun-is b t (a .begun))
 
     enough : takeCost m ≤ length choices
-    enough = subst (λ n. takeCost m ≤ n) (ap length same ∙ length-alone (frameIn b) t choices (takeBytes b t)) (a .enough)
+    enough = subst (λ n. takeCost m ≤ n) (ap length same ∙ length-alone (frameIn b) t choices _) (a .enough)
 
-    unspent : NoneSpent (alone (frameIn b) (takeBytes b t) t choices)
+    unspent : NoneSpent (alone (frameIn b) (begunOn (frameIn b) b t) t choices)
     unspent = subst NoneSpent same (a .unspent)
 
-    go : Dec (nodeIn (frameIn b) b 1 .first ≡ 0) → EndsAt (LastAccess b t) (takeCost m) (alone (frameIn b) (takeBytes b t) t choices)
+    passed : TakePassed (frameIn b) b t
+    passed = take-passed b t (a .begun)
+
+    go : Dec (nodeIn (frameIn b) b 1 .first ≡ 0)
+        → EndsAt (LastAccess b t) (takeCost m) (alone (frameIn b) (begunOn (frameIn b) b t) t choices)
     go (yes none) =
         let e = cost-empty m none in
-        subst (λ n. EndsAt (LastAccess b t) n (alone (frameIn b) (takeBytes b t) t choices)) (sym e)
+        subst (λ n. EndsAt (LastAccess b t) n (alone (frameIn b) (begunOn (frameIn b) b t) t choices)) (sym e)
         (ends-so (λ x h. record { empty = λ z. h; mended = λ full. absurd (full none) })
-        (take-empty b t choices r (a .begun) (a .clean) none (omega (arith, e, enough))))
+        (take-empty (frameIn b) b t choices (good b r) passed (a .clean) none (omega (arith, e, enough))))
     go (no full) =
         let e = cost-full m full in
         let k = cost-counted (m .depth) (restLevel m) (rest-most m (g .depth-least)) in
-        let h = take-rests b t choices r (a .begun) (a .clean) own g full (omega (arith, e, k, enough)) unspent in
-        subst (λ n. EndsAt (LastAccess b t) n (alone (frameIn b) (takeBytes b t) t choices)) (omega (arith, e, k, h .exact))
+        let h = take-rests (frameIn b) b t choices (good b r) passed (a .clean) own g full (omega (arith, e, k, enough)) unspent in
+        subst (λ n. EndsAt (LastAccess b t) n (alone (frameIn b) (begunOn (frameIn b) b t) t choices)) (omega (arith, e, k, h .exact))
         (ends-so (λ x l. record { empty = λ z. absurd (full z); mended = λ n. l }) (h .rests))
 
 -- The ceiling follows: the figure is at most 5 × d.

@@ -10,16 +10,14 @@ use Rattle.region.specs.Shape.{between}
 use Rattle.region.specs.Shared.{Shared, sharedIn, threadIn}
 use Rattle.region.specs.declared.answer.Answer.{Answer}
 use Rattle.region.specs.declared.answer.Answer.the-variants.{Moved, Idle, Inserted, Took, Empty, Refused}
-use Rattle.region.specs.declared.shape.Shape.{Shape}
+use Rattle.region.specs.declared.frame.Frame.{Frame}
 use Rattle.region.proofs.Shapes.{between-least, between-most}
 use Rattle.access.specs.Plan.{plan, refused}
 use Rattle.layout.specs.Layout.{layoutBytes}
-use Rattle.readable.specs.Readable.{shapeIn}
-use Rattle.readable.proofs.Laws.{good, readable-good}
-use Rattle.readable.proofs.Stores.{good-shared}
+use Rattle.readable.specs.Readable.{frameIn, shapeIn}
+use Rattle.readable.proofs.Laws.{good}
 use Rattle.machine.specs.Turn.{staysPut, turnAnswer, turnPlan}
 use Rattle.mound.specs.Ledger.{Ledger, Operation, emptyLedger}
-use Rattle.mound.proofs.Effects.{Mound}
 use Rattle.mound.proofs.Plans.{Planned, moves, refuses, rests, speaks-moves}
 use Rattle.mound.proofs.Steps.{owns}
 use Rattle.bag.specs.History.{history}
@@ -28,24 +26,23 @@ use Rattle.bag.specs.Theorems.{CellsAccounted, NoTurnUnreadable, Refused
 use Rattle.bag.proofs.Account.{all-cells-accounted, puts-refused-when-full}
 use Rattle.bag.proofs.Histories.{Kept, kept-after}
 use Rattle.bag.proofs.LeastFirst.{stays-behind}
-use Rattle.bag.proofs.Proved.{Moves, history-kept, region-is-a-bag}
+use Rattle.bag.proofs.Proved.{Moves, QueueRegion, history-kept, laid-queue, region-is-a-bag}
 use Rattle.bag.proofs.Regions.{Region, plan-fits, nowhere}
-use Rattle.bag.proofs.Start.{laid-region}
 use Rattle.bag.proofs.TakeCost.{costs-end, take-costs}
 pub use Rattle.bag.proofs.Proved.{region-is-a-bag}
 pub use Rattle.bag.proofs.Exported.{calls-are-exported}
 pub use Rattle.bag.proofs.LeastFirst.{least-has-least-key, least-is-one}
 
 -- the invariant holds of every region of a history, with some ledger
-holds : Throughout λ s permissions b. (l : Ledger) × Region s b l
+holds : Throughout λ s permissions b. (l : Ledger) × QueueRegion s b l
 holds s ps b e calls n earlier later split =
-    kept-after (Region s) Moves earlier later (layoutBytes s ps b) emptyLedger (laid-region s ps b e)
-    (subst (Kept (Region s) Moves emptyLedger) split (history-kept s ps b e calls n))
+    kept-after (QueueRegion s) Moves earlier later (layoutBytes s ps b) emptyLedger (laid-queue s ps b e)
+    (subst (Kept (QueueRegion s) Moves emptyLedger) split (history-kept s ps b e calls n))
 
 pub stays-readable : StaysReadable
 stays-readable s ps b e calls n earlier later split =
-    let g = holds s ps b e calls n earlier later split .1 .good in
-    (readable-good s (regionAfter (layoutBytes s ps b) earlier) g, g .shape)
+    let g = holds s ps b e calls n earlier later split .1 in
+    (g .reads, g .shape)
 
 -- what a plan of a region in order answers is no refusal 7
 refusal : Answer → ℕ
@@ -56,59 +53,60 @@ refusal (Took i) = 0
 refusal Empty = 0
 refusal (Refused n) = n
 
-module _ (s : Shape) (b : List ℕ) (l : Ledger) (g : Region s b l) (t c : ℕ) where
+module _ (f : Frame) (all : ℕ) (b : List ℕ) (l : Ledger) (g : Region f all b l) (t c : ℕ) where
   abbrev answer : Answer
-  answer = turnPlan (frameOf s) b t c .answer
+  answer = turnPlan f b t c .answer
 
   other : (x : Answer) → answer ≡ x → (refusal x ≡ 7 → ⊥) → answer ≡ Refused unreadable → ⊥
   unfolding refusal
   other x k n e = n (sym (ap refusal k) ∙ ap refusal e)
 
-  planned-answer : {m : Shared} {own : ℕ → ℕ} {o : ℕ} {op : Operation} → Planned s m own t o op (turnPlan (frameOf s) b t c)
+  planned-answer : {m : Shared} {own : ℕ → ℕ} {o : ℕ} {op : Operation} → Planned (f .shape) m own t o op (turnPlan f b t c)
       → answer ≡ Refused unreadable → ⊥
   unfolding refusal
   planned-answer (rests x y) = other Idle y (λ z. omega arith)
   planned-answer (refuses x y) = other (Refused counterSpent) y (λ z. omega arith)
   planned-answer (moves op′ al sp ow at) = λ e. true≢false (sym (ap staysPut e) ∙ speaks-moves sp)
 
-  never-unreadable : turnAnswer (frameOf s) b t c ≡ Refused unreadable → ⊥
+  never-unreadable : turnAnswer f b t c ≡ Refused unreadable → ⊥
   unfolding turnAnswer refusal refused plan
-  never-unreadable = go (between 1 t (s .threads)) refl
+  never-unreadable = go (between 1 t (f .shape .threads)) refl
     where
-      go : (q : Bool) → between 1 t (s .threads) ≡ q → turnPlan (frameOf s) b t c .answer ≡ Refused unreadable → ⊥
-      go true h = planned-answer (plan-fits s b l g t c (between-least 1 t (s .threads) h) (between-most 1 t (s .threads) h))
-      go false h = other (Refused badThread) (ap (λ p. p .answer) (nowhere s b l g t c h)) (λ z. omega arith)
+      go : (q : Bool) → between 1 t (f .shape .threads) ≡ q → turnPlan f b t c .answer ≡ Refused unreadable → ⊥
+      go true h = planned-answer (plan-fits f all b l g t c (between-least 1 t (f .shape .threads) h) (between-most 1 t (f .shape .threads) h))
+      go false h = other (Refused badThread) (ap (λ p. p .answer) (nowhere f all b l g t c h)) (λ z. omega arith)
 
 pub no-turn-unreadable : NoTurnUnreadable
 no-turn-unreadable s ps b e calls n earlier later split t c =
     let w = holds s ps b e calls n earlier later split in
     let b′ = regionAfter (layoutBytes s ps b) earlier in
-    subst (λ x. turnAnswer (frameOf x) b′ t c ≡ Refused unreadable → ⊥) (sym (w .1 .good .shape))
-    (never-unreadable s b′ (w .0) (w .1) t c)
+    never-unreadable (frameIn b′) (shapeIn b′ .cells) b′ (w .0) (w .1 .region) t c
 
 pub cells-accounted : CellsAccounted
+unfolding frameOf
 cells-accounted s ps b e calls n earlier later split =
     let w = holds s ps b e calls n earlier later split in
-    all-cells-accounted s (regionAfter (layoutBytes s ps b) earlier) (w .0) (w .1 .good) (w .1 .holds)
+    all-cells-accounted (regionAfter (layoutBytes s ps b) earlier) (w .0) (w .1 .region .holds)
 
 pub refused-ten-when-full : RefusedTenWhenFull
+unfolding frameOf
 refused-ten-when-full s ps b e calls n earlier later split =
     let w = holds s ps b e calls n earlier later split in
-    puts-refused-when-full s (regionAfter (layoutBytes s ps b) earlier) (w .0) (w .1 .good) (w .1 .holds)
+    puts-refused-when-full (regionAfter (layoutBytes s ps b) earlier) (w .0) (w .1 .region .holds)
 
 pub takes-cost-exactly : TakesCostExactly
+unfolding frameOf
 takes-cost-exactly s ps b e calls n earlier later split =
     let w = holds s ps b e calls n earlier later split in
     let b′ = regionAfter (layoutBytes s ps b) earlier in
-    take-costs b′ (stays-readable s ps b e calls n earlier later split .0) (owns (threadIn (frameOf s) b′))
-    (subst (λ x. Mound x (sharedIn (frameOf x) b′) (owns (threadIn (frameOf s) b′)) (s .cells)) (sym (w .1 .good .shape)) (w .1 .holds .mound))
+    take-costs b′ (w .1 .reads) (owns (threadIn (frameIn b′) b′)) (w .1 .region .holds .mound)
 
 -- the ceiling is the figure's
 pub takes-end-in-time : TakesEndInTime
 unfolding sharedIn
 takes-end-in-time s ps b e calls n earlier later split =
     let b′ = regionAfter (layoutBytes s ps b) earlier in
-    costs-end b′ (good-shared (shapeIn b′) b′ (good b′ (stays-readable s ps b e calls n earlier later split .0)) .depth-least)
+    costs-end b′ (good b′ (stays-readable s ps b e calls n earlier later split .0) .depth-least)
     (takes-cost-exactly s ps b e calls n earlier later split)
 
 -- from demand 3's ledger

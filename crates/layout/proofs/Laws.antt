@@ -14,14 +14,16 @@ use Rattle.words.proofs.Laws.{word-stored, length-setWords}
 use Rattle.region.specs.Answer.{done}
 use Rattle.region.specs.Frame.{frameOf}
 use Rattle.region.specs.Pick.{pick}
-use Rattle.region.specs.Shape.{regionWords}
+use Rattle.region.specs.Record.{cellSize}
+use Rattle.region.specs.Shape.{headSize, regionWords}
+use Rattle.region.specs.Thread.{threadSize, greatestPermission}
 use Rattle.region.specs.Inner.{InRange}
 use Rattle.region.specs.declared.shape.Shape.{Shape}
 use Rattle.region.proofs.Picks.{pick-good}
 use Rattle.region.proofs.Shapes.{and-left, and-right, sizes}
-use Rattle.layout.specs.Layout.{atMost, layoutRefusal, cellWord, threadWord, laidWord, laidWords, layoutBytes}
+use Rattle.layout.specs.Layout.{atMost, layoutRefusal, nextWord, cellWord, threadWord, laidWord, laidWords, layoutBytes}
 use Rattle.layout.specs.Inner.{Accepted}
-use Rattle.layout.proofs.Turns.{accepted, permitted}
+use Rattle.layout.proofs.Loops.{accepted, permitted}
 
 at-most : (m : ℕ) (xs : List ℕ) (i : ℕ) → atMost m xs ≡ true → getD xs i 0 ≤ m
 unfolding atMost
@@ -33,26 +35,26 @@ at-most m (x ∷ xs) (suc i) e = at-most m xs i (and-right (leb x m) (atMost m x
 pub cellWord-most : (cells j : ℕ) → cellWord cells j ≤ cells
 unfolding cellWord
 cellWord-most cells j =
-    pick-good (λ x. x ≤ cells) (eqb (j % 3) 2)
-    (λ e. pick-good (λ x. x ≤ cells) (ltb (j / 3 + 1) cells) (λ h. omega (arith, ltb-true (j / 3 + 1) cells h)) (λ h. omega arith))
+    pick-good (λ x. x ≤ cells) (eqb (j % cellSize) nextWord)
+    (λ e. pick-good (λ x. x ≤ cells) (ltb (j / cellSize + 1) cells) (λ h. omega (arith, ltb-true (j / cellSize + 1) cells h)) (λ h. omega arith))
     (λ e. omega arith)
 
-pub threadWord-most : (ps : List ℕ) (j : ℕ) → atMost 3 ps ≡ true → threadWord ps j ≤ 3
+pub threadWord-most : (ps : List ℕ) (j : ℕ) → atMost greatestPermission ps ≡ true → threadWord ps j ≤ greatestPermission
 unfolding threadWord
 threadWord-most ps j a =
-    pick-good (λ x. x ≤ 3) (eqb (j % 33) 0) (λ e. at-most 3 ps (j / 33) a) (λ e. omega arith)
+    pick-good (λ x. x ≤ greatestPermission) (eqb (j % threadSize) 0) (λ e. at-most greatestPermission ps (j / threadSize) a) (λ e. omega arith)
 
-pub threadWord-rest : (ps : List ℕ) (i j : ℕ) → 0 < j → j < 33 → threadWord ps (33 * i + j) ≡ 0
+pub threadWord-rest : (ps : List ℕ) (i j : ℕ) → 0 < j → j < threadSize → threadWord ps (threadSize * i + j) ≡ 0
 unfolding threadWord pick
 threadWord-rest ps i j l u =
-    let n : (33 * i + j) % 33 ≡ j = omega arith in
-    rw (ne-eqb ((33 * i + j) % 33) 0 (λ z. omega arith)) refl
+    let n : (threadSize * i + j) % threadSize ≡ j = omega arith in
+    rw (ne-eqb ((threadSize * i + j) % threadSize) 0 (λ z. omega arith)) refl
 
-module _ (s : Shape) (ps : List ℕ) (r : InRange s) (a : atMost 3 ps ≡ true) where
+module _ (s : Shape) (ps : List ℕ) (r : InRange s) (a : atMost greatestPermission ps ≡ true) where
   laid-most : (k : ℕ) → laidWord s ps k ≤ 4096
   unfolding laidWord
   laid-most k =
-      pick-good (λ x. x ≤ 4096) (ltb k 6) (λ e. header k)
+      pick-good (λ x. x ≤ 4096) (ltb k headSize) (λ e. header k)
       (λ e. pick-good (λ x. x ≤ 4096) (ltb k (frameOf s .cells)) (λ h. omega arith)
       (λ h. pick-good (λ x. x ≤ 4096) (ltb k (frameOf s .threads))
       (λ g. omega (arith, cellWord-most (s .cells) (k - frameOf s .cells), r .cells-most, sizes s (r .depth-most)))
@@ -96,7 +98,7 @@ module _ (s : Shape) (ps b : List ℕ) (e : layoutRefusal s ps (length b) ≡ do
   pub laid-shape : InRange s
   laid-shape = call .shape
 
-  pub laid-permissions : atMost 3 ps ≡ true
+  pub laid-permissions : atMost greatestPermission ps ≡ true
   laid-permissions = permitted s ps (length b) (layoutRefusal s ps (length b)) refl e
 
   pub laid-exact : length b ≡ 4 * regionWords s
@@ -120,24 +122,24 @@ module _ (s : Shape) (ps b : List ℕ) (e : layoutRefusal s ps (length b) ≡ do
   abbrev laid : List ℕ
   laid = layoutBytes s ps b
 
-  pub header : (k : ℕ) → k < 6 → word laid k ≡ getD (s .depth ∷ s .cells ∷ s .threads ∷ s .threshold ∷ 1 ∷ 1 ∷ []) k 0
+  pub header : (k : ℕ) → k < headSize → word laid k ≡ getD (s .depth ∷ s .cells ∷ s .threads ∷ s .threshold ∷ 1 ∷ 1 ∷ []) k 0
   unfolding laidWord pick regionWords
-  header k h = laid-word k (omega arith) ∙ rw (lt-ltb k 6 h) refl
+  header k h = laid-word k (omega arith) ∙ rw (lt-ltb k headSize h) refl
 
-  pub node-word : (k : ℕ) → 6 ≤ k → k < frameOf s .cells → word laid k ≡ 0
+  pub node-word : (k : ℕ) → headSize ≤ k → k < frameOf s .cells → word laid k ≡ 0
   unfolding laidWord pick regionWords frameOf
-  node-word k l u = laid-word k (omega arith) ∙ rw (le-ltb k 6 l, lt-ltb k (frameOf s .cells) u) refl
+  node-word k l u = laid-word k (omega arith) ∙ rw (le-ltb k headSize l, lt-ltb k (frameOf s .cells) u) refl
 
   pub cell-word : (k : ℕ) → frameOf s .cells ≤ k → k < frameOf s .threads → word laid k ≡ cellWord (s .cells) (k - frameOf s .cells)
   unfolding laidWord pick regionWords frameOf
   cell-word k l u =
       laid-word k (omega arith)
-      ∙ rw (le-ltb k 6 (omega arith), le-ltb k (frameOf s .cells) l, lt-ltb k (frameOf s .threads) u) refl
+      ∙ rw (le-ltb k headSize (omega arith), le-ltb k (frameOf s .cells) l, lt-ltb k (frameOf s .threads) u) refl
 
   pub thread-word : (k : ℕ) → frameOf s .threads ≤ k → k < regionWords s → word laid k ≡ threadWord ps (k - frameOf s .threads)
   unfolding laidWord pick frameOf
   thread-word k l u =
       laid-word k u
       ∙ rw
-      (le-ltb k 6 (omega arith), le-ltb k (frameOf s .cells) (omega arith), le-ltb k (frameOf s .threads) l)
+      (le-ltb k headSize (omega arith), le-ltb k (frameOf s .cells) (omega arith), le-ltb k (frameOf s .threads) l)
       refl

@@ -6,23 +6,23 @@ use native.Mathlib.Omega.{arith}
 use mathlib.Core.Path.{_≡_, refl, sym, ap, _∙_}
 use mathlib.Core.Bool.{Bool, true, false, _&&_, true≢false}
 use mathlib.Core.List.{List, [], _∷_}
-use borrow.Author.Tests.{eq-eqb, ne-eqb, lt-ltb, le-ltb, le-leb}
+use borrow.Author.Tests.{eq-eqb, ne-eqb, lt-ltb, le-ltb, le-leb, ltb-true}
 use lib.Dec.{leb, ltb}
 use lib.ListN.{length, getD, replicate}
 use Rattle.words.specs.Word.{word, wordsAt}
 use Rattle.region.specs.Answer.{done}
 use Rattle.region.specs.Frame.{frameOf, nodesOf}
 use Rattle.region.specs.Pick.{pick}
-use Rattle.region.specs.Record.{nodeOf, nodeAt, emptyNode, cellAt, zeroItem}
+use Rattle.region.specs.Record.{nodeSize, cellSize, nodeOf, nodeAt, emptyNode, cellAt, zeroItem}
 use Rattle.region.specs.Shape.{between, nodeCount, regionWords}
 use Rattle.region.specs.Shared.{entry, loadEntry, nodeIn, cellIn, threadIn, sharedIn}
-use Rattle.region.specs.Thread.{threadAt, threadOf, idleThread}
+use Rattle.region.specs.Thread.{threadSize, threadAt, threadOf, idleThread}
 use Rattle.region.specs.declared.record.Cell.{Cell}
 use Rattle.region.specs.declared.record.Node.{Node}
 use Rattle.region.specs.declared.shape.Shape.{Shape}
 use Rattle.region.proofs.Picks.{pick-good}
-use Rattle.region.proofs.Shapes.{between-least, between-most, is-between}
-use Rattle.layout.specs.Layout.{layoutRefusal, layoutBytes, cellWord, threadWord}
+use Rattle.region.proofs.Shapes.{and-right, between-least, between-most, is-between}
+use Rattle.layout.specs.Layout.{layoutRefusal, layoutBytes, nextWord, cellWord, threadWord}
 use Rattle.layout.specs.Theorems.{LayoutReads, ReadsAsLaidOut}
 use Rattle.layout.proofs.Laws.{threadWord-rest, laid-length, header, node-word, cell-word, thread-word}
 
@@ -51,6 +51,12 @@ next-of-none cells (suc c) h = go (decLt (suc c) cells)
     go (yes l) = absurd (true≢false (sym (is-between 1 (suc c) cells (omega arith) (omega arith)) ∙ h))
     go (no n) = next-past cells (suc c) (omega arith)
 
+pub next-most : (cells c : ℕ) → nextFree cells c ≤ cells
+unfolding nextFree
+next-most cells c =
+    pick-good (λ x. x ≤ cells) (leb 1 c && ltb c cells)
+    (λ e. omega (arith, ltb-true c cells (and-right (leb 1 c) (ltb c cells) e))) (λ e. omega arith)
+
 -- a run of words that are all 0
 zero-run : (b : List ℕ) (n at : ℕ) → ((j : ℕ) → at ≤ j → j < at + n → word b j ≡ 0) → wordsAt b at n ≡ replicate n 0
 zero-run b zero at h = refl
@@ -59,26 +65,26 @@ zero-run b (suc n) at h =
 
 -- the words of cell c + 1
 module _ (cells c : ℕ) where
-  key-word : cellWord cells (3 * c + 0) ≡ 0
+  key-word : cellWord cells (cellSize * c + 0) ≡ 0
   unfolding cellWord pick
-  key-word = rw (ne-eqb ((3 * c + 0) % 3) 2 (λ z. omega arith)) refl
+  key-word = rw (ne-eqb ((cellSize * c + 0) % cellSize) nextWord (λ z. omega arith)) refl
 
-  tag-word : cellWord cells (3 * c + 1) ≡ 0
+  tag-word : cellWord cells (cellSize * c + 1) ≡ 0
   unfolding cellWord pick
-  tag-word = rw (ne-eqb ((3 * c + 1) % 3) 2 (λ z. omega arith)) refl
+  tag-word = rw (ne-eqb ((cellSize * c + 1) % cellSize) nextWord (λ z. omega arith)) refl
 
-  next-word : cellWord cells (3 * c + 2) ≡ nextFree cells (c + 1)
+  next-word : cellWord cells (cellSize * c + nextWord) ≡ nextFree cells (c + 1)
   unfolding cellWord nextFree pick
   next-word =
-      let q : (3 * c + 2) / 3 ≡ c = omega arith in
+      let q : (cellSize * c + nextWord) / cellSize ≡ c = omega arith in
       let n : c + 2 ≡ c + 1 + 1 = omega arith in
-      rw (eq-eqb ((3 * c + 2) % 3) 2 (omega arith), q, le-leb 1 (c + 1) (omega arith), n) refl
+      rw (eq-eqb ((cellSize * c + nextWord) % cellSize) nextWord (omega arith), q, le-leb 1 (c + 1) (omega arith), n) refl
 
-permission-word : (ps : List ℕ) (i : ℕ) → threadWord ps (33 * i + 0) ≡ getD ps i 0
+permission-word : (ps : List ℕ) (i : ℕ) → threadWord ps (threadSize * i + 0) ≡ getD ps i 0
 unfolding threadWord pick
 permission-word ps i =
-    let q : (33 * i + 0) / 33 ≡ i = omega arith in
-    rw (eq-eqb ((33 * i + 0) % 33) 0 (omega arith), q) refl
+    let q : (threadSize * i + 0) / threadSize ≡ i = omega arith in
+    rw (eq-eqb ((threadSize * i + 0) % threadSize) 0 (omega arith), q) refl
 
 module _ (s : Shape) (ps b : List ℕ) (e : layoutRefusal s ps (length b) ≡ done) where
   abbrev laid : List ℕ
@@ -99,23 +105,23 @@ module _ (s : Shape) (ps b : List ℕ) (e : layoutRefusal s ps (length b) ≡ do
       (λ h. let l = between-least 1 n (nodeCount s) h in
       let u = between-most 1 n (nodeCount s) h in
       ap (λ ws. nodeOf ws 0)
-      (zero-run laid 3 (entry (nodesOf (frameOf s)) n) λ j lo hi. node-word s ps b e j (omega arith) (omega arith)))
+      (zero-run laid nodeSize (entry (nodesOf (frameOf s)) n) λ j lo hi. node-word s ps b e j (omega arith) (omega arith)))
       (λ h. refl)
 
   -- word j of cell i + 1, and of thread i + 1's record
-  cell-part : (i j k : ℕ) → i < s .cells → j < 3 → k ≡ frameOf s .cells + 3 * i + j → word laid k ≡ cellWord (s .cells) (3 * i + j)
+  cell-part : (i j k : ℕ) → i < s .cells → j < cellSize → k ≡ frameOf s .cells + cellSize * i + j → word laid k ≡ cellWord (s .cells) (cellSize * i + j)
   unfolding frameOf
   cell-part i j k h l at = cell-word s ps b e k (omega arith) (omega arith) ∙ ap (cellWord (s .cells)) (omega arith)
 
-  pub thread-part : (i j k : ℕ) → i < s .threads → j < 33 → k ≡ frameOf s .threads + 33 * i + j → word laid k ≡ threadWord ps (33 * i + j)
+  pub thread-part : (i j k : ℕ) → i < s .threads → j < threadSize → k ≡ frameOf s .threads + threadSize * i + j → word laid k ≡ threadWord ps (threadSize * i + j)
   unfolding frameOf regionWords
   thread-part i j k h l at = thread-word s ps b e k (omega arith) (omega arith) ∙ ap (threadWord ps) (omega arith)
 
   laid-words : (i : ℕ) → i < s .cells
-      → cellAt laid (frameOf s .cells + 3 * i) ≡ record { item = zeroItem; next = nextFree (s .cells) (i + 1) }
+      → cellAt laid (frameOf s .cells + cellSize * i) ≡ record { item = zeroItem; next = nextFree (s .cells) (i + 1) }
   unfolding cellAt
   laid-words i h =
-      let at = frameOf s .cells + 3 * i in
+      let at = frameOf s .cells + cellSize * i in
       let key = cell-part i 0 at h (omega arith) (omega arith) ∙ key-word (s .cells) i in
       let tag = cell-part i 1 (suc at) h (omega arith) (omega arith) ∙ tag-word (s .cells) i in
       let next = cell-part i 2 (suc (suc at)) h (omega arith) (omega arith) ∙ next-word (s .cells) i in
@@ -131,13 +137,13 @@ module _ (s : Shape) (ps b : List ℕ) (e : layoutRefusal s ps (length b) ≡ do
       laid-words (c - 1) (omega arith) ∙ ap (λ k. record { item = zeroItem; next = nextFree (s .cells) k }) n)
       (λ h. ap (λ n. record { item = zeroItem; next = n }) (sym (next-of-none (s .cells) c h)))
 
-  record-words : (i : ℕ) → i < s .threads → wordsAt laid (frameOf s .threads + 33 * i) 33 ≡ getD ps i 0 ∷ replicate 32 0
+  record-words : (i : ℕ) → i < s .threads → wordsAt laid (frameOf s .threads + threadSize * i) threadSize ≡ getD ps i 0 ∷ replicate (threadSize - 1) 0
   record-words i h =
-      let at = frameOf s .threads + 33 * i in
+      let at = frameOf s .threads + threadSize * i in
       cc (
         thread-part i 0 at h (omega arith) (omega arith),
         permission-word ps i,
-        zero-run laid 32 (suc at) (λ j lo hi.
+        zero-run laid (threadSize - 1) (suc at) (λ j lo hi.
             thread-part i (j - at) j h (omega arith) (omega arith) ∙ threadWord-rest ps i (j - at) (omega arith) (omega arith)),
       )
 

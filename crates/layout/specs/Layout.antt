@@ -10,7 +10,8 @@ use Rattle.words.specs.Word.{setWords}
 use Rattle.region.specs.Answer.{done, badShape, badLength, _unless_otherwise_}
 use Rattle.region.specs.Frame.{frameOf}
 use Rattle.region.specs.Pick.{pick}
-use Rattle.region.specs.Shape.{shapeFits, regionWords}
+use Rattle.region.specs.Record.{cellSize}
+use Rattle.region.specs.Shape.{headSize, shapeFits, regionWords}
 use Rattle.region.specs.Thread.{threadSize, greatestPermission}
 use Rattle.region.specs.declared.shape.Shape.{Shape}
 
@@ -32,9 +33,14 @@ layoutRefusal s ps l =
     otherwise badLength unless eqb l (4 * regionWords s)
     otherwise done
 
--- word j of the cells: "key, tag, next cell (0 ends)"; the cells chain, the last ends the chain
+-- which word of a cell is the next cell: "key, tag, next cell (0 ends)"
+abbrev pub nextWord : ℕ
+nextWord = 2
+
+-- word j of the cells: they chain, the last ends the chain
 unfoldable pub cellWord : ℕ → ℕ → ℕ
-cellWord cells j = pick (eqb (j % 3) 2) (pick (ltb (j / 3 + 1) cells) (j / 3 + 2) 0) 0
+cellWord cells j =
+    pick (eqb (j % cellSize) nextWord) (pick (ltb (j / cellSize + 1) cells) (j / cellSize + 2) 0) 0
 
 -- word j of the threads: 0 but the permission, which comes first
 unfoldable pub threadWord : List ℕ → ℕ → ℕ
@@ -45,7 +51,7 @@ unfoldable pub laidWord : Shape → List ℕ → ℕ → ℕ
 unfolding frameOf cellWord threadWord
 laidWord s ps k =
     pick
-    (ltb k 6)
+    (ltb k headSize)
     (getD (s .depth ∷ s .cells ∷ s .threads ∷ s .threshold ∷ 1 ∷ 1 ∷ []) k 0)
     (pick
     (ltb k (frameOf s .cells))

@@ -4,21 +4,31 @@ ghost use Prim.Native.Nat.{_*_, _≤_, _<_};
 ghost use lib.ListN.{length};
 ghost use Rattle.words.specs.Word.{setWords};
 ghost use Rattle.region.specs.Shape.{regionWords};
+ghost use Rattle.region.specs.Thread.{threadSize, greatestPermission};
 ghost use Rattle.layout.specs.Layout.{LaidOut, atMost, permissionsFit, layoutRefusal, cellWord, threadWord, laidWord, laidWords};
 ghost use Rattle.layout.specs.Inner.{Accepted, Laying};
 use region::BAD_LENGTH;
 use region::BAD_SHAPE;
+use region::CELL_SIZE;
 use region::DONE;
 use region::Frame;
+use region::HEAD_SIZE;
 use region::Shape;
+use region::THREAD_SIZE;
+
+// "0..3"
+const GREATEST_PERMISSION: u8 = 3;
+
+// Which word of a cell is the next cell.
+const NEXT_WORD: usize = 2;
 
 // Whether every byte is a permission.
 fn are_permissions(permissions: &[u8]) -> bool
-    ensures { λ r. ⌜ r ≡ atMost 3 (now (permissions .entry)) ⌝ }
+    ensures { λ r. ⌜ r ≡ atMost greatestPermission (now (permissions .entry)) ⌝ }
 {
     let mut i = 0;
     while i < permissions.len() {
-        if 3 < permissions[i] {
+        if GREATEST_PERMISSION < permissions[i] {
             return false;
         }
         i += 1;
@@ -58,10 +68,10 @@ fn cell_word(cells: usize, j: usize) -> u32
     requires { ⌜ cells ≤ 2048 ⌝ }
     ensures { λ r. ⌜ r ≡ cellWord cells j ⌝ }
 {
-    if j % 3 != 2 {
+    if j % CELL_SIZE != NEXT_WORD {
         return 0;
     }
-    let number = j / 3 + 1;
+    let number = j / CELL_SIZE + 1;
     if number < cells {
         (number + 1) as u32
     } else {
@@ -71,13 +81,13 @@ fn cell_word(cells: usize, j: usize) -> u32
 
 // Word j of the threads.
 fn thread_word(permissions: &[u8], j: usize) -> u32
-    requires { ⌜ j < 33 * length (now permissions) ⌝ }
+    requires { ⌜ j < threadSize * length (now permissions) ⌝ }
     ensures { λ r. ⌜ r ≡ threadWord (now (permissions .entry)) j ⌝ }
 {
-    if j % 33 != 0 {
+    if j % THREAD_SIZE != 0 {
         return 0;
     }
-    let thread = j / 33;
+    let thread = j / THREAD_SIZE;
     permissions[thread] as u32
 }
 
@@ -86,7 +96,7 @@ fn laid_word(shape: Shape, permissions: &[u8], k: usize, cells_at: usize, thread
     requires { ⌜ Laying shape (now permissions) k «cells_at» «threads_at» ⌝ }
     ensures { λ r. ⌜ r ≡ laidWord shape (now (permissions .entry)) k ⌝ }
 {
-    if k < 6 {
+    if k < HEAD_SIZE {
         let header = [
             shape.depth,
             shape.cells,

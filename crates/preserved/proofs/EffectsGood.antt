@@ -1,27 +1,27 @@
--- An effect in range keeps a region readable. Assumes nothing.
-use Prim.Native.Nat.{ℕ, _+_, _*_, _^_, _≤_, _<_}
+-- An effect in range keeps the bytes under a frame in range. Assumes nothing.
+use Prim.Native.Nat.{ℕ, _^_, _<_}
 use native.Mathlib.Omega.{arith}
-use mathlib.Core.Path.{sym, subst, _∙_}
-use mathlib.Core.Logic.{inl, inr}
+use mathlib.Core.Path.{sym, subst}
 use mathlib.Core.List.{List}
+use lib.ListN.{length}
 use Rattle.words.specs.Inner.{Fit}
-use Rattle.region.specs.Frame.{frameOf}
 use Rattle.region.specs.Pick.{upd}
 use Rattle.region.specs.Record.{nodeWords, cellWords, zeroItem}
-use Rattle.region.specs.Inner.{InRange}
+use Rattle.region.specs.Inner.{Framed, InRange}
 use Rattle.region.specs.Shared.{Shared, cellIn, sharedIn}
+use Rattle.region.specs.declared.frame.Frame.{Frame}
 use Rattle.region.specs.declared.record.Cell.{Cell}
 use Rattle.region.specs.declared.record.Node.{Node}
 use Rattle.region.specs.declared.shape.Shape.{Shape}
-use Rattle.region.proofs.Frames.{frame-parted}
 use Rattle.region.proofs.Picks.{upd-good}
 use Rattle.region.proofs.Shapes.{sizes}
+use Rattle.region.proofs.Views.{threads-outside}
 use Rattle.access.specs.Effect.{effectShared, effectBytes}
 use Rattle.access.specs.declared.effect.Effect.{Effect}
 use Rattle.access.specs.declared.effect.Effect.the-variants.{Nothing, Grow, Push, Pop, Exchange, Clean}
-use Rattle.access.proofs.EffectLaws.{Elsewhere, EffectFits, effect-shared, effect-word, length-effect}
+use Rattle.access.proofs.EffectLaws.{EffectFits, effect-shared, effect-word, length-effect}
 use Rattle.readable.proofs.Laws.{Good}
-use Rattle.readable.proofs.Stores.{NodeGood, CellGood, SharedGood, good-shared, good-within, make-good, shape-kept, thread-reads}
+use Rattle.readable.proofs.Stores.{CellGood, Keeps, NodeGood, SharedGood, good-shared, make-good, threads-pass}
 use Rattle.preserved.proofs.PlansGood.{EffectGood, some-nodes}
 
 module _ (s : Shape) (m : Shared) (g : SharedGood s m) where
@@ -46,60 +46,51 @@ module _ (s : Shape) (m : Shared) (g : SharedGood s m) where
   effect-good (Exchange n v k w) h = search (upd-good (NodeGood (s .cells)) (upd (m .node) n v) k w (put-node n v (h .2)) (h .3))
   effect-good (Clean n v) h = search (put-node n v (h .1))
 
-module _ (s : Shape) (r : InRange s) where
-  few-cells : s .cells < 2 ^ 32
-  few-cells = omega (arith, r .cells-most, sizes s (r .depth-most))
+pub few-cells : (s : Shape) → InRange s → s .cells < 2 ^ 32
+few-cells s r = omega (arith, r .cells-most, sizes s (r .depth-most))
 
+module _ (s : Shape) (r : InRange s) where
   node-fit : (v : Node) → NodeGood (s .cells) v → Fit (nodeWords v)
-  node-fit v h = (omega (arith, h .first, few-cells), (omega (arith, h .dirty), (h .counter, tt)))
+  node-fit v h = (omega (arith, h .first, few-cells s r), (omega (arith, h .dirty), (omega (arith, h .counter), tt)))
 
   pub cell-fit : (v : Cell) → CellGood (s .cells) v → Fit (cellWords v)
-  cell-fit v h = (h .key, (omega (arith, h .tag), (omega (arith, h .next, few-cells), tt)))
+  cell-fit v h = (h .key, (omega (arith, h .tag), (omega (arith, h .next, few-cells s r), tt)))
 
-  pub fits-of : (b : List ℕ) → SharedGood s (sharedIn (frameOf s) b) → (e : Effect) → EffectGood s e → EffectFits (frameOf s) b e
-  unfolding frameOf sharedIn
-  fits-of b g Nothing h = tt
-  fits-of b g (Grow d) h = omega (arith, h .1, r .depth-most)
-  fits-of b g (Push n v c x) h = (
+-- An effect in range fits the words that it stores.
+module _ (f : Frame) (r : InRange (f .shape)) (b : List ℕ) (g : SharedGood (f .shape) (sharedIn f b)) where
+  pub fits-of : (e : Effect) → EffectGood (f .shape) e → EffectFits f b e
+  unfolding sharedIn
+  fits-of Nothing h = tt
+  fits-of (Grow d) h = omega (arith, h .1, r .depth-most)
+  fits-of (Push n v c x) h = (
     h .0,
     h .1,
-    node-fit v (h .2),
-    cell-fit (record { item = cellIn (frameOf s) b c .item; next = x })
+    node-fit (f .shape) r v (h .2),
+    cell-fit (f .shape) r (record { item = cellIn f b c .item; next = x })
         (record { key = g .cell c .key; tag = g .cell c .tag; next = h .3 }),
   )
-  fits-of b g (Pop v c) h =
-      ((omega arith, some-nodes s r (sharedIn (frameOf s) b) g), h .0, node-fit v (h .1), omega (arith, g .free, few-cells))
-  fits-of b g (Exchange n v k w) h = (h .0, h .1, node-fit v (h .2), node-fit w (h .3))
-  fits-of b g (Clean n v) h = (h .0, node-fit v (h .1))
+  fits-of (Pop v c) h = (
+    (omega arith, some-nodes (f .shape) r (sharedIn f b) g),
+    h .0,
+    node-fit (f .shape) r v (h .1),
+    omega (arith, g .free, few-cells (f .shape) r),
+  )
+  fits-of (Exchange n v k w) h = (h .0, h .1, node-fit (f .shape) r v (h .2), node-fit (f .shape) r w (h .3))
+  fits-of (Clean n v) h = (h .0, node-fit (f .shape) r v (h .1))
 
--- Words that no effect stores to: the shape's and the threads'.
-shape-elsewhere : (s : Shape) (k : ℕ) → k < 4 → Elsewhere (frameOf s) (frame-parted s) k
-unfolding frameOf
-shape-elsewhere s k h =
-    record { nodes = inl (omega arith); cells = inl (omega arith); depth = λ e. omega arith; free = λ e. omega arith }
-
-pub thread-elsewhere : (s : Shape) (j : ℕ) → frameOf s .threads ≤ j → Elsewhere (frameOf s) (frame-parted s) j
-unfolding frameOf
-thread-elsewhere s j h =
-    record { nodes = inr (omega arith); cells = inr (omega arith); depth = λ e. omega arith; free = λ e. omega arith }
-
-pub frame-cells : (s : Shape) → InRange s → frameOf s .shape .cells < 2 ^ 32
-unfolding frameOf
-frame-cells s r = few-cells s r
-
-pub good-effect : (s : Shape) (b : List ℕ) → Good s b → (e : Effect) → EffectGood s e → Good s (effectBytes (frameOf s) b e)
-good-effect s b g e h =
-    let f = frameOf s in
-    let w = good-within s b g in
-    let p = frame-parted s in
-    let m = good-shared s b g in
-    make-good s (effectBytes f b e)
-    (shape-kept s b (effectBytes f b e) (g .shape) (λ k l. effect-word f p k (shape-elsewhere s k l) b w e))
-    (g .range)
-    (length-effect f b e ∙ g .exact)
-    (subst (SharedGood s) (sym (effect-shared f p b w (frame-cells s (g .range)) e (fits-of s (g .range) b m e h)))
-    (effect-good s (sharedIn f b) m e h))
-    (λ i l.
-    thread-reads s b (effectBytes f b e) (f .threads + 33 * i)
-    (λ j lo hi. effect-word f p j (thread-elsewhere s j (omega arith)) b w e)
-    ∙ g .threads i l)
+-- Bytes in range stay in range.
+pub keeps-effect : (f : Frame) (b : List ℕ) → Good f b → (e : Effect) → EffectGood (f .shape) e → Keeps f b (effectBytes f b e)
+keeps-effect f b g e h =
+    let m = good-shared f b g in
+    let long = length-effect f b e in
+    record {
+      good =
+          make-good f (effectBytes f b e) (g .range) (subst (Framed f) (sym long) (g .placed))
+          (subst (SharedGood (f .shape))
+          (sym (effect-shared f b (g .placed) (few-cells (f .shape) (g .range)) e (fits-of f (g .range) b m e h)))
+          (effect-good (f .shape) (sharedIn f b) m e h))
+          (threads-pass f b (effectBytes f b e) g λ j lo hi.
+          effect-word f j (threads-outside f (length b) (g .placed) j lo hi) b (g .placed) e);
+      long = long;
+      outside = λ j o. effect-word f j (o .shared) b (g .placed) e;
+    }

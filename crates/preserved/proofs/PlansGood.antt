@@ -10,6 +10,7 @@ use lib.Pow.{pow-mono, pow-pos}
 use Rattle.region.specs.Answer.{unreadable, counterSpent}
 use Rattle.region.specs.Level.{ancestor, level}
 use Rattle.region.specs.Pick.{pick}
+use Rattle.region.specs.Record.{greatestCounter, greatestTag}
 use Rattle.region.specs.Shape.{between, nodeCount}
 use Rattle.region.specs.Inner.{InRange}
 use Rattle.region.specs.Shared.{Shared}
@@ -109,11 +110,11 @@ module _ (s : Shape) (t : Thread) (g : FieldsGood s t) where
   unfolding withAfter
   fields-after a h = search
 
-  pub fields-result : (i : Item) → i .key < 2 ^ 32 → i .tag ≤ 65535 → FieldsGood s (withResult t i)
+  pub fields-result : (i : Item) → i .key < 2 ^ 32 → i .tag ≤ greatestTag → FieldsGood s (withResult t i)
   unfolding withResult
   fields-result i hk ht = search
 
-  pub fields-item : (i : Item) → i .key < 2 ^ 32 → i .tag ≤ 65535 → FieldsGood s (withItem t i)
+  pub fields-item : (i : Item) → i .key < 2 ^ 32 → i .tag ≤ greatestTag → FieldsGood s (withItem t i)
   unfolding withItem
   fields-item i hk ht = search
 
@@ -175,7 +176,7 @@ module _ (s : Shape) (r : InRange s) (m : Shared) (sm : SharedGood s m) where
       → NodeGood (s .cells) (updated n first dirty)
   unfolding updated isSpent
   updated-good n first dirty g e hf hd =
-      let ne = eqb-false (n .counter) 4294967295 e in
+      let ne = eqb-false (n .counter) greatestCounter e in
       record { first = hf; dirty = hd; counter = omega (arith, g .counter, ne) }
 
   module _ (t : Thread) (gt : ThreadGood s t) where

@@ -7,6 +7,7 @@ use mathlib.Core.Bool.{true}
 use mathlib.Core.List.{List}
 use Rattle.words.specs.Word.{word}
 use Rattle.region.specs.Frame.{nodesOf, cellsOf, threadsOf}
+use Rattle.region.specs.Record.{nodeSize, cellSize}
 use Rattle.region.specs.Shared.{cellIn, entry, threadIn}
 use Rattle.region.specs.Thread.{threadSize}
 use Rattle.region.specs.declared.frame.Frame.{Frame}
@@ -74,10 +75,10 @@ Apart k n j = (j < k) ⊎ (k + n ≤ j)
 abbrev pub OutsideEffect : Frame → Effect → ℕ → Type 0
 OutsideEffect f Nothing j = Unit
 OutsideEffect f (Grow d) j = j ≡ f .depth → ⊥
-OutsideEffect f (Push n v c x) j = Apart (entry (nodesOf f) n) 3 j × Apart (entry (cellsOf f) c) 3 j
-OutsideEffect f (Pop v c) j = Apart (entry (nodesOf f) 1) 3 j × Apart (entry (cellsOf f) c) 3 j × (j ≡ f .free → ⊥)
-OutsideEffect f (Exchange n v k w) j = Apart (entry (nodesOf f) n) 3 j × Apart (entry (nodesOf f) k) 3 j
-OutsideEffect f (Clean n v) j = Apart (entry (nodesOf f) n) 3 j
+OutsideEffect f (Push n v c x) j = Apart (entry (nodesOf f) n) nodeSize j × Apart (entry (cellsOf f) c) cellSize j
+OutsideEffect f (Pop v c) j = Apart (entry (nodesOf f) 1) nodeSize j × Apart (entry (cellsOf f) c) cellSize j × (j ≡ f .free → ⊥)
+OutsideEffect f (Exchange n v k w) j = Apart (entry (nodesOf f) n) nodeSize j × Apart (entry (nodesOf f) k) nodeSize j
+OutsideEffect f (Clean n v) j = Apart (entry (nodesOf f) n) nodeSize j
 
 -- and every word outside its effect and its own record
 abbrev pub TurnLeavesWords : Type 0

@@ -1,25 +1,29 @@
--- A laid-out region is readable: each word is what layout's definition says, and that is in range. Assumes nothing.
+-- A laid-out region is readable: shared memory reads as layout's definition says, each word of a thread's record is 0 but the permission,
+-- and all that is in range. Assumes nothing.
 use Prim.Native.Nat.{ℕ, zero, suc, _+_, _-_, _*_, _≤_, _<_}
 use native.Mathlib.Nat.{add-zero}
 use native.Mathlib.Omega.{arith}
-use mathlib.Core.Path.{_≡_, refl, sym, subst, subst⁻¹, _∙_}
-use mathlib.Core.Bool.{true, _&&_}
+use mathlib.Core.Path.{_≡_, refl, sym, subst, _∙_}
+use mathlib.Core.Bool.{true}
 use mathlib.Core.List.{List}
-use borrow.Author.Tests.{le-leb, eq-eqb}
-use lib.Dec.{eqb}
+use borrow.Author.Tests.{le-leb}
 use lib.ListN.{length, getD}
 use Rattle.words.specs.Word.{word}
 use Rattle.region.specs.Answer.{done}
 use Rattle.region.specs.Frame.{frameOf}
-use Rattle.region.specs.Shape.{shapeFits, nodeCount, regionWords}
 use Rattle.region.specs.Inner.{InRange}
+use Rattle.region.specs.Shape.{regionWords}
+use Rattle.region.specs.Shared.{sharedIn}
+use Rattle.region.specs.Thread.{threadSize, triesWord, waitingWord, greatestPermission}
 use Rattle.region.specs.declared.shape.Shape.{Shape}
-use Rattle.region.proofs.Shapes.{and-both, is-between, fits-in-range, sizes}
-use Rattle.layout.specs.Layout.{layoutRefusal, cellWord, layoutBytes}
-use Rattle.layout.proofs.Laws.{cellWord-most, threadWord-most, threadWord-rest, laid-shape, laid-permissions, laid-length, header, node-word, cell-word, thread-word}
-use Rattle.layout.proofs.LayoutReads.{thread-part}
-use Rattle.readable.specs.Readable.{nodeMaxima, cellMaxima, threadMaxima, bounded, threadReadable, allRecords, treeReadable, fieldsReadable, shapeIn, readable}
-use Rattle.readable.proofs.Laws.{all-pass, bounded-all}
+use Rattle.region.proofs.Frames.{frame-framed}
+use Rattle.region.proofs.Shapes.{and-both}
+use Rattle.layout.specs.Layout.{layoutRefusal, layoutBytes}
+use Rattle.layout.proofs.Laws.{threadWord-most, threadWord-rest, laid-shape, laid-permissions, laid-length, header, thread-word}
+use Rattle.layout.proofs.LayoutReads.{laid-cell, laid-depth, laid-free, laid-node, next-most, thread-part}
+use Rattle.readable.specs.Readable.{threadMaxima, bounded, threadReadable, shapeIn, readable}
+use Rattle.readable.proofs.Laws.{Good, bounded-all, readable-good}
+use Rattle.readable.proofs.Stores.{CellGood, NodeGood, SharedGood, empty-good, make-good}
 use Rattle.queue.specs.Theorems.{LaidOutIsReadable}
 
 module _ (s : Shape) (ps b : List ℕ) (e : layoutRefusal s ps (length b) ≡ done) where
@@ -29,37 +33,23 @@ module _ (s : Shape) (ps b : List ℕ) (e : layoutRefusal s ps (length b) ≡ do
   abbrev laid : List ℕ
   laid = layoutBytes s ps b
 
-  -- the records of each part
-  nodes-pass : allRecords (λ l at. bounded l at (nodeMaxima (s .cells))) 3 laid (frameOf s .nodes) (nodeCount s) ≡ true
-  unfolding frameOf
-  nodes-pass =
-      all-pass (λ l at. bounded l at (nodeMaxima (s .cells))) 3 laid 6 (nodeCount s) λ i l.
-      bounded-all laid (nodeMaxima (s .cells)) (6 + 3 * i) λ j h.
-      let z : word laid (6 + 3 * i + j) ≡ 0 = node-word s ps b e (6 + 3 * i + j) (omega arith) (omega arith) in
-      omega arith
-
-  cells-pass : allRecords (λ l at. bounded l at (cellMaxima (s .cells))) 3 laid (frameOf s .cells) (s .cells) ≡ true
-  unfolding frameOf
-  cells-pass =
-      all-pass (λ l at. bounded l at (cellMaxima (s .cells))) 3 laid (frameOf s .cells) (s .cells) λ i l.
-      bounded-all laid (cellMaxima (s .cells)) (frameOf s .cells + 3 * i) λ j h.
-      let k = frameOf s .cells + 3 * i + j in
-      let z : word laid k ≡ cellWord (s .cells) (k - frameOf s .cells) = cell-word s ps b e k (omega arith) (omega arith) in
-      let m : word laid k ≤ s .cells = omega (arith, z, cellWord-most (s .cells) (k - frameOf s .cells)) in
-      cell-bound (word laid k) j h m
-    where
-      cell-bound : (w j : ℕ) → j < 3 → w ≤ s .cells → w ≤ getD (cellMaxima (s .cells)) j 0
-      cell-bound w zero h m = omega (arith, m, r .cells-most, sizes s (r .depth-most))
-      cell-bound w (suc zero) h m = omega (arith, m, r .cells-most, sizes s (r .depth-most))
-      cell-bound w (suc (suc zero)) h m = m
-      cell-bound w (suc (suc (suc j))) h m = absurd (omega arith)
+  shared-good : SharedGood s (sharedIn (frameOf s) laid)
+  shared-good =
+      record {
+        node = λ n. subst (NodeGood (s .cells)) (sym (laid-node s ps b e n)) (empty-good (s .cells));
+        cell = λ c. subst (CellGood (s .cells)) (sym (laid-cell s ps b e c))
+            (record { key = omega arith; tag = omega arith; next = next-most (s .cells) c });
+        depth-least = omega (arith, laid-depth s ps b e);
+        depth-most = omega (arith, laid-depth s ps b e, r .depth-least);
+        free = omega (arith, laid-free s ps b e, r .cells-least);
+      }
 
   module _ (i : ℕ) (l : i < s .threads) where
     at : ℕ
-    at = frameOf s .threads + 33 * i
+    at = frameOf s .threads + threadSize * i
 
     -- the permission comes first, every other word is 0
-    permission-word : word laid at ≤ 3
+    permission-word : word laid at ≤ greatestPermission
     unfolding at frameOf regionWords
     permission-word =
         omega (
@@ -68,39 +58,27 @@ module _ (s : Shape) (ps b : List ℕ) (e : layoutRefusal s ps (length b) ≡ do
           threadWord-most ps (at - frameOf s .threads) (laid-permissions s ps b e),
         )
 
-    zero-word : (j : ℕ) → 0 < j → j < 33 → word laid (at + j) ≡ 0
+    zero-word : (j : ℕ) → 0 < j → j < threadSize → word laid (at + j) ≡ 0
     unfolding at
     zero-word j p u = thread-part s ps b e i j (at + j) l u refl ∙ threadWord-rest ps i j p u
 
-    thread-pass : threadReadable s laid at ≡ true
+    thread-passes : threadReadable s laid at ≡ true
     unfolding threadReadable
-    thread-pass =
+    thread-passes =
         and-both
         (and-both
         (bounded-all laid (threadMaxima s) at λ j h. word-bound j h)
-        (le-leb (word laid (at + 7)) _ (omega (arith, zero-word 7 (omega arith) (omega arith)))))
-        (le-leb (word laid (at + 11)) _ (omega (arith, zero-word 11 (omega arith) (omega arith))))
+        (le-leb (word laid (at + triesWord)) _ (omega (arith, zero-word triesWord (omega arith) (omega arith)))))
+        (le-leb (word laid (at + waitingWord)) _ (omega (arith, zero-word waitingWord (omega arith) (omega arith))))
       where
-        word-bound : (j : ℕ) → j < 33 → word laid (at + j) ≤ getD (threadMaxima s) j 0
-        word-bound zero h = subst (λ k. word laid k ≤ 3) (sym (add-zero at)) permission-word
+        word-bound : (j : ℕ) → j < threadSize → word laid (at + j) ≤ getD (threadMaxima s) j 0
+        word-bound zero h = subst (λ k. word laid k ≤ greatestPermission) (sym (add-zero at)) permission-word
         word-bound (suc j) h =
             subst (λ w. w ≤ getD (threadMaxima s) (suc j) 0) (sym (zero-word (suc j) (omega arith) h)) (omega arith)
 
-  threads-pass : allRecords (threadReadable s) 33 laid (frameOf s .threads) (s .threads) ≡ true
-  unfolding at
-  threads-pass = all-pass (threadReadable s) 33 laid (frameOf s .threads) (s .threads) thread-pass
-
-  tree-pass : treeReadable (frameOf s) laid ≡ true
-  unfolding treeReadable frameOf
-  tree-pass =
-      and-both
-      (and-both
-      (and-both
-      (is-between 1 (word laid 4) (s .depth) (omega (arith, header s ps b e 4 (omega arith)))
-      (omega (arith, header s ps b e 4 (omega arith), r .depth-least)))
-      (le-leb (word laid 5) (s .cells) (omega (arith, header s ps b e 5 (omega arith), r .cells-least))))
-      nodes-pass)
-      cells-pass
+  pub laid-good : Good (frameOf s) laid
+  unfolding at frameOf
+  laid-good = make-good (frameOf s) laid r (frame-framed s (length laid) (laid-length s ps b e)) shared-good thread-passes
 
   pub same-shape : shapeIn laid ≡ s
   same-shape = λ i. record {
@@ -111,14 +89,7 @@ module _ (s : Shape) (ps b : List ℕ) (e : layoutRefusal s ps (length b) ≡ do
   }
 
   laid-readable : readable laid ≡ true
-  unfolding readable fieldsReadable
-  laid-readable =
-      subst⁻¹
-      (λ x. shapeFits x && eqb (length laid) (4 * regionWords x) && fieldsReadable x laid ≡ true)
-      same-shape
-      (and-both
-      (and-both (fits-in-range s r) (eq-eqb (length laid) (4 * regionWords s) (laid-length s ps b e)))
-      (and-both tree-pass threads-pass))
+  laid-readable = readable-good s laid same-shape (laid-length s ps b e) laid-good
 
 pub laid-out-is-readable : LaidOutIsReadable
 laid-out-is-readable = laid-readable

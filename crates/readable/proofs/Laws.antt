@@ -1,4 +1,4 @@
--- What a readable region is, record by record: the shape, the length, and each record of each part. Assumes nothing.
+-- What readability says of a frame's parts, record by record, and of the readable region of one queue. Assumes nothing.
 use Prim.Native.Nat.{ℕ, zero, suc, _+_, _*_, _≤_, _<_}
 use native.Mathlib.Nat.{add-zero, add-suc, suc-add}
 use native.Mathlib.Omega.{arith}
@@ -10,12 +10,14 @@ use lib.Dec.{leb, eqb}
 use lib.ListN.{length, getD}
 use Rattle.words.specs.Word.{word}
 use Rattle.region.specs.Frame.{frameOf}
-use Rattle.region.specs.Inner.{Within, InRange}
+use Rattle.region.specs.Inner.{Framed, Within, InRange}
+use Rattle.region.specs.Record.{nodeSize, cellSize}
 use Rattle.region.specs.Shape.{between, shapeFits, nodeCount, regionWords}
+use Rattle.region.specs.declared.frame.Frame.{Frame}
 use Rattle.region.specs.declared.shape.Shape.{Shape}
-use Rattle.region.proofs.Frames.{frame-within}
+use Rattle.region.proofs.Frames.{frame-framed, frame-within}
 use Rattle.region.proofs.Shapes.{and-left, and-right, and-both, between-least, between-most, in-range, fits-in-range, is-between}
-use Rattle.readable.specs.Readable.{nodeMaxima, cellMaxima, bounded, threadReadable, allRecords, treeReadable, fieldsReadable, shapeIn, readable}
+use Rattle.readable.specs.Readable.{bounded, nodeReadable, cellReadable, threadReadable, allRecords, treeReadable, fieldsReadable, shapeIn, frameIn, isWhole, readable}
 
 -- Words at most their maxima, one by one and all together.
 pub bounded-all : (b ms : List ℕ) (at : ℕ) → ((i : ℕ) → i < length ms → word b (at + i) ≤ getD ms i 0) → bounded b at ms ≡ true
@@ -60,87 +62,89 @@ pass-at test stride b at (suc n) (suc i) e l =
     (omega arith)
     (pass-at test stride b (at + stride) n i (and-right (test b at) (allRecords test stride b (at + stride) n) e) (omega arith))
 
--- A readable region, part by part.
-pub record Good (s : Shape) (b : List ℕ) : Type 0 where
-  pub shape : shapeIn b ≡ s
-  pub range : InRange s
-  pub exact : length b ≡ 4 * regionWords s
-  pub depth-least : 1 ≤ word b 4
-  pub depth-most : word b 4 ≤ s .depth
-  pub free-most : word b 5 ≤ s .cells
-  pub nodes : (i : ℕ) → i < nodeCount s → bounded b (frameOf s .nodes + 3 * i) (nodeMaxima (s .cells)) ≡ true
-  pub cells : (i : ℕ) → i < s .cells → bounded b (frameOf s .cells + 3 * i) (cellMaxima (s .cells)) ≡ true
-  pub threads : (i : ℕ) → i < s .threads → threadReadable s b (frameOf s .threads + 33 * i) ≡ true
+-- What holds of the bytes b under a frame, part by part: the shape is in range, the parts end within the slice and lie apart, and every
+-- field is in range.
+pub record Good (f : Frame) (b : List ℕ) : Type 0 where
+  pub range : InRange (f .shape)
+  pub placed : Framed f (length b)
+  pub depth-least : 1 ≤ word b (f .depth)
+  pub depth-most : word b (f .depth) ≤ f .shape .depth
+  pub free-most : word b (f .free) ≤ f .shape .cells
+  pub nodes : (i : ℕ) → i < nodeCount (f .shape) → nodeReadable (f .shape .cells) b (f .nodes + nodeSize * i) ≡ true
+  pub cells : (i : ℕ) → i < f .shape .cells → cellReadable (f .shape .cells) b (f .cells + cellSize * i) ≡ true
+  pub threads : (i : ℕ) → i < f .shape .threads → threadReadable (f .shape) b (f .threads + f .stride * i) ≡ true
 
-module _ (b : List ℕ) where
-  s : Shape
-  s = shapeIn b
+module _ (f : Frame) (b : List ℕ) where
+  abbrev s : Shape
+  s = f .shape
 
-  good-parts : shapeFits s ≡ true → eqb (length b) (4 * regionWords s) ≡ true → between 1 (word b 4) (s .depth) ≡ true
-      → leb (word b 5) (s .cells) ≡ true
-      → allRecords (λ l at. bounded l at (nodeMaxima (s .cells))) 3 b (frameOf s .nodes) (nodeCount s) ≡ true
-      → allRecords (λ l at. bounded l at (cellMaxima (s .cells))) 3 b (frameOf s .cells) (s .cells) ≡ true
-      → allRecords (threadReadable s) 33 b (frameOf s .threads) (s .threads) ≡ true → Good s b
-  unfolding s
-  good-parts ef el ed ee en ec et =
-      record {
-        shape = refl;
-        range = in-range s ef;
-        exact = eqb-true (length b) (4 * regionWords s) el;
-        depth-least = between-least 1 (word b 4) (s .depth) ed;
-        depth-most = between-most 1 (word b 4) (s .depth) ed;
-        free-most = leb-true (word b 5) (s .cells) ee;
-        nodes = λ i l. pass-at (λ x at. bounded x at (nodeMaxima (s .cells))) 3 b (frameOf s .nodes) (nodeCount s) i en l;
-        cells = λ i l. pass-at (λ x at. bounded x at (cellMaxima (s .cells))) 3 b (frameOf s .cells) (s .cells) i ec l;
-        threads = λ i l. pass-at (threadReadable s) 33 b (frameOf s .threads) (s .threads) i et l;
-      }
-
-  pub good : readable b ≡ true → Good (shapeIn b) b
-  unfolding s readable fieldsReadable treeReadable frameOf
-  good e =
-      let f = shapeFits s in
-      let l = eqb (length b) (4 * regionWords s) in
-      let d = between 1 (word b 4) (s .depth) in
-      let c = leb (word b 5) (s .cells) in
-      let ns = allRecords (λ x at. bounded x at (nodeMaxima (s .cells))) 3 b (frameOf s .nodes) (nodeCount s) in
-      let cs = allRecords (λ x at. bounded x at (cellMaxima (s .cells))) 3 b (frameOf s .cells) (s .cells) in
-      let ts = allRecords (threadReadable s) 33 b (frameOf s .threads) (s .threads) in
-      let fl : f && l ≡ true = and-left (f && l) (d && c && ns && cs && ts) e in
-      let all : d && c && ns && cs && ts ≡ true = and-right (f && l) (d && c && ns && cs && ts) e in
-      let tree : d && c && ns && cs ≡ true = and-left (d && c && ns && cs) ts all in
+  pub fields-good : InRange (f .shape) → Framed f (length b) → fieldsReadable f b ≡ true → Good f b
+  unfolding fieldsReadable treeReadable
+  fields-good r placed e =
+      let d = between 1 (word b (f .depth)) (s .depth) in
+      let c = leb (word b (f .free)) (s .cells) in
+      let ns = allRecords (nodeReadable (s .cells)) nodeSize b (f .nodes) (nodeCount s) in
+      let cs = allRecords (cellReadable (s .cells)) cellSize b (f .cells) (s .cells) in
+      let ts = allRecords (threadReadable s) (f .stride) b (f .threads) (s .threads) in
+      let tree : d && c && ns && cs ≡ true = and-left (d && c && ns && cs) ts e in
       let dcn : d && c && ns ≡ true = and-left (d && c && ns) cs tree in
       let dc : d && c ≡ true = and-left (d && c) ns dcn in
-      good-parts
-      (and-left f l fl)
-      (and-right f l fl)
-      (and-left d c dc)
-      (and-right d c dc)
-      (and-right (d && c) ns dcn)
-      (and-right (d && c && ns) cs tree)
-      (and-right (d && c && ns && cs) ts all)
+      record {
+        range = r;
+        placed = placed;
+        depth-least = between-least 1 (word b (f .depth)) (s .depth) (and-left d c dc);
+        depth-most = between-most 1 (word b (f .depth)) (s .depth) (and-left d c dc);
+        free-most = leb-true (word b (f .free)) (s .cells) (and-right d c dc);
+        nodes = λ i. pass-at (nodeReadable (s .cells)) nodeSize b (f .nodes) (nodeCount s) i (and-right (d && c) ns dcn);
+        cells = λ i. pass-at (cellReadable (s .cells)) cellSize b (f .cells) (s .cells) i (and-right (d && c && ns) cs tree);
+        threads = λ i. pass-at (threadReadable s) (f .stride) b (f .threads) (s .threads) i (and-right (d && c && ns && cs) ts e);
+      }
 
-pub readable-good : (s : Shape) (b : List ℕ) → Good s b → readable b ≡ true
-unfolding readable fieldsReadable treeReadable frameOf
-readable-good s b g =
-    subst
-    (λ x. shapeFits x && eqb (length b) (4 * regionWords x) && fieldsReadable x b ≡ true)
-    (sym (g .shape))
-    (and-both
-    (and-both (fits-in-range s (g .range)) (eq-eqb (length b) (4 * regionWords s) (g .exact)))
-    (and-both
-    (and-both
-    (and-both
-    (and-both (is-between 1 (word b 4) (s .depth) (g .depth-least) (g .depth-most)) (le-leb (word b 5) (s .cells) (g .free-most)))
-    (all-pass (λ l at. bounded l at (nodeMaxima (s .cells))) 3 b (frameOf s .nodes) (nodeCount s) (g .nodes)))
-    (all-pass (λ l at. bounded l at (cellMaxima (s .cells))) 3 b (frameOf s .cells) (s .cells) (g .cells)))
-    (all-pass (threadReadable s) 33 b (frameOf s .threads) (s .threads) (g .threads))))
+  pub good-fields : Good f b → fieldsReadable f b ≡ true
+  unfolding fieldsReadable treeReadable
+  good-fields g =
+      and-both
+      (and-both
+      (and-both
+      (and-both
+      (is-between 1 (word b (f .depth)) (s .depth) (g .depth-least) (g .depth-most))
+      (le-leb (word b (f .free)) (s .cells) (g .free-most)))
+      (all-pass (nodeReadable (s .cells)) nodeSize b (f .nodes) (nodeCount s) (g .nodes)))
+      (all-pass (cellReadable (s .cells)) cellSize b (f .cells) (s .cells) (g .cells)))
+      (all-pass (threadReadable s) (f .stride) b (f .threads) (s .threads) (g .threads))
 
-pub readable-shape : (b : List ℕ) → readable b ≡ true → InRange (shapeIn b)
-readable-shape b e = good b e .range
+-- The readable region of one queue is one instance: the frame that its first words give, over all its bytes.
+module _ (b : List ℕ) where
+  whole : readable b ≡ true → isWhole b ≡ true
+  unfolding readable
+  whole e = and-left (isWhole b) (fieldsReadable (frameIn b) b) e
 
-pub readable-within : (b : List ℕ) → readable b ≡ true → Within (frameOf (shapeIn b)) (length b)
-readable-within b e = frame-within (shapeIn b) (length b) (good b e .range) (good b e .exact)
+  pub readable-shape : readable b ≡ true → InRange (shapeIn b)
+  readable-shape e =
+      in-range (shapeIn b) (and-left (shapeFits (shapeIn b)) (eqb (length b) (4 * regionWords (shapeIn b))) (whole e))
 
-pub readable-long : (b : List ℕ) → readable b ≡ true → 16 ≤ length b
-unfolding regionWords
-readable-long b e = omega (arith, good b e .exact)
+  pub readable-length : readable b ≡ true → length b ≡ 4 * regionWords (shapeIn b)
+  readable-length e =
+      eqb-true (length b) (4 * regionWords (shapeIn b))
+      (and-right (shapeFits (shapeIn b)) (eqb (length b) (4 * regionWords (shapeIn b))) (whole e))
+
+  pub good : readable b ≡ true → Good (frameIn b) b
+  unfolding readable frameOf
+  good e =
+      fields-good (frameIn b) b (readable-shape e) (frame-framed (shapeIn b) (length b) (readable-length e))
+      (and-right (isWhole b) (fieldsReadable (frameIn b) b) e)
+
+  pub readable-within : readable b ≡ true → Within (frameIn b) (length b)
+  readable-within e = frame-within (shapeIn b) (length b) (readable-shape e) (readable-length e)
+
+  pub readable-long : readable b ≡ true → 16 ≤ length b
+  unfolding regionWords
+  readable-long e = omega (arith, readable-length e)
+
+pub readable-good : (s : Shape) (b : List ℕ) → shapeIn b ≡ s → length b ≡ 4 * regionWords s → Good (frameOf s) b → readable b ≡ true
+unfolding readable frameOf
+readable-good s b es el g =
+    subst (λ x. shapeFits x && eqb (length b) (4 * regionWords x) && fieldsReadable (frameOf x) b ≡ true) (sym es)
+    (and-both
+    (and-both (fits-in-range s (g .range)) (eq-eqb (length b) (4 * regionWords s) el))
+    (good-fields (frameOf s) b g))

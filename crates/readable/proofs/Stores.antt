@@ -1,27 +1,30 @@
--- What a readable region holds, as records, and that stores of such records keep it readable. Assumes nothing.
+-- What bytes in range hold under a frame, as records; that stores of such records keep them so, and a readable region readable. Assumes
+-- nothing.
 use Prim.Native.Nat.{ℕ, zero, suc, _+_, _-_, _*_, _^_, _≤_, _<_}
-use native.Mathlib.Decide.{ℕ-discrete, decLt}
-use native.Mathlib.Nat.{add-zero, add-suc, suc-add}
+use native.Mathlib.Decide.{ℕ-discrete}
+use native.Mathlib.Nat.{add-zero}
 use native.Mathlib.Omega.{arith}
 use mathlib.Core.Path.{_≡_, refl, sym, ap, subst, subst₂, subst₃, _∙_}
-use mathlib.Core.Logic.{inl, inr}
-use mathlib.Core.Bool.{Bool, true, false, _&&_}
-use mathlib.Core.List.{List, [], _∷_}
+use mathlib.Core.Logic.{inl}
+use mathlib.Core.Bool.{Bool, true, false, _&&_, and-assoc}
+use mathlib.Core.List.{List, [], _∷_, _++_}
 use borrow.Author.Tests.{leb-true, le-leb}
 use lib.Dec.{leb}
 use lib.ListN.{length, getD}
 use lib.Pow.{pow-mono}
 use Rattle.words.specs.Word.{word, wordsAt}
 use Rattle.words.specs.Inner.{Fit}
+use Rattle.words.proofs.Laws.{word-in-run}
 use Rattle.region.specs.Frame.{Part, frameOf, nodesOf, cellsOf, threadsOf}
-use Rattle.region.specs.Inner.{Within, InRange}
+use Rattle.region.specs.Inner.{Framed, InRange}
 use Rattle.region.specs.Level.{level}
 use Rattle.region.specs.Pick.{pick}
 use Rattle.region.specs.Place.{placeNumber, placeOf, waitingLevels}
-use Rattle.region.specs.Record.{nodeAt, emptyNode, cellAt, zeroCell, zeroCopy}
-use Rattle.region.specs.Shape.{between, nodeCount, regionWords}
+use Rattle.region.specs.Record.{nodeSize, copySize, greatestCounter, greatestTag, nodeAt, emptyNode, cellAt, zeroCell, copyOf, copyWords, copyAt, zeroCopy}
+use Rattle.region.specs.Shape.{between, nodeCount}
 use Rattle.region.specs.Shared.{Shared, entry, loadEntry, nodeIn, cellIn, threadIn, setThreadIn, sharedIn}
-use Rattle.region.specs.Thread.{threadSize, threadWords, idleThread, threadAt}
+use Rattle.region.specs.Thread.{threadSize, placeWord, triesWord, nodeWord, waitingWord, firstCopyWord, secondCopyWord, thirdCopyWord, greatestPermission, fieldWords, threadWords, idleThread, threadAt}
+use Rattle.region.specs.declared.frame.Frame.{Frame}
 use Rattle.region.specs.declared.place.Place.{Place}
 use Rattle.region.specs.declared.place.Place.the-variants.{Idle, ReadDepth, ReadLeaf, ReadAncestor, GrowDepth, ReadTarget, InsertAtRoot, ReadParent, InsertBelow, ReadRoot, RemoveHead, MendReadNode, MendReadDepth, MendReadLeft, MendReadRight, MendSwap, MendClean}
 use Rattle.region.specs.declared.record.Cell.{Cell}
@@ -29,23 +32,24 @@ use Rattle.region.specs.declared.record.Node.{Node}
 use Rattle.region.specs.declared.record.NodeCopy.{NodeCopy}
 use Rattle.region.specs.declared.shape.Shape.{Shape}
 use Rattle.region.specs.declared.thread.Thread.{Thread}
-use Rattle.region.proofs.Frames.{frame-within, frame-parted}
+use Rattle.region.proofs.Entries.{record-within}
 use Rattle.region.proofs.Levels.{level-most}
 use Rattle.region.proofs.Picks.{pick-good}
 use Rattle.region.proofs.Shapes.{and-left, and-right, and-both, between-least, between-most, is-between, sizes}
-use Rattle.region.proofs.Views.{Outside, length-setThreadIn, word-setThreadIn, word-setThread, thread-stored-words, shared-setThread}
-use Rattle.readable.specs.Readable.{anyWord, nodeMaxima, cellMaxima, threadMaxima, triesMost, waitingMost, bounded, threadReadable, shapeIn}
-use Rattle.readable.proofs.Laws.{Good, bounded-all, bounded-at}
+use Rattle.region.proofs.Threads.{copy-in-run, copy-parts}
+use Rattle.region.proofs.Views.{Kept, OutsideParts, length-setThreadIn, records-outside, shared-setThread, thread-stored-words, word-setThread, word-setThreadIn}
+use Rattle.readable.specs.Readable.{anyWord, greatestCopy, greatestThread, nodeMaxima, cellMaxima, threadMaxima, triesMost, waitingMost, bounded, nodeReadable, cellReadable, threadReadable, shapeIn, frameIn, readable}
+use Rattle.readable.proofs.Laws.{Good, bounded-all, bounded-at, readable-good, readable-length}
 
 -- Records in range.
 pub record NodeGood (cells : ℕ) (n : Node) : Type 0 where
   pub first : n .first ≤ cells
   pub dirty : n .dirty ≤ 1
-  pub counter : n .counter < 2 ^ 32
+  pub counter : n .counter ≤ greatestCounter
 
 pub record CellGood (cells : ℕ) (c : Cell) : Type 0 where
   pub key : c .item .key < 2 ^ 32
-  pub tag : c .item .tag ≤ 65535
+  pub tag : c .item .tag ≤ greatestTag
   pub next : c .next ≤ cells
 
 pub record CopyGood (cells : ℕ) (q : NodeCopy) : Type 0 where
@@ -54,9 +58,9 @@ pub record CopyGood (cells : ℕ) (q : NodeCopy) : Type 0 where
 
 -- every field of a thread's record but the place
 pub record FieldsGood (s : Shape) (t : Thread) : Type 0 where
-  pub permission : t .permission ≤ 3
+  pub permission : t .permission ≤ greatestPermission
   pub item-key : t .item .key < 2 ^ 32
-  pub item-tag : t .item .tag ≤ 65535
+  pub item-tag : t .item .tag ≤ greatestTag
   pub own : t .own ≤ s .cells
   pub depth : t .depth ≤ s .depth
   pub leaf : t .search .leaf ≤ nodeCount s
@@ -66,10 +70,20 @@ pub record FieldsGood (s : Shape) (t : Thread) : Type 0 where
   pub node : t .node ≤ nodeCount s
   pub after : t .after ≤ 1
   pub result-key : t .result .key < 2 ^ 32
-  pub result-tag : t .result .tag ≤ 65535
+  pub result-tag : t .result .tag ≤ greatestTag
   pub first : CopyGood (s .cells) (t .copies .first)
   pub second : CopyGood (s .cells) (t .copies .second)
   pub third : CopyGood (s .cells) (t .copies .third)
+
+-- the words before the copies and those of a copy, at their greatest, and the greatest place
+abbrev fieldMaxima : Shape → List ℕ
+fieldMaxima s = fieldWords (greatestThread s)
+
+abbrev copyMaxima : ℕ → List ℕ
+copyMaxima cells = copyWords (greatestCopy cells)
+
+abbrev greatestPlace : ℕ
+greatestPlace = placeNumber (MendClean anyWord)
 
 -- levels above the node's
 abbrev pub WaitsAbove : ℕ → ℕ → Type 0
@@ -122,7 +136,7 @@ all-fit (v ∷ vs) (m ∷ ms) h f = (omega (arith, h .0, f .0), all-fit vs ms (h
 below-any : {n : ℕ} → n < 2 ^ 32 → n ≤ anyWord
 below-any h = omega arith
 
-number-most : (p : Place) → placeNumber p ≤ 16
+number-most : (p : Place) → placeNumber p ≤ greatestPlace
 number-most Idle = omega arith
 number-most ReadDepth = omega arith
 number-most ReadLeaf = omega arith
@@ -205,7 +219,7 @@ module _ (s : Shape) (r : InRange s) where
 
 -- Nodes and cells: in range as words, in range as records.
 module _ (cells : ℕ) (b : List ℕ) (at : ℕ) where
-  node-good : bounded b at (nodeMaxima cells) ≡ true → NodeGood cells (nodeAt b at)
+  node-good : nodeReadable cells b at ≡ true → NodeGood cells (nodeAt b at)
   unfolding bounded nodeAt
   node-good e =
       let r₁ = and-right (leb (word b at) cells) _ e in
@@ -213,37 +227,56 @@ module _ (cells : ℕ) (b : List ℕ) (at : ℕ) where
       record {
         first = leb-true (word b at) cells (and-left (leb (word b at) cells) _ e);
         dirty = leb-true (word b (suc at)) 1 (and-left (leb (word b (suc at)) 1) _ r₁);
-        counter = omega (arith, leb-true (word b (suc (suc at))) anyWord (and-left (leb (word b (suc (suc at))) anyWord) _ r₂));
+        counter = leb-true (word b (suc (suc at))) greatestCounter (and-left (leb (word b (suc (suc at))) greatestCounter) _ r₂);
       }
 
-  node-bounded : NodeGood cells (nodeAt b at) → bounded b at (nodeMaxima cells) ≡ true
+  node-bounded : NodeGood cells (nodeAt b at) → nodeReadable cells b at ≡ true
   unfolding bounded nodeAt
   node-bounded g =
       and-both
       (le-leb (word b at) cells (g .first))
       (and-both
       (le-leb (word b (suc at)) 1 (g .dirty))
-      (and-both (le-leb (word b (suc (suc at))) anyWord (below-any (g .counter))) refl))
+      (and-both (le-leb (word b (suc (suc at))) greatestCounter (g .counter)) refl))
 
-  cell-good : bounded b at (cellMaxima cells) ≡ true → CellGood cells (cellAt b at)
+  cell-good : cellReadable cells b at ≡ true → CellGood cells (cellAt b at)
   unfolding bounded cellAt
   cell-good e =
       let r₁ = and-right (leb (word b at) anyWord) _ e in
-      let r₂ = and-right (leb (word b (suc at)) 65535) _ r₁ in
+      let r₂ = and-right (leb (word b (suc at)) greatestTag) _ r₁ in
       record {
         key = omega (arith, leb-true (word b at) anyWord (and-left (leb (word b at) anyWord) _ e));
-        tag = leb-true (word b (suc at)) 65535 (and-left (leb (word b (suc at)) 65535) _ r₁);
+        tag = leb-true (word b (suc at)) greatestTag (and-left (leb (word b (suc at)) greatestTag) _ r₁);
         next = leb-true (word b (suc (suc at))) cells (and-left (leb (word b (suc (suc at))) cells) _ r₂);
       }
 
-  cell-bounded : CellGood cells (cellAt b at) → bounded b at (cellMaxima cells) ≡ true
+  cell-bounded : CellGood cells (cellAt b at) → cellReadable cells b at ≡ true
   unfolding bounded cellAt
   cell-bounded g =
       and-both
       (le-leb (word b at) anyWord (below-any (g .key)))
       (and-both
-      (le-leb (word b (suc at)) 65535 (g .tag))
+      (le-leb (word b (suc at)) greatestTag (g .tag))
       (and-both (le-leb (word b (suc (suc at))) cells (g .next)) refl))
+
+-- two runs one behind the other
+bounded-behind : (b xs ys : List ℕ) (at : ℕ) → bounded b at (xs ++ ys) ≡ bounded b at xs && bounded b (at + length xs) ys
+unfolding bounded
+bounded-behind b [] ys at = ap (λ k. bounded b k ys) (sym (add-zero at))
+bounded-behind b (x ∷ xs) ys at =
+    let e : suc at + length xs ≡ at + suc (length xs) = omega arith in
+    ap (λ q. leb (word b at) x && q) (bounded-behind b xs ys (suc at) ∙ ap (λ k. bounded b (suc at) xs && bounded b k ys) e)
+    ∙ sym (and-assoc (leb (word b at) x) (bounded b (suc at) xs) (bounded b (at + suc (length xs)) ys))
+
+-- a node copy: its node, and its head behind it
+copy-good : (cells : ℕ) (b : List ℕ) (at : ℕ) → bounded b at (copyMaxima cells) ≡ true → CopyGood cells (copyAt b at)
+copy-good cells b at e =
+    let both = sym (bounded-behind b (nodeMaxima cells) (cellMaxima cells) at) ∙ e in
+    subst (CopyGood cells) (sym (copy-parts b at))
+    (record {
+      node = node-good cells b at (and-left (nodeReadable cells b at) (cellReadable cells b (at + nodeSize)) both);
+      head = cell-good cells b (at + nodeSize) (and-right (nodeReadable cells b at) (cellReadable cells b (at + nodeSize)) both);
+    })
 
 -- Shared memory in range.
 pub record SharedGood (s : Shape) (m : Shared) : Type 0 where
@@ -280,52 +313,37 @@ load-at at none p b i l =
     let e : suc i - 1 ≡ i = omega arith in
     rw (is-between 1 (suc i) (p .count) (omega arith) l) (ap (λ k. at b (p .start + p .stride * k)) e)
 
-module _ (s : Shape) (b : List ℕ) (g : Good s b) where
-  pub good-shared : SharedGood s (sharedIn (frameOf s) b)
-  unfolding sharedIn nodeIn cellIn frameOf
-  good-shared =
-      record {
-        node = load-good (NodeGood (s .cells)) nodeAt emptyNode (nodesOf (frameOf s)) b (empty-good (s .cells))
-            (λ i l. node-good (s .cells) b _ (g .nodes i l));
-        cell = load-good (CellGood (s .cells)) cellAt zeroCell (cellsOf (frameOf s)) b (zero-good (s .cells))
-            (λ i l. cell-good (s .cells) b _ (g .cells i l));
-        depth-least = g .depth-least;
-        depth-most = g .depth-most;
-        free = g .free-most;
-      }
-
-  pub good-within : Within (frameOf s) (length b)
-  good-within = frame-within s (length b) (g .range) (g .exact)
-
--- A region is readable where its first words and length are a shape's, shared memory is in range and each thread's record passes.
-pub make-good : (s : Shape) (b : List ℕ) → shapeIn b ≡ s → InRange s → length b ≡ 4 * regionWords s
-    → SharedGood s (sharedIn (frameOf s) b)
-    → ((i : ℕ) → i < s .threads → threadReadable s b (frameOf s .threads + 33 * i) ≡ true) → Good s b
-unfolding sharedIn nodeIn cellIn frameOf
-make-good s b es r el m ts =
+pub good-shared : (f : Frame) (b : List ℕ) → Good f b → SharedGood (f .shape) (sharedIn f b)
+unfolding sharedIn nodeIn cellIn
+good-shared f b g =
+    let cells = f .shape .cells in
     record {
-      shape = es;
+      node = load-good (NodeGood cells) nodeAt emptyNode (nodesOf f) b (empty-good cells) (λ i l. node-good cells b _ (g .nodes i l));
+      cell = load-good (CellGood cells) cellAt zeroCell (cellsOf f) b (zero-good cells) (λ i l. cell-good cells b _ (g .cells i l));
+      depth-least = g .depth-least;
+      depth-most = g .depth-most;
+      free = g .free-most;
+    }
+
+-- A frame's bytes are in range where its shape is, its parts have their room, shared memory is in range and each thread's record passes.
+pub make-good : (f : Frame) (b : List ℕ) → InRange (f .shape) → Framed f (length b) → SharedGood (f .shape) (sharedIn f b)
+    → ((i : ℕ) → i < f .shape .threads → threadReadable (f .shape) b (f .threads + f .stride * i) ≡ true) → Good f b
+unfolding sharedIn nodeIn cellIn
+make-good f b r placed m ts =
+    let cells = f .shape .cells in
+    record {
       range = r;
-      exact = el;
+      placed = placed;
       depth-least = m .depth-least;
       depth-most = m .depth-most;
       free-most = m .free;
-      nodes = λ i l.
-          node-bounded (s .cells) b _ (subst (NodeGood (s .cells)) (load-at nodeAt emptyNode (nodesOf (frameOf s)) b i l)
-          (m .node (suc i)));
-      cells = λ i l.
-          cell-bounded (s .cells) b _ (subst (CellGood (s .cells)) (load-at cellAt zeroCell (cellsOf (frameOf s)) b i l)
-          (m .cell (suc i)));
+      nodes = λ i l. node-bounded cells b _ (subst (NodeGood cells) (load-at nodeAt emptyNode (nodesOf f) b i l) (m .node (suc i)));
+      cells = λ i l. cell-bounded cells b _ (subst (CellGood cells) (load-at cellAt zeroCell (cellsOf f) b i l) (m .cell (suc i)));
       threads = ts;
     }
 
 -- A thread's record: in range as words, in range as a record.
-word-in-run : (b : List ℕ) (at n i : ℕ) → i < n → getD (wordsAt b at n) i 0 ≡ word b (at + i)
-word-in-run b at zero i l = absurd (omega arith)
-word-in-run b at (suc n) zero l = ap (word b) (sym (add-zero at))
-word-in-run b at (suc n) (suc i) l = word-in-run b (suc at) n i (omega arith) ∙ ap (word b) (suc-add at i ∙ sym (add-suc at i))
-
-place-good : (s : Shape) (t : Thread) → 1 ≤ s .threshold → (p w : ℕ) → p ≤ 16 → t .search .tries ≤ triesMost s p
+place-good : (s : Shape) (t : Thread) → 1 ≤ s .threshold → (p w : ℕ) → p ≤ greatestPlace → t .search .tries ≤ triesMost s p
     → w ≤ waitingMost p (t .node) → PlaceGood s t (placeOf p w)
 unfolding triesMost waitingMost pick
 place-good s t h zero w l gt gw = tt
@@ -356,24 +374,50 @@ module _ (s : Shape) (r : InRange s) (b : List ℕ) (at : ℕ) (e : threadReadab
   unfolding threadReadable
   words-pass = and-left (bounded b at (threadMaxima s)) _ (and-left (bounded b at (threadMaxima s) && _) _ e)
 
-  tries-pass : word b (at + 7) ≤ triesMost s (word b (at + 1))
+  tries-pass : word b (at + triesWord) ≤ triesMost s (word b (at + placeWord))
   unfolding threadReadable
   tries-pass = leb-true _ _ (and-right (bounded b at (threadMaxima s)) _ (and-left (bounded b at (threadMaxima s) && _) _ e))
 
-  waiting-pass : word b (at + 11) ≤ waitingMost (word b (at + 1)) (word b (at + 10))
+  waiting-pass : word b (at + waitingWord) ≤ waitingMost (word b (at + placeWord)) (word b (at + nodeWord))
   unfolding threadReadable
   waiting-pass = leb-true _ _ (and-right (bounded b at (threadMaxima s) && _) _ e)
 
-  le : (i : ℕ) → i < 33 → getD (wordsAt b at 33) i 0 ≤ getD (threadMaxima s) i 0
+  le : (i : ℕ) → i < threadSize → getD (wordsAt b at threadSize) i 0 ≤ getD (threadMaxima s) i 0
   le i l =
-      subst (λ x. x ≤ getD (threadMaxima s) i 0) (sym (word-in-run b at 33 i l)) (bounded-at b (threadMaxima s) at i words-pass l)
+      subst (λ x. x ≤ getD (threadMaxima s) i 0) (sym (word-in-run b at threadSize i l))
+      (bounded-at b (threadMaxima s) at i words-pass l)
 
-  is : (i : ℕ) → i < 33 → getD (wordsAt b at 33) i 0 ≡ word b (at + i)
-  is i l = word-in-run b at 33 i l
+  is : (i : ℕ) → i < threadSize → getD (wordsAt b at threadSize) i 0 ≡ word b (at + i)
+  is i l = word-in-run b at threadSize i l
+
+  -- the copies stand one behind the other
+  copies-pass : bounded b (at + firstCopyWord) (copyMaxima (s .cells))
+      && (bounded b (at + secondCopyWord) (copyMaxima (s .cells)) && bounded b (at + thirdCopyWord) (copyMaxima (s .cells))) ≡ true
+  copies-pass =
+      let c = copyMaxima (s .cells) in
+      let k₂ : at + firstCopyWord + copySize ≡ at + secondCopyWord = omega arith in
+      let k₃ : at + secondCopyWord + copySize ≡ at + thirdCopyWord = omega arith in
+      let all = and-right (bounded b at (fieldMaxima s)) (bounded b (at + firstCopyWord) (c ++ (c ++ c)))
+      (sym (bounded-behind b (fieldMaxima s) (c ++ (c ++ c)) at) ∙ words-pass) in
+      ap (λ q. bounded b (at + firstCopyWord) c && q)
+      (ap (λ k. bounded b (at + secondCopyWord) c && bounded b k c) (sym k₃)
+      ∙ sym (bounded-behind b c c (at + secondCopyWord))
+      ∙ ap (λ k. bounded b k (c ++ c)) (sym k₂))
+      ∙ sym (bounded-behind b c (c ++ c) (at + firstCopyWord))
+      ∙ all
+
+  copy-at-good : (k : ℕ) → k + copySize ≤ threadSize → bounded b (at + k) (copyMaxima (s .cells)) ≡ true
+      → CopyGood (s .cells) (copyOf (wordsAt b at threadSize) k)
+  copy-at-good k l h = subst (CopyGood (s .cells)) (copy-in-run b at threadSize k l) (copy-good (s .cells) b (at + k) h)
 
   fields-good : FieldsGood s (threadAt b at)
   unfolding threadAt
   fields-good =
+      let c = copyMaxima (s .cells) in
+      let first = bounded b (at + firstCopyWord) c in
+      let second = bounded b (at + secondCopyWord) c in
+      let third = bounded b (at + thirdCopyWord) c in
+      let rest = and-right first (second && third) copies-pass in
       record {
         permission = le 0 (omega arith);
         item-key = fit (le 2 (omega arith));
@@ -381,34 +425,25 @@ module _ (s : Shape) (r : InRange s) (b : List ℕ) (at : ℕ) (e : threadReadab
         own = le 4 (omega arith);
         depth = le 5 (omega arith);
         leaf = le 6 (omega arith);
-        tries = le 7 (omega arith);
+        tries = le triesWord (omega arith);
         lo = le 8 (omega arith);
         hi = le 9 (omega arith);
-        node = le 10 (omega arith);
+        node = le nodeWord (omega arith);
         after = le 12 (omega arith);
         result-key = fit (le 13 (omega arith));
         result-tag = le 14 (omega arith);
-        first = record {
-          node = record { first = le 15 (omega arith); dirty = le 16 (omega arith); counter = fit (le 17 (omega arith)) };
-          head = record { key = fit (le 18 (omega arith)); tag = le 19 (omega arith); next = le 20 (omega arith) };
-        };
-        second = record {
-          node = record { first = le 21 (omega arith); dirty = le 22 (omega arith); counter = fit (le 23 (omega arith)) };
-          head = record { key = fit (le 24 (omega arith)); tag = le 25 (omega arith); next = le 26 (omega arith) };
-        };
-        third = record {
-          node = record { first = le 27 (omega arith); dirty = le 28 (omega arith); counter = fit (le 29 (omega arith)) };
-          head = record { key = fit (le 30 (omega arith)); tag = le 31 (omega arith); next = le 32 (omega arith) };
-        };
+        first = copy-at-good firstCopyWord (omega arith) (and-left first (second && third) copies-pass);
+        second = copy-at-good secondCopyWord (omega arith) (and-left second third rest);
+        third = copy-at-good thirdCopyWord (omega arith) (and-right second third rest);
       }
 
   place-of-good : PlaceGood s (threadAt b at) (threadAt b at .place)
   unfolding threadAt
   place-of-good =
-      place-good s (threadAt b at) (r .threshold-least) (getD (wordsAt b at 33) 1 0) (getD (wordsAt b at 33) 11 0) (le 1 (omega arith))
-      (subst₂ (λ x y. x ≤ triesMost s y) (sym (is 7 (omega arith))) (sym (is 1 (omega arith))) tries-pass)
-      (subst₃ (λ x y z. x ≤ waitingMost y z) (sym (is 11 (omega arith))) (sym (is 1 (omega arith)))
-      (sym (is 10 (omega arith))) waiting-pass)
+      let place = is placeWord (omega arith) in
+      place-good s (threadAt b at) (r .threshold-least) _ _ (le placeWord (omega arith))
+      (subst₂ (λ x y. x ≤ triesMost s y) (sym (is triesWord (omega arith))) (sym place) tries-pass)
+      (subst₃ (λ x y z. x ≤ waitingMost y z) (sym (is waitingWord (omega arith))) (sym place) (sym (is nodeWord (omega arith))) waiting-pass)
 
   thread-good : ThreadGood s (threadAt b at)
   thread-good = record { fields = fields-good; place = place-of-good }
@@ -416,7 +451,7 @@ module _ (s : Shape) (r : InRange s) (b : List ℕ) (at : ℕ) (e : threadReadab
 zero-copy-good : (cells : ℕ) → CopyGood cells zeroCopy
 zero-copy-good cells = record { node = empty-good cells; head = zero-good cells }
 
-pub idle-good : (s : Shape) (p : ℕ) → p ≤ 3 → ThreadGood s (idleThread p)
+pub idle-good : (s : Shape) (p : ℕ) → p ≤ greatestPermission → ThreadGood s (idleThread p)
 idle-good s p h =
     record {
       fields =
@@ -441,11 +476,11 @@ idle-good s p h =
       place = tt;
     }
 
-pub good-thread : (s : Shape) (b : List ℕ) → Good s b → (t : ℕ) → ThreadGood s (threadIn (frameOf s) b t)
-unfolding threadIn frameOf
-good-thread s b g =
-    load-good (ThreadGood s) threadAt (idleThread 0) (threadsOf (frameOf s)) b (idle-good s 0 (omega arith))
-    (λ i l. thread-good s (g .range) b _ (g .threads i l))
+pub good-thread : (f : Frame) (b : List ℕ) → Good f b → (t : ℕ) → ThreadGood (f .shape) (threadIn f b t)
+unfolding threadIn
+good-thread f b g =
+    load-good (ThreadGood (f .shape)) threadAt (idleThread 0) (threadsOf f) b (idle-good (f .shape) 0 (omega arith))
+    (λ i l. thread-good (f .shape) (g .range) b _ (g .threads i l))
 
 -- A thread's record passes by its own words alone.
 bounded-reads : (b b′ ms : List ℕ) (at : ℕ) → ((j : ℕ) → at ≤ j → j < at + length ms → word b′ j ≡ word b j)
@@ -456,90 +491,117 @@ bounded-reads b b′ (m ∷ ms) at h =
     cc
     (h at (omega arith) (omega arith), bounded-reads b b′ ms (suc at) (λ j l u. h j (omega arith) (omega arith)))
 
-pub thread-reads : (s : Shape) (b b′ : List ℕ) (at : ℕ) → ((j : ℕ) → at ≤ j → j < at + 33 → word b′ j ≡ word b j)
+pub thread-reads : (s : Shape) (b b′ : List ℕ) (at : ℕ) → ((j : ℕ) → at ≤ j → j < at + threadSize → word b′ j ≡ word b j)
     → threadReadable s b′ at ≡ threadReadable s b at
 unfolding threadReadable
 thread-reads s b b′ at h =
     rw (
       bounded-reads b b′ (threadMaxima s) at h,
-      h (at + 7) (omega arith) (omega arith),
-      h (at + 1) (omega arith) (omega arith),
-      h (at + 11) (omega arith) (omega arith),
-      h (at + 10) (omega arith) (omega arith),
+      h (at + triesWord) (omega arith) (omega arith),
+      h (at + placeWord) (omega arith) (omega arith),
+      h (at + waitingWord) (omega arith) (omega arith),
+      h (at + nodeWord) (omega arith) (omega arith),
     )
     refl
 
--- Storing a record in range keeps the region readable.
-module _ (s : Shape) (r : InRange s) (b : List ℕ) (w : Within (frameOf s) (length b)) (t : ℕ) (l : 1 ≤ t) (u : t ≤ s .threads)
-    (v : Thread) (g : ThreadGood s v) where
-  at : ℕ
-  at = entry (threadsOf (frameOf s)) t
+-- What a store to a frame's parts keeps: the fields stay in range, the bytes are as many, and those outside the parts are the same.
+pub record Keeps (f : Frame) (b b′ : List ℕ) : Type 0 where
+  pub good : Good f b′
+  pub long : length b′ ≡ length b
+  pub outside : (j : ℕ) → OutsideParts f j → word b′ j ≡ word b j
 
-  stored-word : (i : ℕ) → i < 33 → word (setThreadIn (frameOf s) b t v) (at + i) ≡ getD (threadWords v) i 0
-  unfolding at frameOf
-  stored-word i h = thread-stored-words (frameOf s) b w t i v l u (thread-fit s r v g) h
+pub keeps-same : {f : Frame} {b : List ℕ} → Good f b → Keeps f b b
+keeps-same g = record { good = g; long = refl; outside = λ j o. refl }
 
-  stored-passes : threadReadable s (setThreadIn (frameOf s) b t v) at ≡ true
+pub keeps-more : {f : Frame} {b b′ b″ : List ℕ} → Keeps f b b′ → Keeps f b′ b″ → Keeps f b b″
+keeps-more k l = record { good = l .good; long = l .long ∙ k .long; outside = λ j o. l .outside j o ∙ k .outside j o }
+
+-- the threads' records pass where their words stay
+pub threads-pass : (f : Frame) (b b′ : List ℕ) → Good f b → Kept (threadsOf f) b b′
+    → (i : ℕ) → i < f .shape .threads → threadReadable (f .shape) b′ (f .threads + f .stride * i) ≡ true
+threads-pass f b b′ g h i l =
+    let within = record-within (threadsOf f) i l in
+    thread-reads (f .shape) b b′ (f .threads + f .stride * i)
+    (λ j lo hi. h j (omega (arith, lo)) (omega (arith, hi, within, g .placed .stride)))
+    ∙ g .threads i l
+
+-- Storing a thread's record in range.
+module _ (f : Frame) (b : List ℕ) (g : Good f b) (t : ℕ) (l : 1 ≤ t) (u : t ≤ f .shape .threads) (v : Thread)
+    (gv : ThreadGood (f .shape) v) where
+  abbrev s : Shape
+  s = f .shape
+
+  abbrev at : ℕ
+  at = entry (threadsOf f) t
+
+  abbrev after : List ℕ
+  after = setThreadIn f b t v
+
+  stored-word : (i : ℕ) → i < threadSize → word after (at + i) ≡ getD (threadWords v) i 0
+  stored-word i h = thread-stored-words f b (g .placed) t i v l u (thread-fit s (g .range) v gv) h
+
+  stored-passes : threadReadable s after at ≡ true
   unfolding threadReadable
   stored-passes =
+      let place = sym (stored-word placeWord (omega arith)) in
       and-both
       (and-both
-      (bounded-all (setThreadIn (frameOf s) b t v) (threadMaxima s) at λ i h.
-      subst (λ x. x ≤ getD (threadMaxima s) i 0) (sym (stored-word i h)) (all-at (threadWords v) (threadMaxima s) i (thread-le s r v g)))
+      (bounded-all after (threadMaxima s) at λ i h.
+      subst (λ x. x ≤ getD (threadMaxima s) i 0) (sym (stored-word i h))
+      (all-at (threadWords v) (threadMaxima s) i (thread-le s (g .range) v gv)))
       (le-leb _ _
-      (subst₂ (λ x y. x ≤ triesMost s y) (sym (stored-word 7 (omega arith))) (sym (stored-word 1 (omega arith)))
-      (tries-rule s v (v .place) (g .fields .tries) (g .place)))))
+      (subst₂ (λ x y. x ≤ triesMost s y) (sym (stored-word triesWord (omega arith))) place
+      (tries-rule s v (v .place) (gv .fields .tries) (gv .place)))))
       (le-leb _ _
-      (subst₃ (λ x y z. x ≤ waitingMost y z) (sym (stored-word 11 (omega arith))) (sym (stored-word 1 (omega arith)))
-      (sym (stored-word 10 (omega arith))) (waiting-rule s v (v .place) (g .place))))
+      (subst₃ (λ x y z. x ≤ waitingMost y z) (sym (stored-word waitingWord (omega arith))) place
+      (sym (stored-word nodeWord (omega arith))) (waiting-rule s v (v .place) (gv .place))))
 
   other-passes : (i : ℕ) → (suc i ≡ t → ⊥)
-      → threadReadable s (setThreadIn (frameOf s) b t v) (frameOf s .threads + 33 * i) ≡ threadReadable s b (frameOf s .threads + 33 * i)
-  unfolding frameOf
+      → threadReadable s after (f .threads + f .stride * i) ≡ threadReadable s b (f .threads + f .stride * i)
   other-passes i n =
-      thread-reads s b (setThreadIn (frameOf s) b t v) (frameOf s .threads + 33 * i) λ j lo hi.
-      word-setThread (frameOf s) b w t j v (side j lo hi (decLt (suc i) t))
-    where
-      side : (j : ℕ) → frameOf s .threads + 33 * i ≤ j → j < frameOf s .threads + 33 * i + 33 → Dec (suc i < t)
-          → Outside (entry (threadsOf (frameOf s)) t) threadSize j
-      side j lo hi (yes h) = inl (omega arith)
-      side j lo hi (no h) = inr (omega arith)
+      let e : suc i - 1 ≡ i = omega arith in
+      thread-reads s b after (f .threads + f .stride * i) λ j lo hi.
+      word-setThread f b (g .placed) t j v
+      (records-outside (threadsOf f) (suc i) t threadSize (omega arith) l n (g .placed .stride) j
+      (subst (λ k. f .threads + f .stride * k ≤ j) (sym e) lo) (subst (λ k. j < f .threads + f .stride * k + threadSize) (sym e) hi))
 
--- the shape stays where its four words do
-pub shape-kept : (s : Shape) (b b′ : List ℕ) → shapeIn b ≡ s → ((k : ℕ) → k < 4 → word b′ k ≡ word b k) → shapeIn b′ ≡ s
-shape-kept s b b′ e h =
-    (λ i. record {
-      depth = h 0 (omega arith) i;
-      cells = h 1 (omega arith) i;
-      threads = h 2 (omega arith) i;
-      threshold = h 3 (omega arith) i;
-    })
-    ∙ e
-
-low-words : (s : Shape) (k : ℕ) → k < 4 → k < frameOf s .threads
-unfolding frameOf
-low-words s k h = omega arith
-
-module _ (s : Shape) (b : List ℕ) (g : Good s b) (t : ℕ) (l : 1 ≤ t) (u : t ≤ s .threads) (v : Thread) (gv : ThreadGood s v) where
-  threads-pass : (i : ℕ) → i < s .threads → Dec (suc i ≡ t)
-      → threadReadable s (setThreadIn (frameOf s) b t v) (frameOf s .threads + 33 * i) ≡ true
-  unfolding at frameOf
-  threads-pass i h (yes e) =
+  all-pass : (i : ℕ) → i < s .threads → Dec (suc i ≡ t) → threadReadable s after (f .threads + f .stride * i) ≡ true
+  all-pass i h (yes e) =
       let k : t - 1 ≡ i = omega arith in
-      subst
-      (λ x. threadReadable s (setThreadIn (frameOf s) b t v) (frameOf s .threads + 33 * x) ≡ true)
-      k
-      (stored-passes s (g .range) b (good-within s b g) t l u v gv)
-  threads-pass i h (no n) = other-passes s (g .range) b (good-within s b g) t l u v gv i n ∙ g .threads i h
+      subst (λ x. threadReadable s after (f .threads + f .stride * x) ≡ true) k stored-passes
+  all-pass i h (no n) = other-passes i n ∙ g .threads i h
 
-pub good-setThread : (s : Shape) (b : List ℕ) → Good s b → (t : ℕ) → 1 ≤ t → t ≤ s .threads → (v : Thread) → ThreadGood s v
-    → Good s (setThreadIn (frameOf s) b t v)
-good-setThread s b g t l u v gv =
-    let f = frameOf s in
-    let w = good-within s b g in
-    make-good s (setThreadIn f b t v)
-    (shape-kept s b (setThreadIn f b t v) (g .shape) (λ k h. word-setThreadIn f b w t k v (inl (low-words s k h))))
-    (g .range)
-    (length-setThreadIn f b t v ∙ g .exact)
-    (subst (SharedGood s) (sym (shared-setThread f b w (frame-parted s) t v)) (good-shared s b g))
-    (λ i h. threads-pass s b g t l u v gv i h (ℕ-discrete (suc i) t))
+  pub keeps-setThread : Keeps f b after
+  keeps-setThread =
+      let long = length-setThreadIn f b t v in
+      record {
+        good =
+            make-good f after (g .range) (subst (Framed f) (sym long) (g .placed))
+            (subst (SharedGood s) (sym (shared-setThread f b (g .placed) t v)) (good-shared f b g))
+            (λ i h. all-pass i h (ℕ-discrete (suc i) t));
+        long = long;
+        outside = λ j o. word-setThreadIn f b (g .placed) t j v (o .threads);
+      }
+
+-- The readable region of one queue: its shape and length stay, since the first words lie outside the parts, and so it stays readable.
+head-outside : (s : Shape) (k : ℕ) → k < 4 → OutsideParts (frameOf s) k
+unfolding frameOf
+head-outside s k h =
+    record {
+      shared = record { depth = inl h; free = inl (omega arith); nodes = inl (omega arith); cells = inl (omega arith) };
+      threads = inl (omega arith);
+    }
+
+module _ (b b′ : List ℕ) (e : readable b ≡ true) (k : Keeps (frameIn b) b b′) where
+  pub shape-kept : shapeIn b′ ≡ shapeIn b
+  shape-kept =
+      let h : (j : ℕ) → j < 4 → word b′ j ≡ word b j = λ j l. k .outside j (head-outside (shapeIn b) j l) in
+      λ i. record {
+        depth = h 0 (omega arith) i;
+        cells = h 1 (omega arith) i;
+        threads = h 2 (omega arith) i;
+        threshold = h 3 (omega arith) i;
+      }
+
+  pub readable-kept : readable b′ ≡ true
+  readable-kept = readable-good (shapeIn b) b′ shape-kept (k .long ∙ readable-length b e) (k .good)

@@ -11,9 +11,9 @@ use Rattle.region.specs.Frame.{frameOf}
 use Rattle.region.specs.Level.{level}
 use Rattle.region.specs.Pick.{pick}
 use Rattle.region.specs.Place.{placeNumber}
-use Rattle.region.specs.Record.{nodeWords, cellWords, greatestTag}
+use Rattle.region.specs.Record.{nodeSize, cellSize, nodeWords, cellWords, greatestCounter, greatestTag}
 use Rattle.region.specs.Shape.{between, shapeFits, nodeCount, regionWords}
-use Rattle.region.specs.Thread.{threadSize, threadWords, greatestPermission, placeWord, triesWord, nodeWord, waitingWord}
+use Rattle.region.specs.Thread.{threadWords, greatestPermission, placeWord, triesWord, nodeWord, waitingWord}
 use Rattle.region.specs.declared.frame.Frame.{Frame}
 use Rattle.region.specs.declared.place.Place.the-variants.{ReadLeaf, MendReadNode, MendClean}
 use Rattle.region.specs.declared.record.Cell.{Cell}
@@ -23,13 +23,13 @@ use Rattle.region.specs.declared.record.NodeCopy.{NodeCopy}
 use Rattle.region.specs.declared.shape.Shape.{Shape}
 use Rattle.region.specs.declared.thread.Thread.{Thread}
 
--- "Counters and keys are free."
+-- "Counters and keys are free.": a counter's greatest value is its last, a key's any word
 abbrev pub anyWord : ℕ
 anyWord = 4294967295
 
 -- The greatest value of each field, by its name. "cell 0..C", "dirty .. 0 or 1", "tags in range":
 abbrev pub greatestNode : ℕ → Node
-greatestNode cells = record { first = cells; dirty = 1; counter = anyWord }
+greatestNode cells = record { first = cells; dirty = 1; counter = greatestCounter }
 
 abbrev pub greatestItem : Item
 greatestItem = record { key = anyWord; tag = greatestTag }
@@ -85,6 +85,13 @@ unfoldable pub bounded : List ℕ → ℕ → List ℕ → Bool
 bounded b at [] = true
 bounded b at (m ∷ ms) = leb (word b at) m && bounded b (suc at) ms
 
+-- the node and the cell at word `at`, of a region with so many cells
+abbrev pub nodeReadable : ℕ → List ℕ → ℕ → Bool
+nodeReadable cells b at = bounded b at (nodeMaxima cells)
+
+abbrev pub cellReadable : ℕ → List ℕ → ℕ → Bool
+cellReadable cells b at = bounded b at (cellMaxima cells)
+
 -- the thread's record at word `at`: each word alone, then tries by the place, and waiting levels by place and node
 unfoldable pub threadReadable : Shape → List ℕ → ℕ → Bool
 unfolding bounded triesMost waitingMost
@@ -98,24 +105,26 @@ unfoldable pub allRecords : (List ℕ → ℕ → Bool) → ℕ → List ℕ →
 allRecords test stride b at zero = true
 allRecords test stride b at (suc n) = test b at && allRecords test stride b (at + stride) n
 
--- the shape that the first words give
-abbrev pub shapeIn : List ℕ → Shape
-shapeIn b = record { depth = word b 0; cells = word b 1; threads = word b 2; threshold = word b 3 }
-
 -- "depth is 1..D", the first free cell, the nodes and the cells
 unfoldable pub treeReadable : Frame → List ℕ → Bool
 unfolding bounded allRecords
 treeReadable f b =
     between 1 (word b (f .depth)) (f .shape .depth)
     && leb (word b (f .free)) (f .shape .cells)
-    && allRecords (λ l at. bounded l at (nodeMaxima (f .shape .cells))) 3 b (f .nodes) (nodeCount (f .shape))
-    && allRecords (λ l at. bounded l at (cellMaxima (f .shape .cells))) 3 b (f .cells) (f .shape .cells)
+    && allRecords (nodeReadable (f .shape .cells)) nodeSize b (f .nodes) (nodeCount (f .shape))
+    && allRecords (cellReadable (f .shape .cells)) cellSize b (f .cells) (f .shape .cells)
 
--- every field behind the shape is in range
-unfoldable pub fieldsReadable : Shape → List ℕ → Bool
-unfolding treeReadable threadReadable allRecords frameOf
-fieldsReadable s b =
-    treeReadable (frameOf s) b && allRecords (threadReadable s) threadSize b (frameOf s .threads) (s .threads)
+-- every field of a frame's parts is in range
+unfoldable pub fieldsReadable : Frame → List ℕ → Bool
+unfolding treeReadable threadReadable allRecords
+fieldsReadable f b = treeReadable f b && allRecords (threadReadable (f .shape)) (f .stride) b (f .threads) (f .shape .threads)
+
+-- the shape that the first words give, and the frame of a region that holds one queue of that shape
+abbrev pub shapeIn : List ℕ → Shape
+shapeIn b = record { depth = word b 0; cells = word b 1; threads = word b 2; threshold = word b 3 }
+
+abbrev pub frameIn : List ℕ → Frame
+frameIn b = frameOf (shapeIn b)
 
 -- the first words are a shape, and the bytes are as many as it asks
 abbrev pub isWhole : List ℕ → Bool
@@ -123,7 +132,7 @@ isWhole b = shapeFits (shapeIn b) && eqb (length b) (4 * regionWords (shapeIn b)
 
 unfoldable pub readable : List ℕ → Bool
 unfolding fieldsReadable
-readable b = isWhole b && fieldsReadable (shapeIn b) b
+readable b = isWhole b && fieldsReadable (frameIn b) b
 
 -- "Check answers yes or 7."
 unfoldable pub checkAnswer : List ℕ → ℕ

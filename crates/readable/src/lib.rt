@@ -4,9 +4,8 @@ ghost use Prim.Native.Nat.{_+_, _*_, _≤_};
 ghost use lib.ListN.{length};
 ghost use mathlib.Core.Bool.{true};
 ghost use mathlib.Core.List.{[], _∷_};
-ghost use Rattle.region.specs.Frame.{frameOf};
 ghost use Rattle.region.specs.Inner.{Within, InRange};
-ghost use Rattle.readable.specs.Readable.{bounded, threadMaxima, triesMost, waitingMost, threadReadable, allRecords, treeReadable, shapeIn, fieldsReadable, isWhole, readable, checkAnswer};
+ghost use Rattle.readable.specs.Readable.{bounded, threadMaxima, triesMost, waitingMost, threadReadable, allRecords, treeReadable, shapeIn, frameIn, fieldsReadable, isWhole, readable, checkAnswer};
 ghost use Rattle.readable.specs.Inner.{FieldsAsked, ThreadAsked, ThreadsAsked};
 use region::DONE;
 use region::Frame;
@@ -34,7 +33,7 @@ fn record_bounded(b: &[u8], at: usize, x: u32, y: u32, z: u32) -> bool
     load_word(b, at + 2) <= z
 }
 
-// Records of three words, each at most its maximum; two in a turn, which halves the turns.
+// Records of three words, each at most its maximum; two in a pass of the loop, which halves the passes.
 fn records_bounded(b: &[u8], at: usize, count: usize, x: u32, y: u32, z: u32) -> bool
     requires { ⌜ 4 * (at + 3 * count) ≤ length (now b) ⌝ }
     ensures { λ r. ⌜ r ≡ allRecords (λ l k. bounded l k (x ∷ y ∷ z ∷ [])) 3 (now (b .entry)) at count ⌝ }
@@ -114,17 +113,18 @@ fn thread_readable(b: &[u8], at: usize, shape: Shape, maxima: &[u32]) -> bool
 }
 
 // The threads' records.
-fn threads_readable(b: &[u8], at: usize, shape: Shape, maxima: &[u32]) -> bool
-    requires { ⌜ ThreadsAsked shape (now b) at (now maxima) ⌝ }
-    ensures { λ r. ⌜ r ≡ allRecords (threadReadable shape) 33 (now (b .entry)) at (shape .threads) ⌝ }
+fn threads_readable(b: &[u8], frame: Frame, maxima: &[u32]) -> bool
+    requires { ⌜ ThreadsAsked frame (now b) (now maxima) ⌝ }
+    ensures { λ r. ⌜ r ≡ allRecords (threadReadable (frame .shape)) (frame .stride) (now (b .entry)) (frame .threads) (frame .shape .threads) ⌝ }
 {
-    let mut k = at;
+    let shape = frame.shape;
+    let mut k = frame.threads;
     let mut left = shape.threads as usize;
     while 0 < left {
         if !thread_readable(b, k, shape, maxima) {
             return false;
         }
-        k += 33;
+        k += frame.stride;
         left -= 1;
     }
     true
@@ -201,17 +201,17 @@ fn tree_readable(b: &[u8], frame: Frame) -> bool
     )
 }
 
-// Every field behind the shape.
-fn fields_readable(b: &[u8], shape: Shape) -> bool
-    requires { ⌜ FieldsAsked shape (length (now b)) ⌝ }
-    ensures { λ r. ⌜ r ≡ fieldsReadable shape (now (b .entry)) ⌝ }
+// Every field of the frame's parts.
+fn fields_readable(b: &[u8], frame: Frame) -> bool
+    requires { ⌜ FieldsAsked frame (length (now b)) ⌝ }
+    ensures { λ r. ⌜ r ≡ fieldsReadable frame (now (b .entry)) ⌝ }
 {
-    let frame = Frame::of(shape);
     if !tree_readable(b, frame) {
         return false;
     }
+    let shape = frame.shape;
     let maxima = thread_maxima(shape);
-    threads_readable(b, frame.threads, shape, &maxima)
+    threads_readable(b, frame, &maxima)
 }
 
 // The shape that the first words give.
@@ -230,7 +230,7 @@ fn load_shape(b: &[u8]) -> Shape
 // The frame of a readable region.
 pub fn frame_of(b: &[u8]) -> Frame
     requires { ⌜ readable (now b) ≡ true ⌝ }
-    ensures { λ r. ⌜ r ≡ frameOf (shapeIn (now (b .entry))) ⌝ }
+    ensures { λ r. ⌜ r ≡ frameIn (now (b .entry)) ⌝ }
 {
     Frame::of(load_shape(b))
 }
@@ -256,7 +256,7 @@ pub fn is_readable(b: &[u8]) -> bool
     if !is_whole(b) {
         return false;
     }
-    fields_readable(b, load_shape(b))
+    fields_readable(b, Frame::of(load_shape(b)))
 }
 
 // 0 if the region is readable, else 7. The first test stands here too, so that it is made without a call.
@@ -266,7 +266,7 @@ pub fn check_region(b: &[u8]) -> u32
     if !is_whole(b) {
         return UNREADABLE;
     }
-    if fields_readable(b, load_shape(b)) {
+    if fields_readable(b, Frame::of(load_shape(b))) {
         DONE
     } else {
         UNREADABLE

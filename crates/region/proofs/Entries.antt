@@ -3,7 +3,7 @@
 use Prim.Native.Nat.{ℕ, zero, suc, _+_, _-_, _*_, _≤_, _<_}
 use native.Mathlib.Nat.{mul-le-mul-left}
 use native.Mathlib.Omega.{arith}
-use mathlib.Core.Path.{_≡_, refl, ap}
+use mathlib.Core.Path.{_≡_, refl, ap, subst}
 use mathlib.Core.List.{List}
 use Rattle.region.specs.Frame.{Part}
 use Rattle.region.specs.Pick.{pick}
@@ -16,6 +16,12 @@ entry-end p zero h l = absurd (h refl)
 entry-end p (suc k) h l =
     let n : suc k - 1 ≡ k = omega arith in
     omega (arith, ap (λ m. p .stride * m) n, mul-le-mul-left (p .stride) l)
+
+-- the same, counted from 0
+pub record-within : (p : Part) (i : ℕ) → i < p .count → p .start + p .stride * i + p .stride ≤ p .start + p .stride * p .count
+record-within p i l =
+    let n : suc i - 1 ≡ i = omega arith in
+    subst (λ k. p .start + p .stride * k + p .stride ≤ p .start + p .stride * p .count) n (entry-end p (suc i) (λ z. omega arith) l)
 
 module _ {A : Type 0} (at : List ℕ → ℕ → A) (none : A) (p : Part) (b : List ℕ) (k : ℕ) (r : A) where
   pub load-zero : k ≡ 0 → r ≡ none → r ≡ loadEntry at none p b k

@@ -3,7 +3,7 @@ use Prim.Native.Nat.{ℕ, _*_}
 use native.Mathlib.Omega.{arith}
 use mathlib.Core.Path.{_≡_}
 use Rattle.region.specs.Frame.{frameOf}
-use Rattle.region.specs.Inner.{before, Parted, Within, InRange}
+use Rattle.region.specs.Inner.{before, Framed, Parted, Within, InRange}
 use Rattle.region.specs.Shape.{regionWords}
 use Rattle.region.specs.declared.shape.Shape.{Shape}
 
@@ -20,7 +20,7 @@ frame-within s l r e =
       stride = omega arith;
     }
 
-pub frame-parted : (s : Shape) → Parted (frameOf s)
+frame-parted : (s : Shape) → Parted (frameOf s)
 unfolding frameOf
 frame-parted s =
     record {
@@ -34,4 +34,17 @@ frame-parted s =
       nodes-cells = before (omega arith);
       nodes-threads = before (omega arith);
       cells-threads = before (omega arith);
+    }
+
+pub frame-framed : (s : Shape) (l : ℕ) → l ≡ 4 * regionWords s → Framed (frameOf s) l
+unfolding frameOf regionWords
+frame-framed s l e =
+    record {
+      depth = omega arith;
+      free = omega arith;
+      nodes = omega arith;
+      cells = omega arith;
+      threads = omega arith;
+      stride = omega arith;
+      apart = frame-parted s;
     }

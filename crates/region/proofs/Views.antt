@@ -4,20 +4,20 @@ use Prim.Native.Nat.{ℕ, zero, suc, _+_, _-_, _*_, _^_, _≤_, _<_}
 use native.Mathlib.Nat.{mul-le-mul-left}
 use native.Mathlib.Decide.{ℕ-discrete, decLt}
 use native.Mathlib.Omega.{arith}
-use mathlib.Core.Path.{_≡_, refl, ap, fun-ext, _∙_}
+use mathlib.Core.Path.{_≡_, refl, sym, ap, subst, fun-ext, _∙_}
 use mathlib.Core.Logic.{_⊎_, inl, inr, ⊎-elim}
 use mathlib.Core.Bool.{Bool, true, false}
 use mathlib.Core.List.{List}
 use borrow.Author.Tests.{eq-eqb, ne-eqb}
 use lib.Dec.{eqb}
 use lib.ListN.{length, getD}
-use Rattle.words.specs.Word.{word, setWord}
+use Rattle.words.specs.Word.{word, setWord, wordsAt, setWords}
 use Rattle.words.specs.Inner.{Fit}
 use Rattle.words.proofs.Laws.{word-stored, word-same, word-other, word-apart, wordsAt-same, wordsAt-reads, length-setWords}
 use Rattle.region.specs.Frame.{Part, nodesOf, cellsOf, threadsOf}
-use Rattle.region.specs.Inner.{Apart, before, behind, Parted, Within, depthOf, freeOf, partSize}
+use Rattle.region.specs.Inner.{Apart, before, behind, Framed, depthOf, freeOf, partSize}
 use Rattle.region.specs.Pick.{pick, upd}
-use Rattle.region.specs.Record.{nodeOf, nodeWords, emptyNode, nodeAt, setNodeAt, cellOf, cellWords, zeroCell, cellAt, setCellAt}
+use Rattle.region.specs.Record.{nodeSize, cellSize, nodeOf, nodeWords, emptyNode, nodeAt, setNodeAt, cellOf, cellWords, zeroCell, cellAt, setCellAt}
 use Rattle.region.specs.Shape.{between, nodeCount}
 use Rattle.region.specs.Shared.{entry, loadEntry, storeEntry, nodeIn, setNodeIn, cellIn, setCellIn, threadIn, setThreadIn, sharedIn, putNode, putCell, putDepth, putFree}
 use Rattle.region.specs.Thread.{threadSize, threadOf, threadWords, idleThread, threadAt, setThreadAt}
@@ -39,39 +39,31 @@ record Codec {A : Type 0} (at : List ℕ → ℕ → A) (put : List ℕ → ℕ 
   only : (b : List ℕ) (k j : ℕ) (v : A) → Outside k size j → word (put b k v) j ≡ word b j
   reads : (b b′ : List ℕ) (k : ℕ) → ((j : ℕ) → k ≤ j → j < k + size → word b j ≡ word b′ j) → at b k ≡ at b′ k
 
-node-codec : Codec nodeAt setNodeAt nodeWords 3
-unfolding nodeAt setNodeAt
-node-codec =
+-- any record that is a run of `size` words, and is read back from its words
+codec : {A : Type 0} (of : List ℕ → A) (words : A → List ℕ) (size : ℕ) → ((v : A) → length (words v) ≡ size)
+    → ((v : A) → of (words v) ≡ v)
+    → Codec (λ b k. of (wordsAt b k size)) (λ b k v. setWords b k (words v)) words size
+codec of words size long again =
     record {
-      same = λ b k v h f. ap (λ ws. nodeOf ws 0) (wordsAt-same (nodeWords v) b k h f);
-      only = λ b k j v o. word-apart (nodeWords v) b k j o;
-      reads = λ b b′ k h. ap (λ ws. nodeOf ws 0) (wordsAt-reads b b′ k 3 h);
+      same = λ b k v h f.
+          ap (λ n. of (wordsAt (setWords b k (words v)) k n)) (sym (long v))
+          ∙ ap of (wordsAt-same (words v) b k (subst (λ n. 4 * (k + n) ≤ length b) (sym (long v)) h) f)
+          ∙ again v;
+      only = λ b k j v o. word-apart (words v) b k j (subst (λ n. Outside k n j) (sym (long v)) o);
+      reads = λ b b′ k h. ap of (wordsAt-reads b b′ k size h);
     }
 
-cell-codec : Codec cellAt setCellAt cellWords 3
+node-codec : Codec nodeAt setNodeAt nodeWords nodeSize
+unfolding nodeAt setNodeAt
+node-codec = codec (λ ws. nodeOf ws 0) nodeWords nodeSize (λ v. refl) (λ v. refl)
+
+cell-codec : Codec cellAt setCellAt cellWords cellSize
 unfolding cellAt setCellAt
-cell-codec =
-    record {
-      same = λ b k v h f. ap (λ ws. cellOf ws 0) (wordsAt-same (cellWords v) b k h f);
-      only = λ b k j v o. word-apart (cellWords v) b k j o;
-      reads = λ b b′ k h. ap (λ ws. cellOf ws 0) (wordsAt-reads b b′ k 3 h);
-    }
+cell-codec = codec (λ ws. cellOf ws 0) cellWords cellSize (λ v. refl) (λ v. refl)
 
 thread-codec : Codec threadAt setThreadAt threadWords threadSize
 unfolding threadAt setThreadAt
-thread-codec =
-    record {
-      same = λ b k v h f. ap threadOf (wordsAt-same (threadWords v) b k h f) ∙ thread-again v;
-      only = λ b k j v o. word-apart (threadWords v) b k j o;
-      reads = λ b b′ k h. ap threadOf (wordsAt-reads b b′ k threadSize h);
-    }
-
-lt-or-gt : (k n : ℕ) → (k ≡ n → ⊥) → (k < n) ⊎ (n < k)
-lt-or-gt k n ne = go (decLt k n)
-  where
-    go : Dec (k < n) → (k < n) ⊎ (n < k)
-    go (yes h) = inl h
-    go (no h) = inr (omega arith)
+thread-codec = codec threadOf threadWords threadSize (λ v. refl) thread-again
 
 -- The words of part p are the same in b and in b′.
 abbrev pub Kept : Part → List ℕ → List ℕ → Type 0
@@ -86,6 +78,14 @@ entries-apart p (suc k) (suc n) h l =
     omega (arith, ap (λ m. p .stride * m) ek, ap (λ m. p .stride * m) en, mul-le-mul-left (p .stride) m)
 entries-apart p zero n h l = omega arith
 entries-apart p (suc k) zero h l = omega arith
+
+pub records-outside : (p : Part) (k n size : ℕ) → 1 ≤ k → 1 ≤ n → (k ≡ n → ⊥) → size ≤ p .stride
+    → (j : ℕ) → entry p k ≤ j → j < entry p k + size → Outside (entry p n) size j
+records-outside p k n size lk ln ne room j lo hi = go (decLt k n)
+  where
+    go : Dec (k < n) → Outside (entry p n) size j
+    go (yes h) = let s = entries-apart p k n lk h in inl (omega arith)
+    go (no h) = let s = entries-apart p n k ln (omega arith) in inr (omega arith)
 
 module _ {A : Type 0} {at : List ℕ → ℕ → A} {put : List ℕ → ℕ → A → List ℕ} {words : A → List ℕ} {size : ℕ}
     (cd : Codec at put words size) (none : A) (p : Part) (room : size ≤ p .stride) where
@@ -140,15 +140,11 @@ module _ {A : Type 0} {at : List ℕ → ℕ → A} {put : List ℕ → ℕ → 
     unfolding loadEntry pick
     load-other k ne = go (between 1 k (p .count)) refl
       where
-        apart : 1 ≤ k → (j : ℕ) → entry p k ≤ j → j < entry p k + size → (k < n) ⊎ (n < k) → Outside (entry p n) size j
-        apart lk j lo hi (inl h) = let s = entries-apart p k n lk h in inl (omega arith)
-        apart lk j lo hi (inr h) = let s = entries-apart p n k l h in inr (omega arith)
-
         go : (q : Bool) → between 1 k (p .count) ≡ q
             → pick q (at (put b (entry p n) v) (entry p k)) none ≡ pick q (at b (entry p k)) none
         go true e =
             cd .reads (put b (entry p n) v) b (entry p k)
-            (λ j lo hi. cd .only b (entry p n) j v (apart (between-least 1 k (p .count) e) j lo hi (lt-or-gt k n ne)))
+            (λ j lo hi. cd .only b (entry p n) j v (records-outside p k n size (between-least 1 k (p .count) e) l ne room j lo hi))
         go false e = refl
 
     load-stored : 4 * (p .start + partSize p) ≤ length b → Fit (words v)
@@ -169,6 +165,35 @@ flip : {p q : Part} → Apart p q → Apart q p
 flip (before h) = behind h
 flip (behind h) = before h
 
+-- Word j lies outside the parts of shared memory, and outside all parts.
+abbrev OutsidePart : Part → ℕ → Type 0
+OutsidePart p j = Outside (p .start) (partSize p) j
+
+pub record OutsideShared (f : Frame) (j : ℕ) : Type 0 where
+  pub depth : OutsidePart (depthOf f) j
+  pub free : OutsidePart (freeOf f) j
+  pub nodes : OutsidePart (nodesOf f) j
+  pub cells : OutsidePart (cellsOf f) j
+
+pub record OutsideParts (f : Frame) (j : ℕ) : Type 0 where
+  pub shared : OutsideShared f j
+  pub threads : OutsidePart (threadsOf f) j
+
+-- a thread's words lie outside shared memory
+pub threads-outside : (f : Frame) (l : ℕ) → Framed f l → (j : ℕ) → f .threads ≤ j → j < f .threads + partSize (threadsOf f)
+    → OutsideShared f j
+threads-outside f l placed j lo hi =
+    record {
+      depth = outside (flip (placed .apart .depth-threads)) j lo hi;
+      free = outside (flip (placed .apart .free-threads)) j lo hi;
+      nodes = outside (flip (placed .apart .nodes-threads)) j lo hi;
+      cells = outside (flip (placed .apart .cells-threads)) j lo hi;
+    }
+
+-- a single word
+pub outside-word : {k j : ℕ} → Outside k 1 j → j ≡ k → ⊥
+outside-word o = ⊎-elim (λ h. omega arith) (λ h. omega arith) o
+
 module _ (f : Frame) (b : List ℕ) where
   -- what is read of each part, where its words are kept
   nodes-kept : (b′ : List ℕ) → Kept (nodesOf f) b b′ → nodeIn f b′ ≡ nodeIn f b
@@ -185,10 +210,10 @@ module _ (f : Frame) (b : List ℕ) where
   free-kept : (b′ : List ℕ) → Kept (freeOf f) b b′ → word b′ (f .free) ≡ word b (f .free)
   free-kept b′ h = h (f .free) (omega arith) (omega arith)
 
-  module _ (w : Within f (length b)) where
+  module _ (placed : Framed f (length b)) where
     pub threads-kept : (b′ : List ℕ) → Kept (threadsOf f) b b′ → threadIn f b′ ≡ threadIn f b
     unfolding threadIn
-    threads-kept b′ h = fun-ext (load-kept thread-codec (idleThread 0) (threadsOf f) (w .stride) b b′ h)
+    threads-kept b′ h = fun-ext (load-kept thread-codec (idleThread 0) (threadsOf f) (placed .stride) b b′ h)
 
 -- Lengths and bytes stay, whatever the number.
 module _ {A : Type 0} (put : List ℕ → ℕ → A → List ℕ) (p : Part) (P : List ℕ → Type 0)
@@ -217,7 +242,7 @@ length-setThreadIn f b t v =
     stays setThreadAt (threadsOf f) (λ l. length l ≡ length b) (λ l k u e. length-setWords (threadWords u) l k ∙ e) b t v refl
 
 -- What each store changes lies within its part.
-module _ (f : Frame) (b : List ℕ) (w : Within f (length b)) where
+module _ (f : Frame) (b : List ℕ) (placed : Framed f (length b)) where
   pub word-setNodeIn : (n j : ℕ) (v : Node) → Outside ((nodesOf f) .start) (partSize (nodesOf f)) j
       → word (setNodeIn f b n v) j ≡ word b j
   unfolding setNodeIn
@@ -231,28 +256,28 @@ module _ (f : Frame) (b : List ℕ) (w : Within f (length b)) where
   pub word-setThreadIn : (t j : ℕ) (v : Thread) → Outside ((threadsOf f) .start) (partSize (threadsOf f)) j
       → word (setThreadIn f b t v) j ≡ word b j
   unfolding setThreadIn
-  word-setThreadIn t j v o = store-only thread-codec (idleThread 0) (threadsOf f) (w .stride) b t j v o
+  word-setThreadIn t j v o = store-only thread-codec (idleThread 0) (threadsOf f) (placed .stride) b t j v o
 
   -- a record is all that its store changes
-  pub word-setNode : (n j : ℕ) (v : Node) → Outside (entry (nodesOf f) n) 3 j → word (setNodeIn f b n v) j ≡ word b j
+  pub word-setNode : (n j : ℕ) (v : Node) → Outside (entry (nodesOf f) n) nodeSize j → word (setNodeIn f b n v) j ≡ word b j
   unfolding setNodeIn
   word-setNode n j v o = record-only node-codec emptyNode (nodesOf f) (omega arith) b n j v o
 
-  pub word-setCell : (c j : ℕ) (v : Cell) → Outside (entry (cellsOf f) c) 3 j → word (setCellIn f b c v) j ≡ word b j
+  pub word-setCell : (c j : ℕ) (v : Cell) → Outside (entry (cellsOf f) c) cellSize j → word (setCellIn f b c v) j ≡ word b j
   unfolding setCellIn
   word-setCell c j v o = record-only cell-codec zeroCell (cellsOf f) (omega arith) b c j v o
 
   pub word-setThread : (t j : ℕ) (v : Thread) → Outside (entry (threadsOf f) t) threadSize j → word (setThreadIn f b t v) j ≡ word b j
   unfolding setThreadIn
-  word-setThread t j v o = record-only thread-codec (idleThread 0) (threadsOf f) (w .stride) b t j v o
+  word-setThread t j v o = record-only thread-codec (idleThread 0) (threadsOf f) (placed .stride) b t j v o
 
   pub thread-stored-words : (t i : ℕ) (v : Thread) → 1 ≤ t → t ≤ f .shape .threads → Fit (threadWords v) → i < threadSize
       → word (setThreadIn f b t v) (entry (threadsOf f) t + i) ≡ getD (threadWords v) i 0
   unfolding setThreadIn setThreadAt
   thread-stored-words t i v l u g h =
       let s = entry-end (threadsOf f) t (λ z. omega arith) u in
-      ap (λ x. word x (entry (threadsOf f) t + i)) (store-there thread-codec (idleThread 0) (threadsOf f) (w .stride) b t v l u)
-      ∙ word-stored (threadWords v) b (entry (threadsOf f) t) i (omega (arith, s, w .threads, w .stride)) g h
+      ap (λ x. word x (entry (threadsOf f) t + i)) (store-there thread-codec (idleThread 0) (threadsOf f) (placed .stride) b t v l u)
+      ∙ word-stored (threadWords v) b (entry (threadsOf f) t) i (omega (arith, s, placed .threads, placed .stride)) g h
 
   node-keeps : (n : ℕ) (v : Node) (p : Part) → Apart p (nodesOf f) → Kept p b (setNodeIn f b n v)
   node-keeps n v p a j l u = word-setNodeIn n j v (outside a j l u)
@@ -264,79 +289,78 @@ module _ (f : Frame) (b : List ℕ) (w : Within f (length b)) where
   thread-keeps t v p a j l u = word-setThreadIn t j v (outside a j l u)
 
   depth-keeps : (v : ℕ) (p : Part) → Apart p (depthOf f) → Kept p b (setWord b (f .depth) v)
-  depth-keeps v p a j l u = word-other b (f .depth) j v (⊎-elim (λ h. omega arith) (λ h. omega arith) (outside a j l u))
+  depth-keeps v p a j l u = word-other b (f .depth) j v (outside-word (outside a j l u))
 
   free-keeps : (v : ℕ) (p : Part) → Apart p (freeOf f) → Kept p b (setWord b (f .free) v)
-  free-keeps v p a j l u = word-other b (f .free) j v (⊎-elim (λ h. omega arith) (λ h. omega arith) (outside a j l u))
+  free-keeps v p a j l u = word-other b (f .free) j v (outside-word (outside a j l u))
 
   -- Reading after a store, of shared memory and of the threads.
-  module _ (parted : Parted f) where
-    pub shared-setNode : (n : ℕ) (v : Node) → 1 ≤ n → n ≤ nodeCount (f .shape) → Fit (nodeWords v)
-        → sharedIn f (setNodeIn f b n v) ≡ putNode (sharedIn f b) n v
-    unfolding sharedIn setNodeIn nodeIn
-    shared-setNode n v l u g =
-        let e : nodeIn f (setNodeIn f b n v) ≡ upd (nodeIn f b) n v =
-        fun-ext (load-stored node-codec emptyNode (nodesOf f) (omega arith) b n v l u (w .nodes) g)
-        in
-        λ i. record {
-          node = e i;
-          cell = cells-kept f b (setNodeIn f b n v) (node-keeps n v (cellsOf f) (flip (parted .nodes-cells))) i;
-          depth = depth-kept f b (setNodeIn f b n v) (node-keeps n v (depthOf f) (parted .depth-nodes)) i;
-          free = free-kept f b (setNodeIn f b n v) (node-keeps n v (freeOf f) (parted .free-nodes)) i;
-        }
+  pub shared-setNode : (n : ℕ) (v : Node) → 1 ≤ n → n ≤ nodeCount (f .shape) → Fit (nodeWords v)
+      → sharedIn f (setNodeIn f b n v) ≡ putNode (sharedIn f b) n v
+  unfolding sharedIn setNodeIn nodeIn
+  shared-setNode n v l u g =
+      let e : nodeIn f (setNodeIn f b n v) ≡ upd (nodeIn f b) n v =
+      fun-ext (load-stored node-codec emptyNode (nodesOf f) (omega arith) b n v l u (placed .nodes) g)
+      in
+      λ i. record {
+        node = e i;
+        cell = cells-kept f b (setNodeIn f b n v) (node-keeps n v (cellsOf f) (flip (placed .apart .nodes-cells))) i;
+        depth = depth-kept f b (setNodeIn f b n v) (node-keeps n v (depthOf f) (placed .apart .depth-nodes)) i;
+        free = free-kept f b (setNodeIn f b n v) (node-keeps n v (freeOf f) (placed .apart .free-nodes)) i;
+      }
 
-    pub shared-setCell : (c : ℕ) (v : Cell) → 1 ≤ c → c ≤ f .shape .cells → Fit (cellWords v)
-        → sharedIn f (setCellIn f b c v) ≡ putCell (sharedIn f b) c v
-    unfolding sharedIn setCellIn cellIn
-    shared-setCell c v l u g =
-        let e : cellIn f (setCellIn f b c v) ≡ upd (cellIn f b) c v =
-        fun-ext (load-stored cell-codec zeroCell (cellsOf f) (omega arith) b c v l u (w .cells) g)
-        in
-        λ i. record {
-          node = nodes-kept f b (setCellIn f b c v) (cell-keeps c v (nodesOf f) (parted .nodes-cells)) i;
-          cell = e i;
-          depth = depth-kept f b (setCellIn f b c v) (cell-keeps c v (depthOf f) (parted .depth-cells)) i;
-          free = free-kept f b (setCellIn f b c v) (cell-keeps c v (freeOf f) (parted .free-cells)) i;
-        }
+  pub shared-setCell : (c : ℕ) (v : Cell) → 1 ≤ c → c ≤ f .shape .cells → Fit (cellWords v)
+      → sharedIn f (setCellIn f b c v) ≡ putCell (sharedIn f b) c v
+  unfolding sharedIn setCellIn cellIn
+  shared-setCell c v l u g =
+      let e : cellIn f (setCellIn f b c v) ≡ upd (cellIn f b) c v =
+      fun-ext (load-stored cell-codec zeroCell (cellsOf f) (omega arith) b c v l u (placed .cells) g)
+      in
+      λ i. record {
+        node = nodes-kept f b (setCellIn f b c v) (cell-keeps c v (nodesOf f) (placed .apart .nodes-cells)) i;
+        cell = e i;
+        depth = depth-kept f b (setCellIn f b c v) (cell-keeps c v (depthOf f) (placed .apart .depth-cells)) i;
+        free = free-kept f b (setCellIn f b c v) (cell-keeps c v (freeOf f) (placed .apart .free-cells)) i;
+      }
 
-    pub threads-setCell : (c : ℕ) (v : Cell) → threadIn f (setCellIn f b c v) ≡ threadIn f b
-    threads-setCell c v = threads-kept f b w (setCellIn f b c v) (cell-keeps c v (threadsOf f) (flip (parted .cells-threads)))
+  pub threads-setCell : (c : ℕ) (v : Cell) → threadIn f (setCellIn f b c v) ≡ threadIn f b
+  threads-setCell c v = threads-kept f b placed (setCellIn f b c v) (cell-keeps c v (threadsOf f) (flip (placed .apart .cells-threads)))
 
-    pub shared-setDepth : (v : ℕ) → v < 2 ^ 32 → sharedIn f (setWord b (f .depth) v) ≡ putDepth (sharedIn f b) v
-    unfolding sharedIn
-    shared-setDepth v g =
-        λ i. record {
-          node = nodes-kept f b (setWord b (f .depth) v) (depth-keeps v (nodesOf f) (flip (parted .depth-nodes))) i;
-          cell = cells-kept f b (setWord b (f .depth) v) (depth-keeps v (cellsOf f) (flip (parted .depth-cells))) i;
-          depth = word-same b (f .depth) v (w .depth) g i;
-          free = free-kept f b (setWord b (f .depth) v) (depth-keeps v (freeOf f) (flip (parted .depth-free))) i;
-        }
+  pub shared-setDepth : (v : ℕ) → v < 2 ^ 32 → sharedIn f (setWord b (f .depth) v) ≡ putDepth (sharedIn f b) v
+  unfolding sharedIn
+  shared-setDepth v g =
+      λ i. record {
+        node = nodes-kept f b (setWord b (f .depth) v) (depth-keeps v (nodesOf f) (flip (placed .apart .depth-nodes))) i;
+        cell = cells-kept f b (setWord b (f .depth) v) (depth-keeps v (cellsOf f) (flip (placed .apart .depth-cells))) i;
+        depth = word-same b (f .depth) v (omega (arith, placed .depth)) g i;
+        free = free-kept f b (setWord b (f .depth) v) (depth-keeps v (freeOf f) (flip (placed .apart .depth-free))) i;
+      }
 
-    pub shared-setFree : (v : ℕ) → v < 2 ^ 32 → sharedIn f (setWord b (f .free) v) ≡ putFree (sharedIn f b) v
-    unfolding sharedIn
-    shared-setFree v g =
-        λ i. record {
-          node = nodes-kept f b (setWord b (f .free) v) (free-keeps v (nodesOf f) (flip (parted .free-nodes))) i;
-          cell = cells-kept f b (setWord b (f .free) v) (free-keeps v (cellsOf f) (flip (parted .free-cells))) i;
-          depth = depth-kept f b (setWord b (f .free) v) (free-keeps v (depthOf f) (parted .depth-free)) i;
-          free = word-same b (f .free) v (w .free) g i;
-        }
+  pub shared-setFree : (v : ℕ) → v < 2 ^ 32 → sharedIn f (setWord b (f .free) v) ≡ putFree (sharedIn f b) v
+  unfolding sharedIn
+  shared-setFree v g =
+      λ i. record {
+        node = nodes-kept f b (setWord b (f .free) v) (free-keeps v (nodesOf f) (flip (placed .apart .free-nodes))) i;
+        cell = cells-kept f b (setWord b (f .free) v) (free-keeps v (cellsOf f) (flip (placed .apart .free-cells))) i;
+        depth = depth-kept f b (setWord b (f .free) v) (free-keeps v (depthOf f) (placed .apart .depth-free)) i;
+        free = word-same b (f .free) v (omega (arith, placed .free)) g i;
+      }
 
-    pub threads-setFree : (v : ℕ) → threadIn f (setWord b (f .free) v) ≡ threadIn f b
-    threads-setFree v = threads-kept f b w (setWord b (f .free) v) (free-keeps v (threadsOf f) (flip (parted .free-threads)))
+  pub threads-setFree : (v : ℕ) → threadIn f (setWord b (f .free) v) ≡ threadIn f b
+  threads-setFree v = threads-kept f b placed (setWord b (f .free) v) (free-keeps v (threadsOf f) (flip (placed .apart .free-threads)))
 
-    pub shared-setThread : (t : ℕ) (v : Thread) → sharedIn f (setThreadIn f b t v) ≡ sharedIn f b
-    unfolding sharedIn
-    shared-setThread t v =
-        λ i. record {
-          node = nodes-kept f b (setThreadIn f b t v) (thread-keeps t v (nodesOf f) (parted .nodes-threads)) i;
-          cell = cells-kept f b (setThreadIn f b t v) (thread-keeps t v (cellsOf f) (parted .cells-threads)) i;
-          depth = depth-kept f b (setThreadIn f b t v) (thread-keeps t v (depthOf f) (parted .depth-threads)) i;
-          free = free-kept f b (setThreadIn f b t v) (thread-keeps t v (freeOf f) (parted .free-threads)) i;
-        }
+  pub shared-setThread : (t : ℕ) (v : Thread) → sharedIn f (setThreadIn f b t v) ≡ sharedIn f b
+  unfolding sharedIn
+  shared-setThread t v =
+      λ i. record {
+        node = nodes-kept f b (setThreadIn f b t v) (thread-keeps t v (nodesOf f) (placed .apart .nodes-threads)) i;
+        cell = cells-kept f b (setThreadIn f b t v) (thread-keeps t v (cellsOf f) (placed .apart .cells-threads)) i;
+        depth = depth-kept f b (setThreadIn f b t v) (thread-keeps t v (depthOf f) (placed .apart .depth-threads)) i;
+        free = free-kept f b (setThreadIn f b t v) (thread-keeps t v (freeOf f) (placed .apart .free-threads)) i;
+      }
 
-    pub threads-setThread : (t : ℕ) (v : Thread) → 1 ≤ t → t ≤ f .shape .threads → Fit (threadWords v)
-        → threadIn f (setThreadIn f b t v) ≡ upd (threadIn f b) t v
-    unfolding setThreadIn threadIn
-    threads-setThread t v l u g =
-        fun-ext (load-stored thread-codec (idleThread 0) (threadsOf f) (w .stride) b t v l u (w .threads) g)
+  pub threads-setThread : (t : ℕ) (v : Thread) → 1 ≤ t → t ≤ f .shape .threads → Fit (threadWords v)
+      → threadIn f (setThreadIn f b t v) ≡ upd (threadIn f b) t v
+  unfolding setThreadIn threadIn
+  threads-setThread t v l u g =
+      fun-ext (load-stored thread-codec (idleThread 0) (threadsOf f) (placed .stride) b t v l u (placed .threads) g)

@@ -1,6 +1,7 @@
 -- Where the parts of a queue lie in its region: word offsets, counted from 0.
 use Prim.Native.Nat.{ℕ, _+_, _*_}
-use Rattle.region.specs.Shape.{nodeCount}
+use Rattle.region.specs.Record.{nodeSize, cellSize}
+use Rattle.region.specs.Shape.{headSize, nodeCount}
 use Rattle.region.specs.Thread.{threadSize}
 use Rattle.region.specs.declared.frame.Frame.{Frame}
 use Rattle.region.specs.declared.shape.Shape.{Shape}
@@ -13,9 +14,9 @@ frameOf s =
       shape = s;
       depth = 4;
       free = 5;
-      nodes = 6;
-      cells = 6 + 3 * nodeCount s;
-      threads = 6 + 3 * nodeCount s + 3 * s .cells;
+      nodes = headSize;
+      cells = headSize + nodeSize * nodeCount s;
+      threads = headSize + nodeSize * nodeCount s + cellSize * s .cells;
       stride = threadSize;
     }
 
@@ -26,10 +27,10 @@ pub record Part : Type 0 where
   pub count : ℕ
 
 abbrev pub nodesOf : Frame → Part
-nodesOf f = record { start = f .nodes; stride = 3; count = nodeCount (f .shape) }
+nodesOf f = record { start = f .nodes; stride = nodeSize; count = nodeCount (f .shape) }
 
 abbrev pub cellsOf : Frame → Part
-cellsOf f = record { start = f .cells; stride = 3; count = f .shape .cells }
+cellsOf f = record { start = f .cells; stride = cellSize; count = f .shape .cells }
 
 abbrev pub threadsOf : Frame → Part
 threadsOf f = record { start = f .threads; stride = f .stride; count = f .shape .threads }

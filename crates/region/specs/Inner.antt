@@ -1,6 +1,7 @@
 -- What only the contracts of inner functions and the proofs need. A reader of the result may skip this file.
 use Prim.Native.Nat.{ℕ, _+_, _-_, _*_, _^_, _≤_}
 use Rattle.region.specs.declared.shape.Shape.{Shape}
+use Rattle.region.specs.Record.{nodeSize, cellSize}
 use Rattle.region.specs.Shape.{nodeCount}
 use Rattle.region.specs.Thread.{threadSize}
 use Rattle.region.specs.declared.frame.Frame.{Frame}
@@ -28,13 +29,13 @@ depthOf f = record { start = f .depth; stride = 1; count = 1 }
 abbrev pub freeOf : Frame → Part
 freeOf f = record { start = f .free; stride = 1; count = 1 }
 
--- each part of the frame ends within l bytes, and a thread's record within its stride
+-- what the code requires: each part of the frame ends within l bytes, a thread's record within its stride, and 2^D is no more than 4,096
 pub record Within (f : Frame) (l : ℕ) : Type 0 where
   pub deep : f .shape .depth ≤ 12
   pub depth : 4 * f .depth + 4 ≤ l
   pub free : 4 * f .free + 4 ≤ l
-  pub nodes : 4 * (f .nodes + 3 * nodeCount (f .shape)) ≤ l
-  pub cells : 4 * (f .cells + 3 * f .shape .cells) ≤ l
+  pub nodes : 4 * (f .nodes + nodeSize * nodeCount (f .shape)) ≤ l
+  pub cells : 4 * (f .cells + cellSize * f .shape .cells) ≤ l
   pub threads : 4 * (f .threads + f .stride * f .shape .threads) ≤ l
   pub stride : threadSize ≤ f .stride
 
@@ -55,3 +56,18 @@ pub record Parted (f : Frame) : Type 0 where
   pub nodes-cells : Apart (nodesOf f) (cellsOf f)
   pub nodes-threads : Apart (nodesOf f) (threadsOf f)
   pub cells-threads : Apart (cellsOf f) (threadsOf f)
+
+-- a part ends within l bytes
+abbrev pub EndsIn : Part → ℕ → Type 0
+EndsIn p l = 4 * (p .start + partSize p) ≤ l
+
+-- what the laws ask of a frame over l bytes: each part ends within them and lies apart from the others, and a thread's record ends within
+-- its stride
+pub record Framed (f : Frame) (l : ℕ) : Type 0 where
+  pub depth : EndsIn (depthOf f) l
+  pub free : EndsIn (freeOf f) l
+  pub nodes : EndsIn (nodesOf f) l
+  pub cells : EndsIn (cellsOf f) l
+  pub threads : EndsIn (threadsOf f) l
+  pub stride : threadSize ≤ f .stride
+  pub apart : Parted f

@@ -15,7 +15,21 @@ greatestKey = 4294967294
 abbrev pub greatestTag : ℕ
 greatestTag = 65535
 
--- the item, node or cell, and below the node copy, whose words stand in ws from index k on
+-- the last value of a counter ("11: an update whose comparison holds meets a counter of 4,294,967,295")
+abbrev pub greatestCounter : ℕ
+greatestCounter = 4294967295
+
+-- "nodes of three words", "C cells: key, tag, next cell", "node copies of six words": the words of a node and of a cell
+abbrev pub nodeSize : ℕ
+nodeSize = 3
+
+abbrev pub cellSize : ℕ
+cellSize = 3
+
+abbrev pub copySize : ℕ
+copySize = nodeSize + cellSize
+
+-- the item, node, cell or node copy whose words stand in ws from index k on
 abbrev pub itemOf : List ℕ → ℕ → Item
 itemOf ws k = record { key = getD ws k 0; tag = getD ws (k + 1) 0 }
 
@@ -25,14 +39,8 @@ nodeOf ws k = record { first = getD ws k 0; dirty = getD ws (k + 1) 0; counter =
 abbrev pub cellOf : List ℕ → ℕ → Cell
 cellOf ws k = record { item = itemOf ws k; next = getD ws (k + 2) 0 }
 
--- a node copy from its six words
-abbrev pub copyOfWords : ℕ → ℕ → ℕ → ℕ → ℕ → ℕ → NodeCopy
-copyOfWords f d c k t n =
-    record { node = record { first = f; dirty = d; counter = c }; head = record { item = record { key = k; tag = t }; next = n } }
-
 abbrev pub copyOf : List ℕ → ℕ → NodeCopy
-copyOf ws k =
-    copyOfWords (getD ws k 0) (getD ws (k + 1) 0) (getD ws (k + 2) 0) (getD ws (k + 3) 0) (getD ws (k + 4) 0) (getD ws (k + 5) 0)
+copyOf ws k = record { node = nodeOf ws k; head = cellOf ws (k + nodeSize) }
 
 -- "nodes of three words: first cell (0 for none), dirty (0 or 1), counter"
 abbrev pub nodeWords : Node → List ℕ
@@ -61,19 +69,19 @@ zeroCopy = record { node = emptyNode; head = zeroCell }
 
 -- the node, the cell and the node copy at word `at` of the bytes b, and b with another one there
 unfoldable pub nodeAt : List ℕ → ℕ → Node
-nodeAt b at = nodeOf (wordsAt b at 3) 0
+nodeAt b at = nodeOf (wordsAt b at nodeSize) 0
 
 unfoldable pub setNodeAt : List ℕ → ℕ → Node → List ℕ
 setNodeAt b at n = setWords b at (nodeWords n)
 
 unfoldable pub cellAt : List ℕ → ℕ → Cell
-cellAt b at = cellOf (wordsAt b at 3) 0
+cellAt b at = cellOf (wordsAt b at cellSize) 0
 
 unfoldable pub setCellAt : List ℕ → ℕ → Cell → List ℕ
 setCellAt b at c = setWords b at (cellWords c)
 
 unfoldable pub copyAt : List ℕ → ℕ → NodeCopy
-copyAt b at = copyOf (wordsAt b at 6) 0
+copyAt b at = copyOf (wordsAt b at copySize) 0
 
 unfoldable pub setCopyAt : List ℕ → ℕ → NodeCopy → List ℕ
 setCopyAt b at q = setWords b at (copyWords q)

@@ -2,6 +2,8 @@
 use Prim.Native.Nat.{ℕ, _+_, _-_, _*_, _^_}
 use mathlib.Core.Bool.{Bool, _&&_}
 use lib.Dec.{leb}
+use Rattle.region.specs.Record.{nodeSize, cellSize}
+use Rattle.region.specs.Thread.{threadSize}
 use Rattle.region.specs.declared.shape.Shape.{Shape}
 
 -- lo ≤ x ≤ hi
@@ -20,6 +22,10 @@ shapeFits s =
 abbrev pub nodeCount : Shape → ℕ
 nodeCount s = 2 ^ s .depth - 1
 
+-- "Six words: D, C, T, H, present depth, first free cell."
+abbrev pub headSize : ℕ
+headSize = 6
+
 -- "Length: 6 + 3 × (2^D − 1) + 3 × C + 33 × T words."
 unfoldable pub regionWords : Shape → ℕ
-regionWords s = 6 + 3 * nodeCount s + 3 * s .cells + 33 * s .threads
+regionWords s = headSize + nodeSize * nodeCount s + cellSize * s .cells + threadSize * s .threads

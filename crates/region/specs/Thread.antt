@@ -1,14 +1,14 @@
--- The thread's record as a run of 33 words, and the values that its methods hand back (document 01, The region).
-use Prim.Native.Nat.{ℕ, _-_}
+-- The thread's record as a run of words, and the values that its methods hand back (document 01, The region).
+use Prim.Native.Nat.{ℕ, _+_, _-_}
 use mathlib.Core.Bool.{_&&_}
-use mathlib.Core.List.{List, _∷_, _++_}
+use mathlib.Core.List.{List, [], _∷_, _++_}
 use lib.Dec.{eqb}
 use lib.ListN.{getD}
 use Rattle.words.specs.Word.{wordsAt, setWords}
 use Rattle.region.specs.Level.{ancestor, level, mark}
 use Rattle.region.specs.Pick.{pick}
 use Rattle.region.specs.Place.{placeOf, placeNumber, waitingLevels}
-use Rattle.region.specs.Record.{itemOf, copyOf, copyWords, zeroItem, zeroCopy}
+use Rattle.region.specs.Record.{copySize, itemOf, copyOf, copyWords, zeroItem, zeroCopy}
 use Rattle.region.specs.declared.answer.Answer.{Answer}
 use Rattle.region.specs.declared.answer.Answer.the-variants.{Moved, Took}
 use Rattle.region.specs.declared.place.Place.{Place}
@@ -18,10 +18,6 @@ use Rattle.region.specs.declared.record.NodeCopy.{NodeCopy}
 use Rattle.region.specs.declared.thread.Copies.{Copies}
 use Rattle.region.specs.declared.thread.Search.{Search}
 use Rattle.region.specs.declared.thread.Thread.{Thread}
-
--- "threads of 33 words"
-abbrev pub threadSize : ℕ
-threadSize = 33
 
 -- "permission 0..3": both bits set
 abbrev pub greatestPermission : ℕ
@@ -40,6 +36,20 @@ nodeWord = 10
 abbrev pub waitingWord : ℕ
 waitingWord = 11
 
+-- the first word of each node copy, one copy behind the other
+abbrev pub firstCopyWord : ℕ
+firstCopyWord = 15
+
+abbrev pub secondCopyWord : ℕ
+secondCopyWord = firstCopyWord + copySize
+
+abbrev pub thirdCopyWord : ℕ
+thirdCopyWord = secondCopyWord + copySize
+
+-- "threads of 33 words"
+abbrev pub threadSize : ℕ
+threadSize = thirdCopyWord + copySize
+
 abbrev pub searchOf : List ℕ → ℕ → ℕ → ℕ → ℕ → Search
 searchOf ws a b c d = record { leaf = getD ws a 0; tries = getD ws b 0; lo = getD ws c 0; hi = getD ws d 0 }
 
@@ -57,11 +67,12 @@ threadOf ws =
       node = getD ws nodeWord 0;
       after = getD ws 12 0;
       result = itemOf ws 13;
-      copies = record { first = copyOf ws 15; second = copyOf ws 21; third = copyOf ws 27 };
+      copies = record { first = copyOf ws firstCopyWord; second = copyOf ws secondCopyWord; third = copyOf ws thirdCopyWord };
     }
 
-abbrev pub threadWords : Thread → List ℕ
-threadWords t =
+-- the words before the node copies
+abbrev pub fieldWords : Thread → List ℕ
+fieldWords t =
     t .permission
     ∷ placeNumber (t .place)
     ∷ t .item .key
@@ -77,7 +88,10 @@ threadWords t =
     ∷ t .after
     ∷ t .result .key
     ∷ t .result .tag
-    ∷ copyWords (t .copies .first) ++ (copyWords (t .copies .second) ++ copyWords (t .copies .third))
+    ∷ []
+
+abbrev pub threadWords : Thread → List ℕ
+threadWords t = fieldWords t ++ (copyWords (t .copies .first) ++ (copyWords (t .copies .second) ++ copyWords (t .copies .third)))
 
 -- the thread's record at word `at` of the bytes b, and b with another one there
 unfoldable pub threadAt : List ℕ → ℕ → Thread

@@ -6,13 +6,17 @@ ghost use Rattle.words.specs.Word.{word, setWord};
 ghost use Rattle.region.specs.Inner.{InRange, Within};
 ghost use Rattle.region.specs.Frame.{frameOf};
 ghost use Rattle.region.specs.Shared.{nodeIn, setNodeIn, cellIn, setCellIn, threadIn, setThreadIn};
+use crate::record::CELL_SIZE;
 use crate::record::Cell;
+use crate::record::NODE_SIZE;
 use crate::record::Node;
 use crate::record::load_cell_at;
 use crate::record::load_node_at;
 use crate::record::store_cell_at;
 use crate::record::store_node_at;
+use crate::shape::HEAD_SIZE;
 use crate::shape::Shape;
+use crate::thread::THREAD_SIZE;
 use crate::thread::Thread;
 use crate::thread::load_thread_at;
 use crate::thread::store_thread_at;
@@ -34,16 +38,16 @@ impl Frame {
         requires { ⌜ InRange shape ⌝ }
         ensures { λ r. ⌜ r ≡ frameOf shape ⌝ }
     {
-        let nodes = 3 * shape.node_count();
-        let cells = 3 * (shape.cells as usize);
+        let nodes = NODE_SIZE * shape.node_count();
+        let cells = CELL_SIZE * (shape.cells as usize);
         Frame {
             shape,
             depth: 4,
             free: 5,
-            nodes: 6,
-            cells: 6 + nodes,
-            threads: 6 + nodes + cells,
-            stride: 33,
+            nodes: HEAD_SIZE,
+            cells: HEAD_SIZE + nodes,
+            threads: HEAD_SIZE + nodes + cells,
+            stride: THREAD_SIZE,
         }
     }
 
@@ -60,7 +64,7 @@ impl Frame {
         if count < k {
             return Node::empty();
         }
-        load_node_at(b, self.nodes + 3 * (k - 1))
+        load_node_at(b, self.nodes + NODE_SIZE * (k - 1))
     }
 
     pub fn store_node(self, b: &mut [u8], n: u32, node: Node)
@@ -76,7 +80,7 @@ impl Frame {
         if count < k {
             return;
         }
-        store_node_at(b, self.nodes + 3 * (k - 1), node);
+        store_node_at(b, self.nodes + NODE_SIZE * (k - 1), node);
     }
 
     pub fn load_cell(self, b: &[u8], c: u32) -> Cell
@@ -92,7 +96,7 @@ impl Frame {
         if count < k {
             return Cell::zero();
         }
-        load_cell_at(b, self.cells + 3 * (k - 1))
+        load_cell_at(b, self.cells + CELL_SIZE * (k - 1))
     }
 
     pub fn store_cell(self, b: &mut [u8], c: u32, cell: Cell)
@@ -108,7 +112,7 @@ impl Frame {
         if count < k {
             return;
         }
-        store_cell_at(b, self.cells + 3 * (k - 1), cell);
+        store_cell_at(b, self.cells + CELL_SIZE * (k - 1), cell);
     }
 
     pub fn load_thread(self, b: &[u8], t: u32) -> Thread

@@ -2,7 +2,16 @@
 ghost use mathlib.Core.Path.{_≡_};
 ghost use Prim.Native.Nat.{_+_, _*_, _≤_};
 ghost use lib.ListN.{length};
-ghost use Rattle.region.specs.Record.{emptyNode, zeroCell, copyOfWords, nodeAt, setNodeAt, cellAt, setCellAt, copyAt, setCopyAt};
+ghost use Rattle.region.specs.Record.{nodeSize, cellSize, copySize, emptyNode, zeroCell, copyOf, nodeAt, setNodeAt, cellAt, setCellAt, copyAt, setCopyAt};
+ghost use mathlib.Core.List.{[], _∷_};
+
+// The words of a node and of a cell.
+pub const NODE_SIZE: usize = 3;
+
+pub const CELL_SIZE: usize = 3;
+
+// The last value of a node's counter.
+pub const GREATEST_COUNTER: u32 = 4294967295;
 
 // A key with a tag.
 pub struct Item {
@@ -57,7 +66,7 @@ impl Cell {
 impl NodeCopy {
     // A node copy from its six words.
     pub fn of(first: u32, dirty: u32, counter: u32, key: u32, tag: u32, next: u32) -> NodeCopy
-        ensures { λ r. ⌜ r ≡ copyOfWords first dirty counter key tag next ⌝ }
+        ensures { λ r. ⌜ r ≡ copyOf (first ∷ dirty ∷ counter ∷ key ∷ tag ∷ next ∷ []) 0 ⌝ }
     {
         NodeCopy {
             node: Node {
@@ -75,7 +84,7 @@ impl NodeCopy {
 
 // The node at word `at`.
 pub fn load_node_at(b: &[u8], at: usize) -> Node
-    requires { ⌜ 4 * (at + 3) ≤ length (now b) ⌝ }
+    requires { ⌜ 4 * (at + nodeSize) ≤ length (now b) ⌝ }
     ensures { λ r. ⌜ r ≡ nodeAt (now (b .entry)) at ⌝ }
 {
     let mut a = [0u32; 3];
@@ -88,7 +97,7 @@ pub fn load_node_at(b: &[u8], at: usize) -> Node
 }
 
 pub fn store_node_at(b: &mut [u8], at: usize, n: Node)
-    requires { ⌜ 4 * (at + 3) ≤ length (now b) ⌝ }
+    requires { ⌜ 4 * (at + nodeSize) ≤ length (now b) ⌝ }
     ensures { λ r. ⌜ now (b .exit) ≡ setNodeAt (now (b .entry)) at n ⌝ }
 {
     let a = [n.first, n.dirty, n.counter];
@@ -97,7 +106,7 @@ pub fn store_node_at(b: &mut [u8], at: usize, n: Node)
 
 // The cell at word `at`.
 pub fn load_cell_at(b: &[u8], at: usize) -> Cell
-    requires { ⌜ 4 * (at + 3) ≤ length (now b) ⌝ }
+    requires { ⌜ 4 * (at + cellSize) ≤ length (now b) ⌝ }
     ensures { λ r. ⌜ r ≡ cellAt (now (b .entry)) at ⌝ }
 {
     let mut a = [0u32; 3];
@@ -112,7 +121,7 @@ pub fn load_cell_at(b: &[u8], at: usize) -> Cell
 }
 
 pub fn store_cell_at(b: &mut [u8], at: usize, c: Cell)
-    requires { ⌜ 4 * (at + 3) ≤ length (now b) ⌝ }
+    requires { ⌜ 4 * (at + cellSize) ≤ length (now b) ⌝ }
     ensures { λ r. ⌜ now (b .exit) ≡ setCellAt (now (b .entry)) at c ⌝ }
 {
     let a = [c.item.key, c.item.tag, c.next];
@@ -121,7 +130,7 @@ pub fn store_cell_at(b: &mut [u8], at: usize, c: Cell)
 
 // The node copy at word `at`.
 pub fn load_copy_at(b: &[u8], at: usize) -> NodeCopy
-    requires { ⌜ 4 * (at + 6) ≤ length (now b) ⌝ }
+    requires { ⌜ 4 * (at + copySize) ≤ length (now b) ⌝ }
     ensures { λ r. ⌜ r ≡ copyAt (now (b .entry)) at ⌝ }
 {
     let mut a = [0u32; 6];
@@ -130,7 +139,7 @@ pub fn load_copy_at(b: &[u8], at: usize) -> NodeCopy
 }
 
 pub fn store_copy_at(b: &mut [u8], at: usize, q: NodeCopy)
-    requires { ⌜ 4 * (at + 6) ≤ length (now b) ⌝ }
+    requires { ⌜ 4 * (at + copySize) ≤ length (now b) ⌝ }
     ensures { λ r. ⌜ now (b .exit) ≡ setCopyAt (now (b .entry)) at q ⌝ }
 {
     let a = [

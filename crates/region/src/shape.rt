@@ -3,6 +3,12 @@ ghost use mathlib.Core.Path.{_≡_};
 ghost use Prim.Native.Nat.{_≤_};
 ghost use Rattle.region.specs.Shape.{between, shapeFits, nodeCount, regionWords};
 ghost use Rattle.region.specs.Inner.{InRange};
+use crate::record::CELL_SIZE;
+use crate::record::NODE_SIZE;
+use crate::thread::THREAD_SIZE;
+
+// The words before the nodes.
+pub const HEAD_SIZE: usize = 6;
 
 pub struct Shape {
     // D, the greatest depth
@@ -57,6 +63,6 @@ impl Shape {
     {
         let cells = self.cells as usize;
         let threads = self.threads as usize;
-        6 + 3 * self.node_count() + 3 * cells + 33 * threads
+        HEAD_SIZE + NODE_SIZE * self.node_count() + CELL_SIZE * cells + THREAD_SIZE * threads
     }
 }

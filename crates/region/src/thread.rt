@@ -2,7 +2,7 @@
 ghost use mathlib.Core.Path.{_≡_};
 ghost use Prim.Native.Nat.{_+_, _*_, _≤_};
 ghost use lib.ListN.{length};
-ghost use Rattle.region.specs.Thread.{idleThread, threadAt, setThreadAt, goneIdle, begunPut, begunTake, mending, returned, returnAnswer, atPlace, withItem, withOwn, withDepth, withSearch, withNode, withAfter, withResult, withFirst, withSecond, withThird};
+ghost use Rattle.region.specs.Thread.{threadSize, idleThread, threadAt, setThreadAt, goneIdle, begunPut, begunTake, mending, returned, returnAnswer, atPlace, withItem, withOwn, withDepth, withSearch, withNode, withAfter, withResult, withFirst, withSecond, withThird};
 use crate::answer::Answer;
 use crate::level::ancestor_at;
 use crate::level::level_of;
@@ -13,6 +13,15 @@ use crate::record::Item;
 use crate::record::NodeCopy;
 use crate::record::load_copy_at;
 use crate::record::store_copy_at;
+
+// The words of a thread's record: those before its node copies, and the whole.
+const FIRST_COPY: usize = 15;
+
+const SECOND_COPY: usize = 21;
+
+const THIRD_COPY: usize = 27;
+
+pub const THREAD_SIZE: usize = 33;
 
 // What a put's search for its node keeps: the leaf, the tries so far, and the levels between which it looks.
 pub struct Search {
@@ -49,7 +58,7 @@ pub struct Thread {
 
 // The thread's record at word `at`: a run of fifteen words, then three node copies.
 pub fn load_thread_at(b: &[u8], at: usize) -> Thread
-    requires { ⌜ 4 * (at + 33) ≤ length (now b) ⌝ }
+    requires { ⌜ 4 * (at + threadSize) ≤ length (now b) ⌝ }
     ensures { λ r. ⌜ r ≡ threadAt (now (b .entry)) at ⌝ }
 {
     let mut a = [0u32; 15];
@@ -76,15 +85,15 @@ pub fn load_thread_at(b: &[u8], at: usize) -> Thread
             tag: a[14],
         },
         copies: Copies {
-            first: load_copy_at(b, at + 15),
-            second: load_copy_at(b, at + 21),
-            third: load_copy_at(b, at + 27),
+            first: load_copy_at(b, at + FIRST_COPY),
+            second: load_copy_at(b, at + SECOND_COPY),
+            third: load_copy_at(b, at + THIRD_COPY),
         },
     }
 }
 
 pub fn store_thread_at(b: &mut [u8], at: usize, t: Thread)
-    requires { ⌜ 4 * (at + 33) ≤ length (now b) ⌝ }
+    requires { ⌜ 4 * (at + threadSize) ≤ length (now b) ⌝ }
     ensures { λ r. ⌜ now (b .exit) ≡ setThreadAt (now (b .entry)) at t ⌝ }
 {
     let place = t.place;
@@ -107,9 +116,9 @@ pub fn store_thread_at(b: &mut [u8], at: usize, t: Thread)
         t.result.tag,
     ];
     words::store_words(b, at, &a);
-    store_copy_at(b, at + 15, copies.first);
-    store_copy_at(b, at + 21, copies.second);
-    store_copy_at(b, at + 27, copies.third);
+    store_copy_at(b, at + FIRST_COPY, copies.first);
+    store_copy_at(b, at + SECOND_COPY, copies.second);
+    store_copy_at(b, at + THIRD_COPY, copies.third);
 }
 
 impl Thread {

@@ -5,7 +5,7 @@ use native.Mathlib.Nat.{add-zero, add-suc, suc-add, div-div-eq-div-mul}
 use native.Mathlib.Omega.{arith}
 use mathlib.Core.Path.{_≡_, refl, sym, ap, _∙_}
 use mathlib.Core.Logic.{_≢_, _⊎_, inl, inr, ⊎-elim}
-use mathlib.Core.List.{List, [], _∷_}
+use mathlib.Core.List.{List, [], _∷_, _++_}
 use lib.ListN.{length, getD, set, length-set}
 use lib.Seq.{getD-set-same, getD-set-other}
 use Rattle.words.specs.Word.{word, setWord, wordsAt, setWords}
@@ -145,3 +145,15 @@ word-stored (v ∷ vs) b at (suc i) h f l =
     ap (word (setWords (setWord b at v) (suc at) vs)) (add-suc at i ∙ sym (suc-add at i))
     ∙ word-stored vs (setWord b at v) (suc at) i (rw length-setWord (omega arith)) (f .1) (omega arith)
 word-stored [] b at i h f l = absurd (omega arith)
+
+-- A run is its words one by one, and two runs stored one behind the other are one.
+pub word-in-run : (b : List ℕ) (at n i : ℕ) → i < n → getD (wordsAt b at n) i 0 ≡ word b (at + i)
+word-in-run b at zero i l = absurd (omega arith)
+word-in-run b at (suc n) zero l = ap (word b) (sym (add-zero at))
+word-in-run b at (suc n) (suc i) l = word-in-run b (suc at) n i (omega arith) ∙ ap (word b) (suc-add at i ∙ sym (add-suc at i))
+
+pub setWords-behind : (vs ws b : List ℕ) (at : ℕ) → setWords b at (vs ++ ws) ≡ setWords (setWords b at vs) (at + length vs) ws
+setWords-behind [] ws b at = ap (λ k. setWords b k ws) (sym (add-zero at))
+setWords-behind (v ∷ vs) ws b at =
+    setWords-behind vs ws (setWord b at v) (suc at)
+    ∙ ap (λ k. setWords (setWords (setWord b at v) (suc at) vs) k ws) (suc-add at (length vs) ∙ sym (add-suc at (length vs)))

@@ -3,7 +3,7 @@ use native.Mathlib.Omega.{arith}
 use Rattle.layout.proofs.are_permissions.Statement.{statement}
 use Prim.Native.Nat.{_-_}
 use lib.ListN.{length}
-use Rattle.layout.proofs.Turns.{Looked, look-start, look-more, look-bad, look-end}
+use Rattle.layout.proofs.Loops.{Looked, look-start, look-more, look-bad, look-end}
 use Rattle.layout.proofs.are_permissions.Tie as tie
 
 abbrev Inv-loop : tie.InvT-loop

@@ -1,7 +1,7 @@
 -- `layout::cell_word` meets its contract. Assumes nothing.
 use borrow.Author.Needs.{needs}
 use Rattle.layout.proofs.cell_word.Statement.{statement}
-use Rattle.layout.proofs.Turns.{no-next, next-cell, last-cell}
+use Rattle.layout.proofs.Loops.{no-next, next-cell, last-cell}
 use Rattle.layout.proofs.cell_word.Tie as tie
 
 returns : tie.Need-returns

@@ -3,7 +3,7 @@ use borrow.Author.Needs.{needs}
 use native.Mathlib.Omega.{arith}
 use Rattle.layout.proofs.fill.Statement.{statement}
 use Prim.Native.Nat.{_-_}
-use Rattle.layout.proofs.Turns.{Filled, fill-start, fill-asks, fill-more, fill-end}
+use Rattle.layout.proofs.Loops.{Filled, fill-start, fill-asks, fill-more, fill-end}
 use Rattle.layout.proofs.fill.Tie as tie
 
 abbrev Inv-loop : tie.InvT-loop

@@ -2,7 +2,7 @@
 use native.Mathlib.Omega.{arith}
 use borrow.Author.Needs.{needs}
 use Rattle.layout.proofs.laid_word.Statement.{statement}
-use Rattle.layout.proofs.Turns.{laid-header, laid-node, laid-cell, laid-thread, in-threads}
+use Rattle.layout.proofs.Loops.{laid-header, laid-node, laid-cell, laid-thread, in-threads}
 use Rattle.region.proofs.Shapes.{sizes}
 use Rattle.layout.proofs.laid_word.Tie as tie
 

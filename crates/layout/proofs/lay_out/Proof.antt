@@ -1,7 +1,7 @@
 -- `layout::lay_out` meets its contract: a refused call leaves the slice, an accepted one fills it. Assumes nothing.
 use borrow.Author.Needs.{needs}
 use Rattle.layout.proofs.lay_out.Statement.{statement}
-use Rattle.layout.proofs.Turns.{accepted, refused, laid-out}
+use Rattle.layout.proofs.Loops.{accepted, refused, laid-out}
 use Rattle.layout.proofs.lay_out.Tie as tie
 
 refusal-requires : tie.Need-refusal-requires

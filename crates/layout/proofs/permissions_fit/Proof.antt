@@ -1,7 +1,7 @@
 -- `layout::permissions_fit` meets its contract. Assumes nothing.
 use borrow.Author.Needs.{needs}
 use Rattle.layout.proofs.permissions_fit.Statement.{statement}
-use Rattle.layout.proofs.Turns.{other-count, same-count}
+use Rattle.layout.proofs.Loops.{other-count, same-count}
 use Rattle.layout.proofs.permissions_fit.Tie as tie
 
 cast-threads : tie.Need-cast-threads

@@ -3,7 +3,7 @@ use native.Mathlib.Omega.{arith}
 use borrow.Author.Needs.{needs}
 use Rattle.region.proofs.Shapes.{shape-in-range, few-words}
 use Rattle.layout.proofs.refusal.Statement.{statement}
-use Rattle.layout.proofs.Turns.{bad-shape, bad-permissions, bad-length, no-refusal}
+use Rattle.layout.proofs.Loops.{bad-shape, bad-permissions, bad-length, no-refusal}
 use Rattle.layout.proofs.refusal.Tie as tie
 
 fits-requires : tie.Need-fits-requires

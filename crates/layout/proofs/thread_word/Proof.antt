@@ -2,7 +2,8 @@
 use native.Mathlib.Omega.{arith}
 use borrow.Author.Needs.{needs}
 use Rattle.layout.proofs.thread_word.Statement.{statement}
-use Rattle.layout.proofs.Turns.{no-permission, permission}
+use Rattle.region.specs.Thread.{threadSize}
+use Rattle.layout.proofs.Loops.{no-permission, permission}
 use Prim.Native.Nat.{_/_}
 use Rattle.layout.proofs.thread_word.Tie as tie
 
@@ -13,7 +14,7 @@ shared-slice-read-result : tie.Need-shared-slice-read-result
 shared-slice-read-result c = search needs
 
 cast-result : tie.Need-cast-result
-cast-result c = omega (arith, c .shared-slice-known .given (c .before .before .args .j / 33))
+cast-result c = omega (arith, c .shared-slice-known .given (c .before .before .args .j / threadSize))
 
 returns-2 : tie.Need-returns-2
 returns-2 c = search permission

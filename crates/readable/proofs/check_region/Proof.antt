@@ -1,7 +1,7 @@
 -- `readable::check_region` meets its contract: as `is_readable`, in numbers. Assumes nothing.
 use borrow.Author.Needs.{needs}
 use Rattle.readable.proofs.check_region.Statement.{statement}
-use Rattle.readable.proofs.Turns.{check-not-whole, long-enough, fields-asked, check-yes, check-no}
+use Rattle.readable.proofs.Loops.{check-not-whole, long-enough, shape-asked, fields-asked, check-yes, check-no}
 use Rattle.readable.proofs.check_region.Tie as tie
 
 is-whole-requires : tie.Need-is-whole-requires
@@ -12,6 +12,9 @@ returns c = search check-not-whole
 
 load-shape-requires : tie.Need-load-shape-requires
 load-shape-requires c κs = search long-enough
+
+of-requires : tie.Need-of-requires
+of-requires c κs = search shape-asked
 
 fields-readable-requires : tie.Need-fields-readable-requires
 fields-readable-requires c κs = search fields-asked
@@ -29,6 +32,7 @@ check-region-spec =
     is-whole-requires
     returns
     load-shape-requires
+    of-requires
     fields-readable-requires
     returns-2
     returns-3)

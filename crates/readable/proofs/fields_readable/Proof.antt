@@ -1,14 +1,11 @@
 -- `readable::fields_readable` meets its contract. Assumes nothing.
 use borrow.Author.Needs.{needs}
 use Rattle.readable.proofs.fields_readable.Statement.{statement}
-use Rattle.readable.proofs.Turns.{tree-asks, threads-within, tree-bad, fields-rest}
+use Rattle.readable.proofs.Loops.{threads-asked, tree-bad, fields-rest}
 use Rattle.readable.proofs.fields_readable.Tie as tie
 
-of-requires : tie.Need-of-requires
-of-requires c κs = search needs
-
 tree-readable-requires : tie.Need-tree-readable-requires
-tree-readable-requires c κs = search tree-asks
+tree-readable-requires c κs = search needs
 
 returns : tie.Need-returns
 returns c = search tree-bad
@@ -20,7 +17,7 @@ slice-aggregate-threads-readable : tie.Need-slice-aggregate-threads-readable
 slice-aggregate-threads-readable c = search needs
 
 threads-readable-requires : tie.Need-threads-readable-requires
-threads-readable-requires c κs = search threads-within
+threads-readable-requires c κs = search threads-asked
 
 returns-2 : tie.Need-returns-2
 returns-2 c = search fields-rest
@@ -29,7 +26,6 @@ pub fields-readable-spec : {M : Type 1} → statement M
 fields-readable-spec =
     tie.close
     (tie.spec
-    of-requires
     tree-readable-requires
     returns
     thread-maxima-requires

@@ -1,7 +1,7 @@
 -- `readable::is_readable` meets its contract: a region that is not whole is not readable, else the fields decide. Assumes nothing.
 use borrow.Author.Needs.{needs}
 use Rattle.readable.proofs.is_readable.Statement.{statement}
-use Rattle.readable.proofs.Turns.{not-whole, long-enough, fields-asked, readable-rest}
+use Rattle.readable.proofs.Loops.{not-whole, long-enough, shape-asked, fields-asked, readable-rest}
 use Rattle.readable.proofs.is_readable.Tie as tie
 
 is-whole-requires : tie.Need-is-whole-requires
@@ -13,6 +13,9 @@ returns c = search not-whole
 load-shape-requires : tie.Need-load-shape-requires
 load-shape-requires c κs = search long-enough
 
+of-requires : tie.Need-of-requires
+of-requires c κs = search shape-asked
+
 fields-readable-requires : tie.Need-fields-readable-requires
 fields-readable-requires c κs = search fields-asked
 
@@ -22,4 +25,4 @@ returns-2 c = search readable-rest
 pub is-readable-spec : {M : Type 1} → statement M
 is-readable-spec =
     tie.close
-    (tie.spec is-whole-requires returns load-shape-requires fields-readable-requires returns-2)
+    (tie.spec is-whole-requires returns load-shape-requires of-requires fields-readable-requires returns-2)

@@ -3,7 +3,7 @@ use native.Mathlib.Omega.{arith}
 use borrow.Author.Needs.{needs}
 use Rattle.region.proofs.Shapes.{shape-in-range, few-words}
 use Rattle.readable.proofs.is_whole.Statement.{statement}
-use Rattle.readable.proofs.Turns.{too-short, shape-bad, length-decides}
+use Rattle.readable.proofs.Loops.{too-short, shape-bad, length-decides}
 use Rattle.readable.proofs.is_whole.Tie as tie
 
 returns : tie.Need-returns

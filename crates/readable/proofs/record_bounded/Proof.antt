@@ -1,7 +1,7 @@
 -- `readable::record_bounded` meets its contract: the first word that is too great decides. Assumes nothing.
 use borrow.Author.Needs.{needs}
 use Rattle.readable.proofs.record_bounded.Statement.{statement}
-use Rattle.readable.proofs.Turns.{first-word-bad, second-word-bad, third-word-decides}
+use Rattle.readable.proofs.Loops.{first-word-bad, second-word-bad, third-word-decides}
 use Rattle.readable.proofs.record_bounded.Tie as tie
 
 load-word-requires : tie.Need-load-word-requires

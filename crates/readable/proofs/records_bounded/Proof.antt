@@ -3,7 +3,7 @@ use native.Mathlib.Omega.{arith}
 use mathlib.Core.List.{[], _∷_}
 use Rattle.readable.proofs.records_bounded.Statement.{statement}
 use Rattle.readable.specs.Readable.{bounded}
-use Rattle.readable.proofs.Turns.{Scanned, scan-start, first-bad, second-bad, two-passed, none-left, one-left}
+use Rattle.readable.proofs.Loops.{Scanned, scan-start, first-bad, second-bad, two-passed, none-left, one-left}
 use Rattle.readable.proofs.records_bounded.Tie as tie
 
 abbrev Inv-loop : tie.InvT-loop

@@ -2,14 +2,15 @@
 use native.Mathlib.Omega.{arith}
 use Rattle.readable.proofs.threads_readable.Statement.{statement}
 use Rattle.readable.specs.Readable.{threadReadable}
-use Rattle.readable.proofs.Turns.{Scanned, scan-start, scan-more, scan-bad, scan-end, threads-ask}
+use Rattle.readable.proofs.Loops.{Scanned, scan-start, scan-more, scan-bad, scan-end, stride-within, threads-ask}
 use Rattle.readable.proofs.threads_readable.Tie as tie
 
 abbrev Inv-loop : tie.InvT-loop
-Inv-loop b at shape maxima k₀ left₀ k left = Scanned (threadReadable shape) 33 b at (shape .threads) k left
+Inv-loop b frame maxima shape k₀ left₀ k left =
+    Scanned (threadReadable (frame .shape)) (frame .stride) b (frame .threads) (frame .shape .threads) k left
 
 abbrev μ-loop : tie.MeasureT-loop
-μ-loop b at shape maxima k₀ left₀ k left = left
+μ-loop b frame maxima shape k₀ left₀ k left = left
 
 cast-left : tie.Need-cast-left Inv-loop μ-loop
 cast-left c = omega arith
@@ -24,7 +25,10 @@ returns : tie.Need-returns Inv-loop μ-loop
 returns c = search scan-bad
 
 add-k : tie.Need-add-k Inv-loop μ-loop
-add-k c = omega arith
+add-k c =
+    let l = c .before .before .before in
+    let fits = stride-within _ _ (c .before .before .before .before .before .before .before .before .before .pre) (l .before .loop .inv) (l .loop-test .taken) in
+    omega (arith, fits)
 
 sub-left : tie.Need-sub-left Inv-loop μ-loop
 sub-left c = omega arith

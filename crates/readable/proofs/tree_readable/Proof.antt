@@ -1,7 +1,7 @@
 -- `readable::tree_readable` meets its contract: the first test that fails decides. Assumes nothing.
 use borrow.Author.Needs.{needs}
 use Rattle.readable.proofs.tree_readable.Statement.{statement}
-use Rattle.readable.proofs.Turns.{depth-bad, free-bad, nodes-bad, tree-rest}
+use Rattle.readable.proofs.Loops.{depth-bad, free-bad, nodes-bad, tree-rest}
 use Rattle.readable.proofs.tree_readable.Tie as tie
 
 load-depth-requires : tie.Need-load-depth-requires

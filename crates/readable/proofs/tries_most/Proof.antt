@@ -1,7 +1,7 @@
 -- `readable::tries_most` meets its contract. Assumes nothing.
 use borrow.Author.Needs.{needs}
 use Rattle.readable.proofs.tries_most.Statement.{statement}
-use Rattle.readable.proofs.Turns.{tries-leaf, tries-else}
+use Rattle.readable.proofs.Loops.{tries-leaf, tries-else}
 use Rattle.readable.proofs.tries_most.Tie as tie
 
 sub-result : tie.Need-sub-result

@@ -1,7 +1,7 @@
 -- `readable::waiting_most` meets its contract. Assumes nothing.
 use borrow.Author.Needs.{needs}
 use Rattle.readable.proofs.waiting_most.Statement.{statement}
-use Rattle.readable.proofs.Turns.{not-mending, mending-none, mark-shift, mark-some, mending-marks}
+use Rattle.readable.proofs.Loops.{not-mending, mending-none, mark-shift, mark-some, mending-marks}
 use Rattle.readable.proofs.waiting_most.Tie as tie
 
 returns : tie.Need-returns

@@ -3,7 +3,7 @@ use native.Mathlib.Omega.{arith}
 use Rattle.readable.proofs.words_bounded.Statement.{statement}
 use Prim.Native.Nat.{_-_}
 use lib.ListN.{length}
-use Rattle.readable.proofs.Turns.{Passed, pass-start, pass-more, pass-bad, pass-end}
+use Rattle.readable.proofs.Loops.{Passed, pass-start, pass-more, pass-bad, pass-end}
 use Rattle.readable.proofs.words_bounded.Tie as tie
 
 abbrev Inv-loop : tie.InvT-loop

@@ -1,4 +1,4 @@
--- One turn of each loop and each way out of the functions, over plain variables. Assumes nothing.
+-- One pass of each loop and each way out of the functions, over plain variables. Assumes nothing.
 use Prim.Native.Nat.{ℕ, suc, _+_, _-_, _*_, _/_, _%_, _≤_, _<_}
 use native.Mathlib.Numerals.{add-one}
 use native.Mathlib.Omega.{arith}
@@ -14,34 +14,36 @@ use Rattle.words.proofs.Laws.{length-setWord}
 use Rattle.region.specs.Answer.{done, badShape, badLength}
 use Rattle.region.specs.Frame.{frameOf}
 use Rattle.region.specs.Pick.{pick}
-use Rattle.region.specs.Shape.{shapeFits, regionWords}
+use Rattle.region.specs.Record.{cellSize}
+use Rattle.region.specs.Shape.{headSize, shapeFits, regionWords}
+use Rattle.region.specs.Thread.{threadSize, greatestPermission}
 use Rattle.region.specs.declared.frame.Frame.{Frame}
 use Rattle.region.specs.declared.shape.Shape.{Shape}
 use Rattle.region.proofs.Shapes.{in-range}
-use Rattle.layout.specs.Layout.{LaidOut, atMost, permissionsFit, layoutRefusal, cellWord, threadWord, laidWord, laidWords, layoutBytes}
+use Rattle.layout.specs.Layout.{LaidOut, atMost, permissionsFit, layoutRefusal, nextWord, cellWord, threadWord, laidWord, laidWords, layoutBytes}
 use Rattle.layout.specs.Inner.{Accepted, Laying}
 
 -- The permissions: those not yet looked at decide.
 pub record Looked (ps : List ℕ) (i : ℕ) : Type 0 where
   pub within : i ≤ length ps
-  pub left : atMost 3 (drop i ps) ≡ atMost 3 ps
+  pub left : atMost greatestPermission (drop i ps) ≡ atMost greatestPermission ps
 
 pub look-start : (ps : List ℕ) → Looked ps 0
 look-start ps = record { within = omega arith; left = refl }
 
-pub look-more : {ps : List ℕ} {i : ℕ} → Looked ps i → i < length ps → getD ps i 0 ≤ 3 → Looked ps (i + 1)
+pub look-more : {ps : List ℕ} {i : ℕ} → Looked ps i → i < length ps → getD ps i 0 ≤ greatestPermission → Looked ps (i + 1)
 unfolding atMost
 look-more {ps} {i} e h l =
     record {
       within = omega arith;
-      left = rw add-one (rw (drop-cons ps i 0 h, le-leb (getD ps i 0) 3 l) at (e .left));
+      left = rw add-one (rw (drop-cons ps i 0 h, le-leb (getD ps i 0) greatestPermission l) at (e .left));
     }
 
-pub look-bad : {ps : List ℕ} {i : ℕ} → Looked ps i → i < length ps → 3 < getD ps i 0 → false ≡ atMost 3 ps
+pub look-bad : {ps : List ℕ} {i : ℕ} → Looked ps i → i < length ps → greatestPermission < getD ps i 0 → false ≡ atMost greatestPermission ps
 unfolding atMost
-look-bad {ps} {i} e h l = rw (drop-cons ps i 0 h, lt-leb (getD ps i 0) 3 l) at (e .left)
+look-bad {ps} {i} e h l = rw (drop-cons ps i 0 h, lt-leb (getD ps i 0) greatestPermission l) at (e .left)
 
-pub look-end : {ps : List ℕ} {i : ℕ} → Looked ps i → length ps ≤ i → true ≡ atMost 3 ps
+pub look-end : {ps : List ℕ} {i : ℕ} → Looked ps i → length ps ≤ i → true ≡ atMost greatestPermission ps
 unfolding atMost
 look-end {ps} {i} e h = rw (drop-of-length-le ps h) at (e .left)
 
@@ -49,7 +51,7 @@ pub other-count : (s : Shape) (ps : List ℕ) → (length ps ≡ s .threads → 
 unfolding permissionsFit
 other-count s ps n = rw (ne-eqb (length ps) (s .threads) n) refl
 
-pub same-count : (s : Shape) (ps : List ℕ) (r : Bool) → length ps ≡ s .threads → r ≡ atMost 3 ps → r ≡ permissionsFit s ps
+pub same-count : (s : Shape) (ps : List ℕ) (r : Bool) → length ps ≡ s .threads → r ≡ atMost greatestPermission ps → r ≡ permissionsFit s ps
 unfolding permissionsFit
 same-count s ps r e er = rw (eq-eqb (length ps) (s .threads) e) er
 
@@ -76,47 +78,47 @@ module _ (s : Shape) (ps : List ℕ) (l : ℕ) (q : Bool) (eq : q ≡ shapeFits 
 
 -- The words.
 module _ (cells j : ℕ) where
-  pub no-next : (j % 3 ≡ 2 → ⊥) → 0 ≡ cellWord cells j
+  pub no-next : (j % cellSize ≡ nextWord → ⊥) → 0 ≡ cellWord cells j
   unfolding cellWord pick
-  no-next n = rw (ne-eqb (j % 3) 2 n) refl
+  no-next n = rw (ne-eqb (j % cellSize) nextWord n) refl
 
-  pub next-cell : j % 3 ≡ 2 → j / 3 + 1 < cells → j / 3 + 1 + 1 ≡ cellWord cells j
+  pub next-cell : j % cellSize ≡ nextWord → j / cellSize + 1 < cells → j / cellSize + 1 + 1 ≡ cellWord cells j
   unfolding cellWord pick
-  next-cell e h = rw (eq-eqb (j % 3) 2 e, lt-ltb (j / 3 + 1) cells h) (omega arith)
+  next-cell e h = rw (eq-eqb (j % cellSize) nextWord e, lt-ltb (j / cellSize + 1) cells h) (omega arith)
 
-  pub last-cell : j % 3 ≡ 2 → cells ≤ j / 3 + 1 → 0 ≡ cellWord cells j
+  pub last-cell : j % cellSize ≡ nextWord → cells ≤ j / cellSize + 1 → 0 ≡ cellWord cells j
   unfolding cellWord pick
-  last-cell e h = rw (eq-eqb (j % 3) 2 e, le-ltb (j / 3 + 1) cells h) refl
+  last-cell e h = rw (eq-eqb (j % cellSize) nextWord e, le-ltb (j / cellSize + 1) cells h) refl
 
 module _ (ps : List ℕ) (j : ℕ) where
-  pub no-permission : (j % 33 ≡ 0 → ⊥) → 0 ≡ threadWord ps j
+  pub no-permission : (j % threadSize ≡ 0 → ⊥) → 0 ≡ threadWord ps j
   unfolding threadWord pick
-  no-permission n = rw (ne-eqb (j % 33) 0 n) refl
+  no-permission n = rw (ne-eqb (j % threadSize) 0 n) refl
 
-  pub permission : j % 33 ≡ 0 → getD ps (j / 33) 0 ≡ threadWord ps j
+  pub permission : j % threadSize ≡ 0 → getD ps (j / threadSize) 0 ≡ threadWord ps j
   unfolding threadWord pick
-  permission e = rw (eq-eqb (j % 33) 0 e) refl
+  permission e = rw (eq-eqb (j % threadSize) 0 e) refl
 
 module _ (s : Shape) (ps : List ℕ) (k c t : ℕ) (g : Laying s ps k c t) where
-  pub laid-header : k < 6 → getD (s .depth ∷ s .cells ∷ s .threads ∷ s .threshold ∷ 1 ∷ 1 ∷ []) k 0 ≡ laidWord s ps k
+  pub laid-header : k < headSize → getD (s .depth ∷ s .cells ∷ s .threads ∷ s .threshold ∷ 1 ∷ 1 ∷ []) k 0 ≡ laidWord s ps k
   unfolding laidWord pick
-  laid-header h = rw (lt-ltb k 6 h) refl
+  laid-header h = rw (lt-ltb k headSize h) refl
 
-  module _ (h₁ : 6 ≤ k) where
+  module _ (h₁ : headSize ≤ k) where
     pub laid-node : k < c → 0 ≡ laidWord s ps k
     unfolding laidWord pick
-    laid-node h = rw (le-ltb k 6 h₁, ← g .cells-at, lt-ltb k c h) refl
+    laid-node h = rw (le-ltb k headSize h₁, ← g .cells-at, lt-ltb k c h) refl
 
     module _ (h₂ : c ≤ k) (r : ℕ) where
       pub laid-cell : k < t → r ≡ cellWord (s .cells) (k - c) → r ≡ laidWord s ps k
       unfolding laidWord pick
-      laid-cell h e = rw (le-ltb k 6 h₁, ← g .threads-at, ← g .cells-at, le-ltb k c h₂, lt-ltb k t h) e
+      laid-cell h e = rw (le-ltb k headSize h₁, ← g .threads-at, ← g .cells-at, le-ltb k c h₂, lt-ltb k t h) e
 
       pub laid-thread : t ≤ k → r ≡ threadWord ps (k - t) → r ≡ laidWord s ps k
       unfolding laidWord pick
-      laid-thread h e = rw (le-ltb k 6 h₁, ← g .threads-at, ← g .cells-at, le-ltb k c h₂, le-ltb k t h) e
+      laid-thread h e = rw (le-ltb k headSize h₁, ← g .threads-at, ← g .cells-at, le-ltb k c h₂, le-ltb k t h) e
 
-  pub in-threads : t ≤ k → k - t < 33 * length ps
+  pub in-threads : t ≤ k → k - t < threadSize * length ps
   unfolding regionWords frameOf
   in-threads h = omega (arith, g .within, g .threads-at, g .permissions)
 
@@ -181,9 +183,9 @@ module _ {s : Shape} {ps : List ℕ} {c t n : ℕ} {b₀ b : List ℕ} {k : ℕ}
 -- The whole call.
 module _ (s : Shape) (ps : List ℕ) (l : ℕ) where
   -- what a layout that is not refused shows
-  no-refusals : (q p a m : Bool) → shapeFits s ≡ q → eqb (length ps) (s .threads) ≡ p → atMost 3 ps ≡ a
+  no-refusals : (q p a m : Bool) → shapeFits s ≡ q → eqb (length ps) (s .threads) ≡ p → atMost greatestPermission ps ≡ a
       → eqb l (4 * regionWords s) ≡ m → pick (q && (p && a)) (pick m done badLength) badShape ≡ done
-      → Accepted s ps l × (atMost 3 ps ≡ true)
+      → Accepted s ps l × (atMost greatestPermission ps ≡ true)
   unfolding pick
   no-refusals true true true true eq ep ea em z = (
     record {
@@ -198,16 +200,16 @@ module _ (s : Shape) (ps : List ℕ) (l : ℕ) where
   no-refusals true false a m eq ep ea em z = absurd (omega arith)
   no-refusals false p a m eq ep ea em z = absurd (omega arith)
 
-  not-refused : (r : ℕ) → r ≡ layoutRefusal s ps l → r ≡ done → Accepted s ps l × (atMost 3 ps ≡ true)
+  not-refused : (r : ℕ) → r ≡ layoutRefusal s ps l → r ≡ done → Accepted s ps l × (atMost greatestPermission ps ≡ true)
   unfolding layoutRefusal permissionsFit pick
   not-refused r e d =
-      no-refusals (shapeFits s) (eqb (length ps) (s .threads)) (atMost 3 ps) (eqb l (4 * regionWords s)) refl refl refl refl
+      no-refusals (shapeFits s) (eqb (length ps) (s .threads)) (atMost greatestPermission ps) (eqb l (4 * regionWords s)) refl refl refl refl
       (sym e ∙ d)
 
   pub accepted : (r : ℕ) → r ≡ layoutRefusal s ps l → r ≡ done → Accepted s ps l
   accepted r e d = not-refused r e d .0
 
-  pub permitted : (r : ℕ) → r ≡ layoutRefusal s ps l → r ≡ done → atMost 3 ps ≡ true
+  pub permitted : (r : ℕ) → r ≡ layoutRefusal s ps l → r ≡ done → atMost greatestPermission ps ≡ true
   permitted r e d = not-refused r e d .1
 
 pub refused : (s : Shape) (ps b : List ℕ) (r : ℕ) → r ≡ layoutRefusal s ps (length b) → (r ≡ done → ⊥) → LaidOut s ps b b r

@@ -1,6 +1,6 @@
--- One turn of each loop and each way out of the functions, over plain variables. Assumes nothing.
+-- One pass of each loop and each way out of the functions, over plain variables. Assumes nothing.
 use Prim.Native.Nat.{ℕ, suc, _+_, _-_, _*_, _%_, _^_, _≤_, _<_}
-use native.Mathlib.Nat.{add-suc, add-zero}
+use native.Mathlib.Nat.{add-suc, add-zero, mul-le-mul-left}
 use native.Mathlib.Numerals.{add-one}
 use native.Mathlib.Omega.{arith}
 use mathlib.Core.Path.{_≡_, refl, sym, ap, subst, subst₂, _∙_}
@@ -13,17 +13,18 @@ use lib.Pow.{pow-pos}
 use lib.Seq.{drop-cons}
 use Rattle.words.specs.Word.{word}
 use Rattle.region.specs.Frame.{frameOf}
-use Rattle.region.specs.Inner.{Within}
+use Rattle.region.specs.Inner.{InRange}
 use Rattle.region.specs.Level.{level}
 use Rattle.region.specs.Pick.{pick}
 use Rattle.region.specs.Shape.{between, shapeFits, nodeCount, regionWords}
-use Rattle.region.specs.Thread.{threadSize}
+use Rattle.region.specs.Record.{nodeSize, cellSize}
+use Rattle.region.specs.Thread.{placeWord, triesWord, nodeWord, waitingWord}
 use Rattle.region.specs.declared.frame.Frame.{Frame}
 use Rattle.region.specs.declared.shape.Shape.{Shape}
 use Rattle.region.proofs.Frames.{frame-within}
 use Rattle.region.proofs.Levels.{level-most}
 use Rattle.region.proofs.Shapes.{and-left, and-right, in-range, shifted}
-use Rattle.readable.specs.Readable.{nodeMaxima, cellMaxima, threadMaxima, triesMost, waitingMost, bounded, threadReadable, allRecords, treeReadable, fieldsReadable, shapeIn, isWhole, readable, checkAnswer}
+use Rattle.readable.specs.Readable.{threadMaxima, triesMost, waitingMost, bounded, nodeReadable, cellReadable, threadReadable, allRecords, treeReadable, fieldsReadable, shapeIn, frameIn, isWhole, readable, checkAnswer}
 use Rattle.readable.specs.Inner.{FieldsAsked, ThreadAsked, ThreadsAsked}
 
 -- A record of three words.
@@ -109,7 +110,7 @@ module _ {test : List ℕ → ℕ → Bool} {stride : ℕ} {b : List ℕ} {at n 
       let j : 0 ≡ m = omega arith in
       ap (allRecords test stride b k) j ∙ e .left
 
--- Two records in a turn.
+-- Two records in a pass.
 module _ {test : List ℕ → ℕ → Bool} {stride : ℕ} {b : List ℕ} {at n k m : ℕ} (e : Scanned test stride b at n k m)
     (h : 1 < m) (q : Bool) (eq : q ≡ test b k) where
   pub first-bad : not q ≡ true → false ≡ allRecords test stride b at n
@@ -179,13 +180,13 @@ module _ (s : Shape) (b : List ℕ) (at : ℕ) (q : Bool) (ms : List ℕ) (g : T
   unfolding threadReadable
   thread-bad n = rw (← words-test, not-true q n) refl
 
-  module _ (gq : not q ≡ false) (p : ℕ) (ep : p ≡ word b (at + 1)) (m : ℕ) (em : m ≡ triesMost s p) (t : ℕ)
-      (et : t ≡ word b (at + 7)) where
+  module _ (gq : not q ≡ false) (p : ℕ) (ep : p ≡ word b (at + placeWord)) (m : ℕ) (em : m ≡ triesMost s p) (t : ℕ)
+      (et : t ≡ word b (at + triesWord)) where
     pub tries-bad : m < t → false ≡ threadReadable s b at
     unfolding threadReadable
     tries-bad h = rw (← words-test, not-false q gq, ← ep, ← em, ← et, lt-leb t m h) refl
 
-    pub thread-rest : t ≤ m → (w : ℕ) → w ≡ word b (at + 11) → (n : ℕ) → n ≡ word b (at + 10) → (x : ℕ) → x ≡ waitingMost p n
+    pub thread-rest : t ≤ m → (w : ℕ) → w ≡ word b (at + waitingWord) → (n : ℕ) → n ≡ word b (at + nodeWord) → (x : ℕ) → x ≡ waitingMost p n
         → leb w x ≡ threadReadable s b at
     unfolding threadReadable
     thread-rest h w ew n en x ex =
@@ -209,9 +210,9 @@ module _ (f : Frame) (b : List ℕ) (d : ℕ) (ed : d ≡ word b (f .depth)) (q 
     free-bad h = rw (← depth-test, not-false q gq, ← ec, lt-leb c (f .shape .cells) h) refl
 
     module _ (h : c ≤ f .shape .cells) (k : ℕ) (ek : k ≡ nodeCount (f .shape)) (n : Bool)
-        (en : n ≡ allRecords (λ l at. bounded l at (nodeMaxima (f .shape .cells))) 3 b (f .nodes) k) where
-      nodes-test : n ≡ allRecords (λ l at. bounded l at (nodeMaxima (f .shape .cells))) 3 b (f .nodes) (nodeCount (f .shape))
-      nodes-test = en ∙ ap (allRecords (λ l at. bounded l at (nodeMaxima (f .shape .cells))) 3 b (f .nodes)) ek
+        (en : n ≡ allRecords (nodeReadable (f .shape .cells)) nodeSize b (f .nodes) k) where
+      nodes-test : n ≡ allRecords (nodeReadable (f .shape .cells)) nodeSize b (f .nodes) (nodeCount (f .shape))
+      nodes-test = en ∙ ap (allRecords (nodeReadable (f .shape .cells)) nodeSize b (f .nodes)) ek
 
       pub nodes-bad : not n ≡ true → false ≡ treeReadable f b
       unfolding treeReadable
@@ -219,49 +220,36 @@ module _ (f : Frame) (b : List ℕ) (d : ℕ) (ed : d ≡ word b (f .depth)) (q 
           rw (← depth-test, not-false q gq, ← ec, le-leb c (f .shape .cells) h, ← nodes-test, not-true n z) refl
 
       pub tree-rest : not n ≡ false → (r : Bool)
-          → r ≡ allRecords (λ l at. bounded l at (cellMaxima (f .shape .cells))) 3 b (f .cells) (f .shape .cells)
+          → r ≡ allRecords (cellReadable (f .shape .cells)) cellSize b (f .cells) (f .shape .cells)
           → r ≡ treeReadable f b
       unfolding treeReadable
       tree-rest z r er =
           rw (← depth-test, not-false q gq, ← ec, le-leb c (f .shape .cells) h, ← nodes-test, not-false n z) er
 
-pub threads-ask : {s : Shape} {b : List ℕ} {at : ℕ} {ms : List ℕ} (k m : ℕ) → ThreadsAsked s b at ms
-    → Scanned (threadReadable s) 33 b at (s .threads) k m → 0 < m → ThreadAsked s b k ms
-threads-ask {s} {b} {at} {ms} k m g e h = record { shape = g .shape; within = omega arith; maxima = g .maxima }
+-- The threads: the record at word k ends within the part.
+module _ {f : Frame} {b ms : List ℕ} (k m : ℕ) (g : ThreadsAsked f b ms)
+    (e : Scanned (threadReadable (f .shape)) (f .stride) b (f .threads) (f .shape .threads) k m) (h : 0 < m) where
+  pub stride-within : 4 * (k + f .stride) ≤ length b
+  stride-within = omega (arith, e .within, g .within .threads, mul-le-mul-left (f .stride) h)
 
--- Every field behind the shape.
-threads-end : (s : Shape) (l : ℕ) → Within (frameOf s) l → 4 * (frameOf s .threads + threadSize * s .threads) ≤ l
-unfolding frameOf
-threads-end s l w = w .threads
+  pub threads-ask : ThreadAsked (f .shape) b k ms
+  threads-ask =
+      record { shape = g .shape; within = omega (arith, stride-within, g .within .stride); maxima = g .maxima }
 
-module _ (s : Shape) (b : List ℕ) (g : FieldsAsked s (length b)) (f : Frame) (ef : f ≡ frameOf s) where
-  pub tree-asks : Within f (length b)
-  tree-asks = subst (λ x. Within x (length b)) (sym ef) (frame-within s (length b) (g .shape) (g .exact))
-
-  pub threads-within : (ms : List ℕ) → ms ≡ threadMaxima s → ThreadsAsked s b (f .threads) ms
-  threads-within ms em =
-      let w : Within (frameOf s) (length b) = frame-within s (length b) (g .shape) (g .exact) in
-      record {
-        shape = g .shape;
-        within = subst (λ x. 4 * (x .threads + threadSize * s .threads) ≤ length b) (sym ef) (threads-end s (length b) w);
-        maxima = em;
-      }
+-- Every field of the frame's parts.
+module _ (f : Frame) (b : List ℕ) where
+  pub threads-asked : FieldsAsked f (length b) → (ms : List ℕ) → ms ≡ threadMaxima (f .shape) → ThreadsAsked f b ms
+  threads-asked g ms em = record { shape = g .shape; within = g .within; maxima = em }
 
   module _ (t : Bool) (et : t ≡ treeReadable f b) where
-    tree-test : t ≡ treeReadable (frameOf s) b
-    tree-test = et ∙ ap (λ x. treeReadable x b) ef
-
-    pub tree-bad : not t ≡ true → false ≡ fieldsReadable s b
+    pub tree-bad : not t ≡ true → false ≡ fieldsReadable f b
     unfolding fieldsReadable
-    tree-bad n = rw (← tree-test, not-true t n) refl
+    tree-bad n = rw (← et, not-true t n) refl
 
-    pub fields-rest : not t ≡ false → (r : Bool) → r ≡ allRecords (threadReadable s) 33 b (f .threads) (s .threads)
-        → r ≡ fieldsReadable s b
+    pub fields-rest : not t ≡ false → (r : Bool)
+        → r ≡ allRecords (threadReadable (f .shape)) (f .stride) b (f .threads) (f .shape .threads) → r ≡ fieldsReadable f b
     unfolding fieldsReadable
-    fields-rest n r er =
-        rw
-        (← tree-test, not-false t n)
-        (er ∙ ap (λ x. allRecords (threadReadable s) 33 b (x .threads) (s .threads)) ef)
+    fields-rest n r er = rw (← et, not-false t n) er
 
 -- The shape and the length: the first test that fails decides.
 pub too-short : (b : List ℕ) → length b < 16 → false ≡ isWhole b
@@ -307,23 +295,31 @@ module _ (b : List ℕ) (q : Bool) (eq : q ≡ isWhole b) where
     long-enough = omega (arith, exact-length)
 
     module _ (s : Shape) (es : s ≡ shapeIn b) where
-      pub fields-asked : FieldsAsked s (length b)
-      fields-asked =
-          subst (λ x. FieldsAsked x (length b)) (sym es)
-          (record {
-            shape = in-range (shapeIn b) (and-left (shapeFits (shapeIn b)) (eqb (length b) (4 * regionWords (shapeIn b))) whole);
-            exact = exact-length;
-          })
+      pub shape-asked : InRange s
+      shape-asked =
+          subst InRange (sym es)
+          (in-range (shapeIn b) (and-left (shapeFits (shapeIn b)) (eqb (length b) (4 * regionWords (shapeIn b))) whole))
 
-      module _ (r : Bool) (er : r ≡ fieldsReadable s b) where
-        pub readable-rest : r ≡ readable b
-        unfolding readable
-        readable-rest = rw (← eq, not-false q gq) (er ∙ ap (λ x. fieldsReadable x b) es)
+      module _ (f : Frame) (ef : f ≡ frameOf s) where
+        frame-is : f ≡ frameIn b
+        frame-is = ef ∙ ap frameOf es
 
-        pub check-yes : r ≡ true → 0 ≡ checkAnswer b
-        unfolding checkAnswer pick
-        check-yes t = rw (← readable-rest, t) refl
+        pub fields-asked : FieldsAsked f (length b)
+        unfolding frameOf
+        fields-asked =
+            subst (λ x. FieldsAsked x (length b)) (sym frame-is)
+            (let r : InRange (shapeIn b) = subst InRange es shape-asked in
+            record { shape = r; within = frame-within (shapeIn b) (length b) r exact-length })
 
-        pub check-no : r ≡ false → 7 ≡ checkAnswer b
-        unfolding checkAnswer pick
-        check-no t = rw (← readable-rest, t) refl
+        module _ (r : Bool) (er : r ≡ fieldsReadable f b) where
+          pub readable-rest : r ≡ readable b
+          unfolding readable
+          readable-rest = rw (← eq, not-false q gq) (er ∙ ap (λ x. fieldsReadable x b) frame-is)
+
+          pub check-yes : r ≡ true → 0 ≡ checkAnswer b
+          unfolding checkAnswer pick
+          check-yes t = rw (← readable-rest, t) refl
+
+          pub check-no : r ≡ false → 7 ≡ checkAnswer b
+          unfolding checkAnswer pick
+          check-no t = rw (← readable-rest, t) refl
