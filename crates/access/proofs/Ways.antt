@@ -2,10 +2,13 @@
 use Prim.Native.Nat.{ℕ, _+_, _*_, _≤_, _<_, _^_}
 use native.Mathlib.Omega.{arith}
 use mathlib.Core.Path.{_≡_, refl, sym, ap, subst, _∙_}
-use mathlib.Core.Bool.{Bool, true, false, true≢false}
-use mathlib.Core.List.{List}
+use mathlib.Core.Bool.{Bool, true, false, not}
+use mathlib.Core.List.{List, [], _∷_}
 use borrow.Author.Tests.{ltb-true, ltb-false, leb-true, leb-false, eqb-true, eqb-false, le-leb, lt-leb, eq-eqb, ne-eqb}
-use lib.Dec.{leb, ltb, eqb}
+use denote.Enum.Declared.{tagOf}
+use lib.Dec.{T, leb, ltb, eqb}
+use mir.Val.{hasKey}
+use types.Run.{OneOf, miss}
 use Rattle.words.specs.Word.{word, setWord}
 use Rattle.region.specs.Pick.{pick}
 use Rattle.region.specs.Record.{zeroItem}
@@ -19,11 +22,12 @@ use Rattle.region.specs.declared.record.NodeCopy.{NodeCopy}
 use Rattle.region.specs.declared.shape.Shape.{Shape}
 use Rattle.region.proofs.Shapes.{below, from-least}
 use Rattle.access.specs.Effect.{effectBytes, freedBytes, pushBytes}
-use Rattle.access.specs.Inner.{Only, OnlyAsked}
+use Rattle.access.specs.Inner.{cleaning, exchanging, growing, kindOf, ofKind, popping, pushing, reading}
 use Rattle.access.specs.Order.{itemLe, topItem, valueOf}
 use Rattle.access.specs.Read.{isNode, isSpent, readNode, sameNode}
 use Rattle.access.specs.declared.effect.Effect.{Effect}
 use Rattle.access.specs.declared.effect.Effect.the-variants.{Nothing, Grow, Push, Pop, Exchange, Clean}
+use Rattle.access.proofs.effect.Effect.{the-type}
 
 -- a key counts more than a tag, which is one word
 pub by-rank : (a b : Item) (x y : ℕ) → x ≡ a .key * 2 ^ 32 + a .tag → y ≡ b .key * 2 ^ 32 + b .tag → a .tag < 2 ^ 32
@@ -81,8 +85,26 @@ module _ (s : Shape) (n : ℕ) where
   unfolding isNode
   some-node h k e = ap (leb n) e ∙ from-least 1 n (nodeCount s) h
 
-another-kind : (k j : ℕ) → k ≡ j → eqb k j ≡ false → ⊥
-another-kind k j e n = true≢false (sym (eq-eqb k j e) ∙ n)
+-- the kinds but k
+abbrev also : Bool → ℕ → List ℕ → List ℕ
+also true x xs = x ∷ xs
+also false x xs = xs
+
+abbrev without : ℕ → List ℕ → List ℕ
+without k [] = []
+without k (x ∷ xs) = also (not (eqb x k)) x (without k xs)
+
+abbrev others : ℕ → List ℕ
+others k = without k (reading ∷ growing ∷ pushing ∷ popping ∷ exchanging ∷ cleaning ∷ [])
+
+-- a kind's number is its variant's tag
+tag-kind : (e : Effect) → tagOf the-type e ≡ kindOf e
+tag-kind Nothing = refl
+tag-kind (Grow d) = refl
+tag-kind (Push n v c x) = refl
+tag-kind (Pop v c) = refl
+tag-kind (Exchange n v c w) = refl
+tag-kind (Clean n v) = refl
 
 module _ (f : Frame) (b : List ℕ) where
   pub node-read : (n : ℕ) (x : Node) (c : Cell) → x ≡ nodeIn f b n → c ≡ cellIn f b (x .first)
@@ -102,45 +124,35 @@ module _ (f : Frame) (b : List ℕ) where
   cell-pushed b₁ b₂ n v c x h eh e₁ e₂ =
       e₂ ∙ (λ i. setCellIn f (e₁ i) c (record { item = eh i .item; next = x }))
 
+  -- Carrying an effect out: it is of the kind, or of another.
   module _ (e : Effect) where
-    pub nothing-done : e ≡ Nothing → b ≡ effectBytes f b e
-    unfolding effectBytes
-    nothing-done p = rw p refl
-
-    pub grown : (b′ : List ℕ) (d : ℕ) → e ≡ Grow d → b′ ≡ setWord b (f .depth) d → b′ ≡ effectBytes f b e
-    unfolding effectBytes
+    pub grown : (b′ : List ℕ) (d : ℕ) → e ≡ Grow d → b′ ≡ setWord b (f .depth) d → b′ ≡ effectBytes f b (ofKind growing e)
+    unfolding effectBytes ofKind pick
     grown b′ d p q = rw p q
 
-    pub pushed : (b′ : List ℕ) (n : ℕ) (v : Node) (c x : ℕ) → e ≡ Push n v c x → b′ ≡ pushBytes f b n v c x → b′ ≡ effectBytes f b e
-    unfolding effectBytes
+    pub pushed : (b′ : List ℕ) (n : ℕ) (v : Node) (c x : ℕ) → e ≡ Push n v c x → b′ ≡ pushBytes f b n v c x
+        → b′ ≡ effectBytes f b (ofKind pushing e)
+    unfolding effectBytes ofKind pick
     pushed b′ n v c x p q = rw p q
 
-    pub popped : (b₁ b′ : List ℕ) (v : Node) (c : ℕ) → e ≡ Pop v c → b₁ ≡ setNodeIn f b 1 v → b′ ≡ freedBytes f b₁ c → b′ ≡ effectBytes f b e
-    unfolding effectBytes
+    pub popped : (b₁ b′ : List ℕ) (v : Node) (c : ℕ) → e ≡ Pop v c → b₁ ≡ setNodeIn f b 1 v → b′ ≡ freedBytes f b₁ c
+        → b′ ≡ effectBytes f b (ofKind popping e)
+    unfolding effectBytes ofKind pick
     popped b₁ b′ v c p q r = rw p (r ∙ ap (λ l. freedBytes f l c) q)
 
     pub exchanged : (b₁ b′ : List ℕ) (n : ℕ) (v : Node) (k : ℕ) (w : Node) → e ≡ Exchange n v k w → b₁ ≡ setNodeIn f b n v
-        → b′ ≡ setNodeIn f b₁ k w → b′ ≡ effectBytes f b e
-    unfolding effectBytes
+        → b′ ≡ setNodeIn f b₁ k w → b′ ≡ effectBytes f b (ofKind exchanging e)
+    unfolding effectBytes ofKind pick
     exchanged b₁ b′ n v k w p q r = rw p (r ∙ ap (λ l. setNodeIn f l k w) q)
 
-    pub cleaned : (b′ : List ℕ) (n : ℕ) (v : Node) → e ≡ Clean n v → b′ ≡ setNodeIn f b n v → b′ ≡ effectBytes f b e
-    unfolding effectBytes
+    pub cleaned : (b′ : List ℕ) (n : ℕ) (v : Node) → e ≡ Clean n v → b′ ≡ setNodeIn f b n v → b′ ≡ effectBytes f b (ofKind cleaning e)
+    unfolding effectBytes ofKind pick
     cleaned b′ n v p q = rw p q
 
-    -- an effect of another kind does not come
-    module _ (l k : ℕ) (h : OnlyAsked f l k e) where
-      pub no-growth : (d : ℕ) → e ≡ Grow d → eqb k 1 ≡ false → b ≡ effectBytes f b e
-      no-growth d p n = absurd (another-kind k 1 (subst (Only k) p (h .only)) n)
-
-      pub no-push : (n : ℕ) (v : Node) (c x : ℕ) → e ≡ Push n v c x → eqb k 2 ≡ false → b ≡ effectBytes f b e
-      no-push n v c x p z = absurd (another-kind k 2 (subst (Only k) p (h .only)) z)
-
-      pub no-pop : (v : Node) (c : ℕ) → e ≡ Pop v c → eqb k 3 ≡ false → b ≡ effectBytes f b e
-      no-pop v c p z = absurd (another-kind k 3 (subst (Only k) p (h .only)) z)
-
-      pub no-exchange : (n : ℕ) (v : Node) (c : ℕ) (w : Node) → e ≡ Exchange n v c w → eqb k 4 ≡ false → b ≡ effectBytes f b e
-      no-exchange n v c w p z = absurd (another-kind k 4 (subst (Only k) p (h .only)) z)
-
-      pub no-cleaning : (n : ℕ) (v : Node) → e ≡ Clean n v → eqb k 5 ≡ false → b ≡ effectBytes f b e
-      no-cleaning n v p z = absurd (another-kind k 5 (subst (Only k) p (h .only)) z)
+    pub left-out : (k : ℕ) → OneOf (others k) (tagOf the-type e) → T (not (hasKey (others k) k)) → b ≡ effectBytes f b (ofKind k e)
+    unfolding effectBytes ofKind pick
+    left-out k h n = go (eqb (kindOf e) k) refl
+      where
+        go : (q : Bool) → eqb (kindOf e) k ≡ q → b ≡ effectBytes f b (pick q e Nothing)
+        go true g = absurd (miss (others k) k n (subst (OneOf (others k)) (tag-kind e ∙ eqb-true (kindOf e) k g) h))
+        go false g = refl

@@ -1,21 +1,37 @@
 -- What only the contracts of inner functions and the proofs need. A reader of the result may skip this file.
 use Prim.Native.Nat.{ℕ}
-use mathlib.Core.Path.{_≡_}
-use Rattle.region.specs.Inner.{Within}
-use Rattle.region.specs.declared.frame.Frame.{Frame}
+use lib.Dec.{eqb}
+use Rattle.region.specs.Pick.{pick}
 use Rattle.access.specs.declared.effect.Effect.{Effect}
 use Rattle.access.specs.declared.effect.Effect.the-variants.{Nothing, Grow, Push, Pop, Exchange, Clean}
 
--- nothing, or an effect of kind k: growth 1, push 2, pop 3, exchange 4, cleaning 5
-abbrev pub Only : ℕ → Effect → Type 0
-Only k Nothing = Unit
-Only k (Grow d) = k ≡ 1
-Only k (Push n v c x) = k ≡ 2
-Only k (Pop v c) = k ≡ 3
-Only k (Exchange n v c w) = k ≡ 4
-Only k (Clean n v) = k ≡ 5
+-- the kinds of effects, numbered in the order of `Effect`; a place that only reads has the effect nothing
+abbrev pub reading : ℕ
+reading = 0
 
--- what carrying out one kind of effect asks, within l bytes
-pub record OnlyAsked (f : Frame) (l k : ℕ) (e : Effect) : Type 0 where
-  pub within : Within f l
-  pub only : Only k e
+abbrev pub growing : ℕ
+growing = 1
+
+abbrev pub pushing : ℕ
+pushing = 2
+
+abbrev pub popping : ℕ
+popping = 3
+
+abbrev pub exchanging : ℕ
+exchanging = 4
+
+abbrev pub cleaning : ℕ
+cleaning = 5
+
+abbrev pub kindOf : Effect → ℕ
+kindOf Nothing = reading
+kindOf (Grow d) = growing
+kindOf (Push n v c x) = pushing
+kindOf (Pop v c) = popping
+kindOf (Exchange n v c w) = exchanging
+kindOf (Clean n v) = cleaning
+
+-- the effect if it is of kind k, else nothing
+unfoldable pub ofKind : ℕ → Effect → Effect
+ofKind k e = pick (eqb (kindOf e) k) e Nothing

@@ -1,8 +1,9 @@
 -- What a turn decides: the effect on shared memory, the thread's record afterwards, and the answer.
 use Prim.Native.Nat.{ℕ}
+use mathlib.Core.Bool.{Bool, true, false}
 use Rattle.region.specs.Thread.{atPlace}
 use Rattle.region.specs.declared.answer.Answer.{Answer}
-use Rattle.region.specs.declared.answer.Answer.the-variants.{Moved, Refused}
+use Rattle.region.specs.declared.answer.Answer.the-variants.{Moved, Idle, Inserted, Took, Empty, Refused}
 use Rattle.region.specs.declared.place.Place.{Place}
 use Rattle.region.specs.declared.thread.Thread.{Thread}
 use Rattle.access.specs.declared.effect.Effect.{Effect}
@@ -26,3 +27,21 @@ onTo t p = moved (atPlace t p)
 unfoldable pub refused : Thread → ℕ → Plan
 unfolding plan
 refused t n = plan Nothing t (Refused n)
+
+-- a turn that leaves the region alone: idle or refused
+abbrev pub staysPut : Answer → Bool
+staysPut Moved = false
+staysPut Idle = true
+staysPut Inserted = false
+staysPut (Took i) = false
+staysPut Empty = false
+staysPut (Refused n) = true
+
+-- the answers with which an operation ends: "inserted, took or empty"
+abbrev pub ends : Answer → Bool
+ends Moved = false
+ends Idle = false
+ends Inserted = true
+ends (Took i) = true
+ends Empty = true
+ends (Refused n) = false

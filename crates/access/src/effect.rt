@@ -3,7 +3,7 @@ ghost use mathlib.Core.Path.{_≡_};
 ghost use lib.ListN.{length};
 ghost use Rattle.region.specs.Inner.{Within};
 ghost use Rattle.access.specs.Effect.{effectBytes, freedBytes, pushBytes};
-ghost use Rattle.access.specs.Inner.{OnlyAsked};
+ghost use Rattle.access.specs.Inner.{cleaning, exchanging, growing, ofKind, popping, pushing};
 use region::Cell;
 use region::Frame;
 use region::Item;
@@ -61,96 +61,67 @@ fn push(f: Frame, b: &mut [u8], node: u32, value: Node, cell: u32, next: u32)
     f.store_cell(b, cell, Cell { next, ..held });
 }
 
-// Carrying an effect out, one function for each kind, which is short enough for the compiler to copy into each place. Each asks
-// that the effect is nothing or of its kind; the arms of the other kinds do not come.
+// Carrying an effect out, one function for each kind, which is short enough for the compiler to copy into each place. An
+// effect of another kind is left out; no place decides one.
 
 // The present depth grows (I4).
 pub fn carry_growth(f: Frame, b: &mut [u8], effect: Effect)
-    requires { ⌜ OnlyAsked f (length (now b)) 1 effect ⌝ }
-    ensures { λ r. ⌜ now (b .exit) ≡ effectBytes f (now (b .entry)) effect ⌝ }
+    requires { ⌜ Within f (length (now b)) ⌝ }
+    ensures { λ r. ⌜ now (b .exit) ≡ effectBytes f (now (b .entry)) (ofKind growing effect) ⌝ }
 {
-    match effect {
-        Effect::Nothing => {}
-        Effect::Grow(depth) => f.store_depth(b, depth),
-        Effect::Push { .. } => {}
-        Effect::Pop { .. } => {}
-        Effect::Exchange { .. } => {}
-        Effect::Clean { .. } => {}
+    if let Effect::Grow(depth) = effect {
+        f.store_depth(b, depth);
     }
 }
 
 // A cell becomes the head of a node's list (I6, I8).
 pub fn carry_push(f: Frame, b: &mut [u8], effect: Effect)
-    requires { ⌜ OnlyAsked f (length (now b)) 2 effect ⌝ }
-    ensures { λ r. ⌜ now (b .exit) ≡ effectBytes f (now (b .entry)) effect ⌝ }
+    requires { ⌜ Within f (length (now b)) ⌝ }
+    ensures { λ r. ⌜ now (b .exit) ≡ effectBytes f (now (b .entry)) (ofKind pushing effect) ⌝ }
 {
-    match effect {
-        Effect::Nothing => {}
-        Effect::Grow(_) => {}
-        Effect::Push {
-            node,
-            value,
-            cell,
-            next,
-        } => push(f, b, node, value, cell, next),
-        Effect::Pop { .. } => {}
-        Effect::Exchange { .. } => {}
-        Effect::Clean { .. } => {}
+    if let Effect::Push {
+        node,
+        value,
+        cell,
+        next,
+    } = effect {
+        push(f, b, node, value, cell, next);
     }
 }
 
 // The root's head leaves its list, and its cell is freed (E2).
 pub fn carry_pop(f: Frame, b: &mut [u8], effect: Effect)
-    requires { ⌜ OnlyAsked f (length (now b)) 3 effect ⌝ }
-    ensures { λ r. ⌜ now (b .exit) ≡ effectBytes f (now (b .entry)) effect ⌝ }
+    requires { ⌜ Within f (length (now b)) ⌝ }
+    ensures { λ r. ⌜ now (b .exit) ≡ effectBytes f (now (b .entry)) (ofKind popping effect) ⌝ }
 {
-    match effect {
-        Effect::Nothing => {}
-        Effect::Grow(_) => {}
-        Effect::Push { .. } => {}
-        Effect::Pop { value, cell } => {
-            f.store_node(b, 1, value);
-            free_cell(f, b, cell);
-        }
-        Effect::Exchange { .. } => {}
-        Effect::Clean { .. } => {}
+    if let Effect::Pop { value, cell } = effect {
+        f.store_node(b, 1, value);
+        free_cell(f, b, cell);
     }
 }
 
 // A node and its child exchange lists (M5).
 pub fn carry_exchange(f: Frame, b: &mut [u8], effect: Effect)
-    requires { ⌜ OnlyAsked f (length (now b)) 4 effect ⌝ }
-    ensures { λ r. ⌜ now (b .exit) ≡ effectBytes f (now (b .entry)) effect ⌝ }
+    requires { ⌜ Within f (length (now b)) ⌝ }
+    ensures { λ r. ⌜ now (b .exit) ≡ effectBytes f (now (b .entry)) (ofKind exchanging effect) ⌝ }
 {
-    match effect {
-        Effect::Nothing => {}
-        Effect::Grow(_) => {}
-        Effect::Push { .. } => {}
-        Effect::Pop { .. } => {}
-        Effect::Exchange {
-            node,
-            value,
-            child,
-            below,
-        } => {
-            f.store_node(b, node, value);
-            f.store_node(b, child, below);
-        }
-        Effect::Clean { .. } => {}
+    if let Effect::Exchange {
+        node,
+        value,
+        child,
+        below,
+    } = effect {
+        f.store_node(b, node, value);
+        f.store_node(b, child, below);
     }
 }
 
 // A node becomes clean (M6).
 pub fn carry_cleaning(f: Frame, b: &mut [u8], effect: Effect)
-    requires { ⌜ OnlyAsked f (length (now b)) 5 effect ⌝ }
-    ensures { λ r. ⌜ now (b .exit) ≡ effectBytes f (now (b .entry)) effect ⌝ }
+    requires { ⌜ Within f (length (now b)) ⌝ }
+    ensures { λ r. ⌜ now (b .exit) ≡ effectBytes f (now (b .entry)) (ofKind cleaning effect) ⌝ }
 {
-    match effect {
-        Effect::Nothing => {}
-        Effect::Grow(_) => {}
-        Effect::Push { .. } => {}
-        Effect::Pop { .. } => {}
-        Effect::Exchange { .. } => {}
-        Effect::Clean { node, value } => f.store_node(b, node, value),
+    if let Effect::Clean { node, value } = effect {
+        f.store_node(b, node, value);
     }
 }

@@ -17,7 +17,7 @@ use Rattle.region.specs.Place.{placeNumber}
 use Rattle.region.specs.Record.{greatestKey, greatestTag}
 use Rattle.region.specs.Shape.{between}
 use Rattle.region.specs.Shared.{loadEntry, sharedIn, cellIn, setCellIn, threadIn, setThreadIn}
-use Rattle.region.specs.Thread.{begunPut, begunTake, goneIdle, idleThread}
+use Rattle.region.specs.Thread.{begunPut, begunTake, idleThread}
 use Rattle.region.specs.declared.answer.Answer.{Answer}
 use Rattle.region.specs.declared.answer.Answer.the-variants.{Idle, Refused}
 use Rattle.region.specs.declared.frame.Frame.{Frame}
@@ -27,48 +27,14 @@ use Rattle.region.specs.declared.record.Cell.{Cell}
 use Rattle.region.specs.declared.record.Item.{Item}
 use Rattle.region.specs.declared.thread.Thread.{Thread}
 use Rattle.region.proofs.Views.{length-setCellIn}
-use Rattle.access.specs.Effect.{effectBytes}
-use Rattle.access.specs.Inner.{Only}
 use Rattle.access.specs.Plan.{plan, refused}
-use Rattle.access.specs.declared.effect.Effect.{Effect}
-use Rattle.access.specs.declared.effect.Effect.the-variants.{Nothing, Grow, Push, Pop, Exchange, Clean}
 use Rattle.access.specs.declared.plan.Plan.{Plan}
 use Rattle.readable.specs.Readable.{readable, shapeIn}
 use Rattle.readable.proofs.Laws.{readable-within}
+use Rattle.turns.specs.Inner.{Ended}
 use Rattle.machine.specs.Begin.{PutBegun, TakeBegun, frameIn, isIdle, isItem, mayPut, mayTake, acceptedPut, hasFreeCell, putBytes, putRefusal, takeBytes, takeRefusal}
-use Rattle.machine.specs.Turn.{Turned, TurnedOn, carriedOut, decide, decideAt, ends, staysPut, turnAnswer, turnBytes, turnOnAnswer, turnOnBytes, turnPlan}
-use Rattle.machine.specs.Inner.{Carried, EndAsked, PutBackAsked}
-
--- no kind of effect is 0
-no-effect : (f : Frame) (b : List ℕ) (e : Effect) → Only 0 e → effectBytes f b e ≡ b
-unfolding effectBytes
-no-effect f b Nothing h = refl
-no-effect f b (Grow d) h = absurd (omega arith)
-no-effect f b (Push n v c x) h = absurd (omega arith)
-no-effect f b (Pop v c) h = absurd (omega arith)
-no-effect f b (Exchange n v c w) h = absurd (omega arith)
-no-effect f b (Clean n v) h = absurd (omega arith)
-
--- Storing a record: an ended operation's is idle as it stands.
-pub put-idle : (f : Frame) (b b′ : List ℕ) (n l : ℕ) (t u : Thread) (a : Answer) → PutBackAsked f l t a → (q : Bool) → q ≡ ends a
-    → q ≡ true → u ≡ goneIdle t → b′ ≡ setThreadIn f b n u → b′ ≡ setThreadIn f b n t
-put-idle f b b′ n l t u a h q eq g eu e = e ∙ ap (setThreadIn f b n) (eu ∙ sym (h .idle (sym eq ∙ g)))
-
--- Carrying a plan out: nothing, the record and the effect, or the record alone.
-module _ (f : Frame) (b : List ℕ) (t : ℕ) (p : Plan) (q : Bool) (eq : q ≡ staysPut (p .answer)) where
-  pub stayed : q ≡ true → Carried f b b t p (p .answer)
-  unfolding carriedOut pick
-  stayed g = record { answer = refl; bytes = rw (← eq, g) refl }
-
-  module _ (g : q ≡ false) where
-    pub carried : (b₁ b₂ : List ℕ) → b₁ ≡ setThreadIn f b t (p .thread) → b₂ ≡ effectBytes f b₁ (p .effect)
-        → Carried f b b₂ t p (p .answer)
-    unfolding carriedOut pick
-    carried b₁ b₂ e₁ e₂ =
-        record { answer = refl; bytes = rw (← eq, g) (e₂ ∙ ap (λ l. effectBytes f l (p .effect)) e₁) }
-
-    pub kept : (l : ℕ) (b′ : List ℕ) → EndAsked f l 0 p → b′ ≡ setThreadIn f b t (p .thread) → Carried f b b′ t p (p .answer)
-    kept l b′ h e = carried b′ b′ e (sym (no-effect f b′ (p .effect) (h .only)))
+use Rattle.machine.specs.Turn.{Turned, TurnedOn, carriedOut, decide, decideAt, turnAnswer, turnBytes, turnOnAnswer, turnOnBytes, turnPlan}
+use Rattle.machine.proofs.PlaceEffects.{kindAt, plan-fits}
 
 -- A turn: refused for want of a thread, idle, or the plan that the thread's place decides is carried out.
 module _ (f : Frame) (b : List ℕ) (t c : ℕ) where
@@ -87,23 +53,26 @@ module _ (f : Frame) (b : List ℕ) (t c : ℕ) where
   planned e = rw e refl
 
   module _ (here : Thread) (eh : here ≡ threadIn f b t) (z : Place) (ez : here .place ≡ z) where
-    served : between 1 t (f .shape .threads) ≡ true → (b′ : List ℕ) (x : Thread) (p : Plan) (r : Answer)
-        → p ≡ decideAt (f .shape) (sharedIn f b) x c z → x ≡ threadIn f b t → Carried f b b′ t p r → Turned f b b′ t c r
-    unfolding turnAnswer turnBytes decide
-    served e b′ x p r ep ex k =
-        let ey : p ≡ turnPlan f b t c =
-        ep
-        ∙ ap (λ y. decideAt (f .shape) (sharedIn f b) y c z) ex
-        ∙ ap (decideAt (f .shape) (sharedIn f b) (threadIn f b t) c) (sym ez ∙ ap (λ y. y .place) eh)
-        ∙ planned e in
-        record { answer = k .answer ∙ ap (λ y. y .answer) ey; bytes = k .bytes ∙ ap (carriedOut f b t) ey }
+    -- the plan of the place at which the thread stands
+    abbrev planAt : Plan
+    planAt = decideAt (f .shape) (sharedIn f b) (threadIn f b t) c z
 
-    pub turned : eqb (placeNumber z) 0 ≡ false → (b′ : List ℕ) (x : Thread) (p : Plan) (r : Answer)
-        → p ≡ decideAt (f .shape) (sharedIn f b) x c z → x ≡ threadIn f b t → Carried f b b′ t p r → Turned f b b′ t c r
-    turned n =
-        served
-        (exists (between 1 t (f .shape .threads)) refl
-        (ap (λ y. eqb (placeNumber (y .place)) 0) (sym eh) ∙ ap (λ y. eqb (placeNumber y) 0) ez ∙ n))
+    placed : between 1 t (f .shape .threads) ≡ true → planAt ≡ turnPlan f b t c
+    unfolding decide
+    placed e = ap (decideAt (f .shape) (sharedIn f b) (threadIn f b t) c) (sym ez ∙ ap (λ y. y .place) eh) ∙ planned e
+
+    busy : eqb (placeNumber z) 0 ≡ false → between 1 t (f .shape .threads) ≡ true
+    busy n =
+        exists (between 1 t (f .shape .threads)) refl
+        (ap (λ y. eqb (placeNumber (y .place)) 0) (sym eh) ∙ ap (λ y. eqb (placeNumber y) 0) ez ∙ n)
+
+    pub turned : eqb (placeNumber z) 0 ≡ false → (b′ : List ℕ) (r : Answer) → Ended (kindAt z) f b b′ t planAt r → Turned f b b′ t c r
+    unfolding turnAnswer turnBytes
+    turned n b′ r h =
+        record {
+          answer = h .answer ∙ ap (λ y. y .answer) (placed (busy n));
+          bytes = h .bytes ∙ plan-fits (f .shape) (sharedIn f b) (threadIn f b t) c z .carried f b t ∙ ap (carriedOut f b t) (placed (busy n));
+        }
 
   module _ (q : Bool) (eq : q ≡ between 1 t (f .shape .threads)) where
     unplanned : not q ≡ true → refused (idleThread 0) badThread ≡ turnPlan f b t c
@@ -116,10 +85,10 @@ module _ (f : Frame) (b : List ℕ) (t c : ℕ) where
         record { answer = ap (λ y. y .answer) (unplanned n); bytes = ap (carriedOut f b t) (unplanned n) }
 
     pub rested : not q ≡ false → (here : Thread) → here ≡ threadIn f b t → here .place ≡ AtRest → Turned f b b t c Idle
-    unfolding carriedOut plan pick
+    unfolding turnAnswer turnBytes carriedOut plan pick
     rested n here eh ez =
-        served here eh AtRest ez (sym eq ∙ not-false q n) b here (plan Nothing here Idle) Idle refl eh
-        (record { answer = refl; bytes = refl })
+        let e : planAt here eh AtRest ez ≡ turnPlan f b t c = placed here eh AtRest ez (sym eq ∙ not-false q n) in
+        record { answer = ap (λ y. y .answer) e; bytes = ap (carriedOut f b t) e }
 
 -- What a beginning asks of a thread and an item.
 module _ (i : Item) where

@@ -1,5 +1,4 @@
 -- One turn, the two beginnings and a run, on a region's bytes.
 pub mod Begin
-pub mod Inner
 pub mod Run
 pub mod Turn

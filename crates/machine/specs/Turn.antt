@@ -1,7 +1,6 @@
 -- One turn: "A turn makes that place's access and all local work up to the next" (document 01, The sixteen places).
 use Prim.Native.Nat.{ℕ}
 use mathlib.Core.Path.{_≡_}
-use mathlib.Core.Bool.{Bool, true, false}
 use mathlib.Core.List.{List}
 use Rattle.region.specs.Answer.{badThread, unreadable}
 use Rattle.region.specs.Frame.{frameOf}
@@ -10,7 +9,7 @@ use Rattle.region.specs.Shape.{between}
 use Rattle.region.specs.Shared.{Shared, sharedIn, threadIn, setThreadIn}
 use Rattle.region.specs.Thread.{idleThread}
 use Rattle.region.specs.declared.answer.Answer.{Answer}
-use Rattle.region.specs.declared.answer.Answer.the-variants.{Moved, Idle, Inserted, Took, Empty, Refused}
+use Rattle.region.specs.declared.answer.Answer.the-variants.{Idle, Refused}
 use Rattle.region.specs.declared.frame.Frame.{Frame}
 use Rattle.region.specs.declared.place.Place.{Place}
 use Rattle.region.specs.declared.place.Place.the-variants.{Idle as AtRest, ReadDepth, ReadLeaf, ReadAncestor, GrowDepth, ReadTarget, InsertAtRoot, ReadParent, InsertBelow, ReadRoot, RemoveHead, MendReadNode, MendReadDepth, MendReadLeft, MendReadRight, MendSwap, MendClean}
@@ -18,6 +17,7 @@ use Rattle.region.specs.declared.shape.Shape.{Shape}
 use Rattle.region.specs.declared.thread.Thread.{Thread}
 use Rattle.access.specs.Effect.{effectBytes}
 use Rattle.access.specs.Plan.{plan, refused}
+pub use Rattle.access.specs.Plan.{ends, staysPut}
 use Rattle.access.specs.declared.effect.Effect.the-variants.{Nothing}
 use Rattle.access.specs.declared.plan.Plan.{Plan}
 use Rattle.readable.specs.Readable.{readable, shapeIn}
@@ -58,15 +58,6 @@ turnPlan f b t c =
     (decide (f .shape) (sharedIn f b) (threadIn f b t) c)
     (refused (idleThread 0) badThread)
 
--- a turn that leaves the region alone: idle or refused
-abbrev pub staysPut : Answer → Bool
-staysPut Moved = false
-staysPut Idle = true
-staysPut Inserted = false
-staysPut (Took i) = false
-staysPut Empty = false
-staysPut (Refused n) = true
-
 unfoldable pub turnAnswer : Frame → List ℕ → ℕ → ℕ → Answer
 unfolding turnPlan
 turnAnswer f b t c = turnPlan f b t c .answer
@@ -74,15 +65,6 @@ turnAnswer f b t c = turnPlan f b t c .answer
 -- the region afterwards: the thread's record is stored and the effect carried out, or no byte changes
 unfoldable pub carriedOut : Frame → List ℕ → ℕ → Plan → List ℕ
 carriedOut f b t p = pick (staysPut (p .answer)) b (effectBytes f (setThreadIn f b t (p .thread)) (p .effect))
-
--- the answers with which an operation ends: "inserted, took or empty"
-abbrev pub ends : Answer → Bool
-ends Moved = false
-ends Idle = false
-ends Inserted = true
-ends (Took i) = true
-ends Empty = true
-ends (Refused n) = false
 
 unfoldable pub turnBytes : Frame → List ℕ → ℕ → ℕ → List ℕ
 unfolding turnPlan carriedOut

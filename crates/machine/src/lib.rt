@@ -1,8 +1,57 @@
-// One turn of a thread, and the beginnings of a put and a take, on a region's bytes.
+// One turn of a thread, made at the place where it stands; and the beginnings of a put and a take. On a region's bytes.
 mod beginnings;
-mod turns;
 
+ghost use lib.ListN.{length};
+ghost use Rattle.region.specs.Inner.{Within};
+ghost use Rattle.machine.specs.Turn.{Turned, TurnedOn};
 pub use beginnings::begin_put;
 pub use beginnings::begin_take;
-pub use turns::turn;
-pub use turns::turn_on;
+use region::Answer;
+use region::BAD_THREAD;
+use region::Frame;
+use region::Place;
+use region::UNREADABLE;
+
+// A turn of thread n, with its choice of a leaf. Refused 3, 7, 11 in that order; a refused or idle turn changes no byte. The
+// record is loaded here for its place alone; each place loads it for itself.
+pub fn turn(f: Frame, b: &mut [u8], n: u32, choice: u32) -> Answer
+    requires { ⌜ Within f (length (now b)) ⌝ }
+    ensures { λ r. ⌜ Turned f (now (b .entry)) (now (b .exit)) n choice r ⌝ }
+{
+    let shape = f.shape;
+    if !region::is_between(1, n, shape.threads) {
+        return Answer::Refused(BAD_THREAD);
+    }
+    let here = f.load_thread(b, n);
+    let place = here.place;
+    match place {
+        Place::Idle => Answer::Idle,
+        Place::ReadDepth => turns::turn_read_depth(f, b, n),
+        Place::ReadLeaf => turns::turn_read_leaf(f, b, n, choice),
+        Place::ReadAncestor => turns::turn_read_ancestor(f, b, n),
+        Place::GrowDepth => turns::turn_grow_depth(f, b, n),
+        Place::ReadTarget => turns::turn_read_target(f, b, n),
+        Place::InsertAtRoot => turns::turn_insert_at_root(f, b, n),
+        Place::ReadParent => turns::turn_read_parent(f, b, n),
+        Place::InsertBelow => turns::turn_insert_below(f, b, n),
+        Place::ReadRoot => turns::turn_read_root(f, b, n),
+        Place::RemoveHead => turns::turn_remove_head(f, b, n),
+        Place::MendReadNode(w) => turns::turn_mend_read_node(f, b, n, w),
+        Place::MendReadDepth(w) => turns::turn_mend_read_depth(f, b, n, w),
+        Place::MendReadLeft(w) => turns::turn_mend_read_left(f, b, n, w),
+        Place::MendReadRight(w) => turns::turn_mend_read_right(f, b, n, w),
+        Place::MendSwap(w) => turns::turn_mend_swap(f, b, n, w),
+        Place::MendClean(w) => turns::turn_mend_clean(f, b, n, w),
+    }
+}
+
+// A turn by itself on a whole region: refused 7 where the region is not readable, then as `turn`.
+pub fn turn_on(b: &mut [u8], thread: u32, choice: u32) -> Answer
+    ensures { λ r. ⌜ TurnedOn (now (b .entry)) (now (b .exit)) thread choice r ⌝ }
+{
+    if !readable::is_readable(b) {
+        return Answer::Refused(UNREADABLE);
+    }
+    let f = readable::frame_of(b);
+    turn(f, b, thread, choice)
+}

@@ -1,70 +1,17 @@
--- `access::effect::carry_pop` meets its contract: nothing, or a pop. Assumes nothing.
+-- `access::effect::carry_pop` meets its contract: a pop, or none. Assumes nothing.
 use borrow.Author.Needs.{needs}
+use Rattle.access.specs.Inner.{popping}
 use Rattle.access.proofs.effect.carry_pop.Statement.{statement}
-use Rattle.access.proofs.Ways.{nothing-done, popped, no-growth, no-push, no-exchange, no-cleaning}
+use Rattle.access.proofs.Ways.{popped, left-out}
 use Rattle.access.proofs.effect.carry_pop.Tie as tie
-
-enum-told : tie.Need-enum-told
-enum-told c = search needs
-
-enum-told-2 : tie.Need-enum-told-2
-enum-told-2 c = search needs
-
-enum-told-3 : tie.Need-enum-told-3
-enum-told-3 c = search needs
-
-enum-known-effect : tie.Need-enum-known-effect
-enum-known-effect c = search needs
-
-store-node-requires : tie.Need-store-node-requires
-store-node-requires c κs = search needs
-
-free-cell-requires : tie.Need-free-cell-requires
-free-cell-requires c κs = search needs
-
-enum-told-4 : tie.Need-enum-told-4
-enum-told-4 c = search needs
-
-enum-told-5 : tie.Need-enum-told-5
-enum-told-5 c = search needs
-
-returns : tie.Need-returns
-returns c = search nothing-done
-
-returns-2 : tie.Need-returns-2
-returns-2 c = search no-growth
-
-returns-3 : tie.Need-returns-3
-returns-3 c = search no-push
-
-same-length : tie.Need-same-length
-same-length c = search needs
-
-returns-4 : tie.Need-returns-4
-returns-4 c = search popped
-
-returns-5 : tie.Need-returns-5
-returns-5 c = search no-exchange
-
-returns-6 : tie.Need-returns-6
-returns-6 c = search no-cleaning
 
 pub carry-pop-spec : {M : Type 1} → statement M
 carry-pop-spec =
     tie.close
     (tie.spec
-    enum-told
-    enum-told-2
-    enum-told-3
-    enum-known-effect
-    store-node-requires
-    free-cell-requires
-    enum-told-4
-    enum-told-5
-    returns
-    returns-2
-    returns-3
-    same-length
-    returns-4
-    returns-5
-    returns-6)
+    (λ c. search needs)
+    (λ c κs. search needs)
+    (λ c κs. search needs)
+    (λ c. search needs)
+    (λ c. search popped)
+    (λ c. left-out _ _ _ popping (c .match .keys2) tt))

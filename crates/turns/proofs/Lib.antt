@@ -1,0 +1,2 @@
+-- What the functions of all places share.
+mod Ways

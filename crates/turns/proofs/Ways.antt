@@ -1,0 +1,78 @@
+-- The ways out of the functions, over plain variables: storing a plan's record, and the end of a turn at any place. Assumes nothing.
+use Prim.Native.Nat.{ℕ}
+use mathlib.Core.Path.{_≡_, refl, ap, _∙_}
+use mathlib.Core.Bool.{Bool, true, false}
+use mathlib.Core.List.{List}
+use Rattle.region.specs.Pick.{pick}
+use Rattle.region.specs.Shared.{Shared, setThreadIn, sharedIn, threadIn}
+use Rattle.region.specs.Thread.{goneIdle}
+use Rattle.region.specs.declared.answer.Answer.{Answer}
+use Rattle.region.specs.declared.frame.Frame.{Frame}
+use Rattle.region.specs.declared.shape.Shape.{Shape}
+use Rattle.region.specs.declared.thread.Thread.{Thread}
+use Rattle.access.specs.Effect.{effectBytes}
+use Rattle.access.specs.Inner.{ofKind, reading}
+use Rattle.access.specs.Plan.{ends, staysPut}
+use Rattle.access.specs.declared.effect.Effect.{Effect}
+use Rattle.access.specs.declared.effect.Effect.the-variants.{Nothing, Grow, Push, Pop, Exchange, Clean}
+use Rattle.access.specs.declared.plan.Plan.{Plan}
+use Rattle.turns.specs.Inner.{Ended, Stored, recordBytes}
+
+-- Storing a plan's record: none, that of an ended operation, or another.
+module _ (f : Frame) (b : List ℕ) (n : ℕ) (p : Plan) (q : Bool) (eq : q ≡ staysPut (p .answer)) where
+  pub none-stored : q ≡ true → Stored f b b n p (p .answer)
+  unfolding recordBytes pick
+  none-stored g = record { answer = refl; bytes = rw (← eq, g) refl }
+
+  module _ (g : q ≡ false) (b′ : List ℕ) (w : Bool) (ew : w ≡ ends (p .answer)) where
+    pub idle-stored : w ≡ true → (u : Thread) → u ≡ goneIdle (p .thread) → b′ ≡ setThreadIn f b n u → Stored f b b′ n p (p .answer)
+    unfolding recordBytes pick
+    idle-stored z u eu e = record { answer = refl; bytes = rw (← eq, g, ← ew, z) (e ∙ ap (setThreadIn f b n) eu) }
+
+    pub record-stored : w ≡ false → b′ ≡ setThreadIn f b n (p .thread) → Stored f b b′ n p (p .answer)
+    unfolding recordBytes pick
+    record-stored z e = record { answer = refl; bytes = rw (← eq, g, ← ew, z) e }
+
+-- The end of a turn: D is the plan that the place decides, by the shape, shared memory and the thread's record, and in two of the laws
+-- by a number, the choice or the waiting levels.
+
+no-effect : (f : Frame) (b : List ℕ) (e : Effect) → b ≡ effectBytes f b (ofKind reading e)
+unfolding effectBytes ofKind pick
+no-effect f b Nothing = refl
+no-effect f b (Grow d) = refl
+no-effect f b (Push n v c x) = refl
+no-effect f b (Pop v c) = refl
+no-effect f b (Exchange n v c w) = refl
+no-effect f b (Clean n v) = refl
+
+module _ (D : Shape → Shared → Thread → Plan) (f : Frame) (b b₁ : List ℕ) (n : ℕ) (x : Thread) (p : Plan)
+    (r : Answer) (ex : x ≡ threadIn f b n) (ep : p ≡ D (f .shape) (sharedIn f b) x) (h : Stored f b b₁ n p r) where
+  abbrev plan : Plan
+  plan = D (f .shape) (sharedIn f b) (threadIn f b n)
+
+  decided : p ≡ plan
+  decided = ep ∙ ap (D (f .shape) (sharedIn f b)) ex
+
+  -- with an effect of kind k
+  pub changes : (k : ℕ) (b₂ : List ℕ) → b₂ ≡ effectBytes f b₁ (ofKind k (p .effect)) → Ended k f b b₂ n plan r
+  changes k b₂ e₂ =
+      record {
+        answer = h .answer ∙ ap (λ q. q .answer) decided;
+        bytes =
+            e₂
+            ∙ ap (λ l. effectBytes f l (ofKind k (p .effect))) (h .bytes)
+            ∙ ap (λ q. effectBytes f (recordBytes f b n q) (ofKind k (q .effect))) decided;
+      }
+
+  -- with none
+  pub reads : Ended reading f b b₁ n plan r
+  reads = changes reading b₁ (no-effect f b₁ (p .effect))
+
+module _ (D : Shape → Shared → Thread → ℕ → Plan) (f : Frame) (b b₁ : List ℕ) (n w : ℕ) (x : Thread) (p : Plan)
+    (r : Answer) (ex : x ≡ threadIn f b n) (ep : p ≡ D (f .shape) (sharedIn f b) x w) (h : Stored f b b₁ n p r) where
+  pub changes-by : (k : ℕ) (b₂ : List ℕ) → b₂ ≡ effectBytes f b₁ (ofKind k (p .effect))
+      → Ended k f b b₂ n (D (f .shape) (sharedIn f b) (threadIn f b n) w) r
+  changes-by = changes (λ s m t. D s m t w) f b b₁ n x p r ex ep h
+
+  pub reads-by : Ended reading f b b₁ n (D (f .shape) (sharedIn f b) (threadIn f b n) w) r
+  reads-by = reads (λ s m t. D s m t w) f b b₁ n x p r ex ep h

@@ -1,0 +1,17 @@
+-- `turns::turn_grow_depth` meets its contract. Assumes nothing.
+use borrow.Author.Needs.{needs}
+use Rattle.insert.specs.Insert.{growDepth}
+use Rattle.turns.proofs.turn_grow_depth.Statement.{statement}
+use Rattle.turns.proofs.Ways.{changes}
+use Rattle.turns.proofs.turn_grow_depth.Tie as tie
+
+pub turn-grow-depth-spec : {M : Type 1} → statement M
+turn-grow-depth-spec =
+    tie.close
+    (tie.spec
+    (λ c κs. search needs)
+    (λ c κs. search needs)
+    (λ c κs. search needs)
+    (λ c κs. search needs)
+    (λ c. search needs)
+    (λ c. search (changes (growDepth))))

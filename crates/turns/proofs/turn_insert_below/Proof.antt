@@ -1,0 +1,17 @@
+-- `turns::turn_insert_below` meets its contract. Assumes nothing.
+use borrow.Author.Needs.{needs}
+use Rattle.insert.specs.Insert.{insertBelow}
+use Rattle.turns.proofs.turn_insert_below.Statement.{statement}
+use Rattle.turns.proofs.Ways.{changes}
+use Rattle.turns.proofs.turn_insert_below.Tie as tie
+
+pub turn-insert-below-spec : {M : Type 1} → statement M
+turn-insert-below-spec =
+    tie.close
+    (tie.spec
+    (λ c κs. search needs)
+    (λ c κs. search needs)
+    (λ c κs. search needs)
+    (λ c κs. search needs)
+    (λ c. search needs)
+    (λ c. search (changes (λ s. insertBelow))))

@@ -1,0 +1,16 @@
+-- `turns::turn_read_ancestor` meets its contract. Assumes nothing.
+use borrow.Author.Needs.{needs}
+use Rattle.insert.specs.Insert.{readAncestor}
+use Rattle.turns.proofs.turn_read_ancestor.Statement.{statement}
+use Rattle.turns.proofs.Ways.{reads}
+use Rattle.turns.proofs.turn_read_ancestor.Tie as tie
+
+pub turn-read-ancestor-spec : {M : Type 1} → statement M
+turn-read-ancestor-spec =
+    tie.close
+    (tie.spec
+    (λ c κs. search needs)
+    (λ c κs. search needs)
+    (λ c κs. search needs)
+    (λ c. search needs)
+    (λ c. search (reads (λ s. readAncestor))))

@@ -1,0 +1,16 @@
+-- `turns::turn_read_root` meets its contract. Assumes nothing.
+use borrow.Author.Needs.{needs}
+use Rattle.extract.specs.Extract.{readRoot}
+use Rattle.turns.proofs.turn_read_root.Statement.{statement}
+use Rattle.turns.proofs.Ways.{reads}
+use Rattle.turns.proofs.turn_read_root.Tie as tie
+
+pub turn-read-root-spec : {M : Type 1} → statement M
+turn-read-root-spec =
+    tie.close
+    (tie.spec
+    (λ c κs. search needs)
+    (λ c κs. search needs)
+    (λ c κs. search needs)
+    (λ c. search needs)
+    (λ c. search (reads (λ s. readRoot))))

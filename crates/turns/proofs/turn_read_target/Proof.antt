@@ -1,0 +1,16 @@
+-- `turns::turn_read_target` meets its contract. Assumes nothing.
+use borrow.Author.Needs.{needs}
+use Rattle.insert.specs.Insert.{readTarget}
+use Rattle.turns.proofs.turn_read_target.Statement.{statement}
+use Rattle.turns.proofs.Ways.{reads}
+use Rattle.turns.proofs.turn_read_target.Tie as tie
+
+pub turn-read-target-spec : {M : Type 1} → statement M
+turn-read-target-spec =
+    tie.close
+    (tie.spec
+    (λ c κs. search needs)
+    (λ c κs. search needs)
+    (λ c κs. search needs)
+    (λ c. search needs)
+    (λ c. search (reads (λ s. readTarget))))

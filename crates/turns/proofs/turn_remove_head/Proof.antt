@@ -1,0 +1,17 @@
+-- `turns::turn_remove_head` meets its contract. Assumes nothing.
+use borrow.Author.Needs.{needs}
+use Rattle.extract.specs.Extract.{removeHead}
+use Rattle.turns.proofs.turn_remove_head.Statement.{statement}
+use Rattle.turns.proofs.Ways.{changes}
+use Rattle.turns.proofs.turn_remove_head.Tie as tie
+
+pub turn-remove-head-spec : {M : Type 1} → statement M
+turn-remove-head-spec =
+    tie.close
+    (tie.spec
+    (λ c κs. search needs)
+    (λ c κs. search needs)
+    (λ c κs. search needs)
+    (λ c κs. search needs)
+    (λ c. search needs)
+    (λ c. search (changes (λ s. removeHead))))

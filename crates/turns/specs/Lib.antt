@@ -1,0 +1,2 @@
+-- What a turn at a place leaves.
+pub mod Inner

@@ -1,0 +1,226 @@
+// A whole turn at each of the sixteen places: the thread's record is loaded, the place decides a plan, the record is stored and
+// the plan's effect carried out. The record is stored first, while the fields that the turn left alone are known to be in their
+// places. Each place has a function of its own, so that its compiled code reads and writes the fields that it needs and no others.
+ghost use mathlib.Core.Path.{_≡_};
+ghost use lib.ListN.{length};
+ghost use Rattle.region.specs.Inner.{Within};
+ghost use Rattle.region.specs.Shared.{sharedIn, threadIn};
+ghost use Rattle.access.specs.Inner.{cleaning, exchanging, growing, popping, pushing, reading};
+ghost use Rattle.access.specs.Plan.{ends, staysPut};
+ghost use Rattle.extract.specs.Extract.{readRoot, removeHead};
+ghost use Rattle.insert.specs.Insert.{growDepth, insertAtRoot, insertBelow, readAncestor, readDepth, readLeaf, readParent, readTarget};
+ghost use Rattle.moundify.specs.Moundify.{mendClean, mendReadDepth, mendReadLeft, mendReadNode, mendReadRight, mendSwap};
+ghost use Rattle.turns.specs.Inner.{Ended, Stored};
+use access::Plan;
+use region::Answer;
+use region::Frame;
+
+// Whether a turn with this answer leaves the region alone.
+fn leaves_alone(answer: Answer) -> bool
+    ensures { λ r. ⌜ r ≡ staysPut answer ⌝ }
+{
+    match answer {
+        Answer::Moved => false,
+        Answer::Idle => true,
+        Answer::Inserted => false,
+        Answer::Took(_) => false,
+        Answer::Empty => false,
+        Answer::Refused(_) => true,
+    }
+}
+
+// Whether an operation ends with this answer.
+fn ends(answer: Answer) -> bool
+    ensures { λ r. ⌜ r ≡ ends answer ⌝ }
+{
+    match answer {
+        Answer::Moved => false,
+        Answer::Idle => false,
+        Answer::Inserted => true,
+        Answer::Took(_) => true,
+        Answer::Empty => true,
+        Answer::Refused(_) => false,
+    }
+}
+
+// Stores the record of thread n as its plan has it; an idle or refused turn stores nothing. The plan's answer. The record of an
+// ended operation is idle, and has a branch of its own, so that the compiled code of the other branch stores no field that the
+// turn left alone.
+fn store_record(f: Frame, b: &mut [u8], n: u32, plan: Plan) -> Answer
+    requires { ⌜ Within f (length (now b)) ⌝ }
+    ensures { λ r. ⌜ Stored f (now (b .entry)) (now (b .exit)) n plan r ⌝ }
+{
+    let answer = plan.answer;
+    if leaves_alone(answer) {
+        return answer;
+    }
+    let record = plan.thread;
+    if ends(answer) {
+        f.store_thread(b, n, record.gone_idle());
+        return answer;
+    }
+    f.store_thread(b, n, record);
+    answer
+}
+
+// I1
+pub fn turn_read_depth(f: Frame, b: &mut [u8], n: u32) -> Answer
+    requires { ⌜ Within f (length (now b)) ⌝ }
+    ensures { λ r. ⌜ Ended reading f (now (b .entry)) (now (b .exit)) n (readDepth (sharedIn f (now (b .entry))) (threadIn f (now (b .entry)) n)) r ⌝ }
+{
+    let plan = insert::read_depth(f, b, f.load_thread(b, n));
+    store_record(f, b, n, plan)
+}
+
+// I2
+pub fn turn_read_leaf(f: Frame, b: &mut [u8], n: u32, choice: u32) -> Answer
+    requires { ⌜ Within f (length (now b)) ⌝ }
+    ensures { λ r. ⌜ Ended reading f (now (b .entry)) (now (b .exit)) n (readLeaf (f .shape) (sharedIn f (now (b .entry))) (threadIn f (now (b .entry)) n) choice) r ⌝ }
+{
+    let plan = insert::read_leaf(f, b, f.load_thread(b, n), choice);
+    store_record(f, b, n, plan)
+}
+
+// I3
+pub fn turn_read_ancestor(f: Frame, b: &mut [u8], n: u32) -> Answer
+    requires { ⌜ Within f (length (now b)) ⌝ }
+    ensures { λ r. ⌜ Ended reading f (now (b .entry)) (now (b .exit)) n (readAncestor (sharedIn f (now (b .entry))) (threadIn f (now (b .entry)) n)) r ⌝ }
+{
+    let plan = insert::read_ancestor(f, b, f.load_thread(b, n));
+    store_record(f, b, n, plan)
+}
+
+// I4
+pub fn turn_grow_depth(f: Frame, b: &mut [u8], n: u32) -> Answer
+    requires { ⌜ Within f (length (now b)) ⌝ }
+    ensures { λ r. ⌜ Ended growing f (now (b .entry)) (now (b .exit)) n (growDepth (f .shape) (sharedIn f (now (b .entry))) (threadIn f (now (b .entry)) n)) r ⌝ }
+{
+    let plan = insert::grow_depth(f, b, f.load_thread(b, n));
+    let effect = plan.effect;
+    let answer = store_record(f, b, n, plan);
+    access::carry_growth(f, b, effect);
+    answer
+}
+
+// I5
+pub fn turn_read_target(f: Frame, b: &mut [u8], n: u32) -> Answer
+    requires { ⌜ Within f (length (now b)) ⌝ }
+    ensures { λ r. ⌜ Ended reading f (now (b .entry)) (now (b .exit)) n (readTarget (sharedIn f (now (b .entry))) (threadIn f (now (b .entry)) n)) r ⌝ }
+{
+    let plan = insert::read_target(f, b, f.load_thread(b, n));
+    store_record(f, b, n, plan)
+}
+
+// I6
+pub fn turn_insert_at_root(f: Frame, b: &mut [u8], n: u32) -> Answer
+    requires { ⌜ Within f (length (now b)) ⌝ }
+    ensures { λ r. ⌜ Ended pushing f (now (b .entry)) (now (b .exit)) n (insertAtRoot (sharedIn f (now (b .entry))) (threadIn f (now (b .entry)) n)) r ⌝ }
+{
+    let plan = insert::insert_at_root(f, b, f.load_thread(b, n));
+    let effect = plan.effect;
+    let answer = store_record(f, b, n, plan);
+    access::carry_push(f, b, effect);
+    answer
+}
+
+// I7
+pub fn turn_read_parent(f: Frame, b: &mut [u8], n: u32) -> Answer
+    requires { ⌜ Within f (length (now b)) ⌝ }
+    ensures { λ r. ⌜ Ended reading f (now (b .entry)) (now (b .exit)) n (readParent (sharedIn f (now (b .entry))) (threadIn f (now (b .entry)) n)) r ⌝ }
+{
+    let plan = insert::read_parent(f, b, f.load_thread(b, n));
+    store_record(f, b, n, plan)
+}
+
+// I8
+pub fn turn_insert_below(f: Frame, b: &mut [u8], n: u32) -> Answer
+    requires { ⌜ Within f (length (now b)) ⌝ }
+    ensures { λ r. ⌜ Ended pushing f (now (b .entry)) (now (b .exit)) n (insertBelow (sharedIn f (now (b .entry))) (threadIn f (now (b .entry)) n)) r ⌝ }
+{
+    let plan = insert::insert_below(f, b, f.load_thread(b, n));
+    let effect = plan.effect;
+    let answer = store_record(f, b, n, plan);
+    access::carry_push(f, b, effect);
+    answer
+}
+
+// E1
+pub fn turn_read_root(f: Frame, b: &mut [u8], n: u32) -> Answer
+    requires { ⌜ Within f (length (now b)) ⌝ }
+    ensures { λ r. ⌜ Ended reading f (now (b .entry)) (now (b .exit)) n (readRoot (sharedIn f (now (b .entry))) (threadIn f (now (b .entry)) n)) r ⌝ }
+{
+    let plan = extract::read_root(f, b, f.load_thread(b, n));
+    store_record(f, b, n, plan)
+}
+
+// E2
+pub fn turn_remove_head(f: Frame, b: &mut [u8], n: u32) -> Answer
+    requires { ⌜ Within f (length (now b)) ⌝ }
+    ensures { λ r. ⌜ Ended popping f (now (b .entry)) (now (b .exit)) n (removeHead (sharedIn f (now (b .entry))) (threadIn f (now (b .entry)) n)) r ⌝ }
+{
+    let plan = extract::remove_head(f, b, f.load_thread(b, n));
+    let effect = plan.effect;
+    let answer = store_record(f, b, n, plan);
+    access::carry_pop(f, b, effect);
+    answer
+}
+
+// M1
+pub fn turn_mend_read_node(f: Frame, b: &mut [u8], n: u32, w: u32) -> Answer
+    requires { ⌜ Within f (length (now b)) ⌝ }
+    ensures { λ r. ⌜ Ended reading f (now (b .entry)) (now (b .exit)) n (mendReadNode (sharedIn f (now (b .entry))) (threadIn f (now (b .entry)) n) w) r ⌝ }
+{
+    let plan = moundify::mend_read_node(f, b, f.load_thread(b, n), w);
+    store_record(f, b, n, plan)
+}
+
+// M2
+pub fn turn_mend_read_depth(f: Frame, b: &mut [u8], n: u32, w: u32) -> Answer
+    requires { ⌜ Within f (length (now b)) ⌝ }
+    ensures { λ r. ⌜ Ended reading f (now (b .entry)) (now (b .exit)) n (mendReadDepth (sharedIn f (now (b .entry))) (threadIn f (now (b .entry)) n) w) r ⌝ }
+{
+    let plan = moundify::mend_read_depth(f, b, f.load_thread(b, n), w);
+    store_record(f, b, n, plan)
+}
+
+// M3
+pub fn turn_mend_read_left(f: Frame, b: &mut [u8], n: u32, w: u32) -> Answer
+    requires { ⌜ Within f (length (now b)) ⌝ }
+    ensures { λ r. ⌜ Ended reading f (now (b .entry)) (now (b .exit)) n (mendReadLeft (f .shape) (sharedIn f (now (b .entry))) (threadIn f (now (b .entry)) n) w) r ⌝ }
+{
+    let plan = moundify::mend_read_left(f, b, f.load_thread(b, n), w);
+    store_record(f, b, n, plan)
+}
+
+// M4
+pub fn turn_mend_read_right(f: Frame, b: &mut [u8], n: u32, w: u32) -> Answer
+    requires { ⌜ Within f (length (now b)) ⌝ }
+    ensures { λ r. ⌜ Ended reading f (now (b .entry)) (now (b .exit)) n (mendReadRight (f .shape) (sharedIn f (now (b .entry))) (threadIn f (now (b .entry)) n) w) r ⌝ }
+{
+    let plan = moundify::mend_read_right(f, b, f.load_thread(b, n), w);
+    store_record(f, b, n, plan)
+}
+
+// M5
+pub fn turn_mend_swap(f: Frame, b: &mut [u8], n: u32, w: u32) -> Answer
+    requires { ⌜ Within f (length (now b)) ⌝ }
+    ensures { λ r. ⌜ Ended exchanging f (now (b .entry)) (now (b .exit)) n (mendSwap (f .shape) (sharedIn f (now (b .entry))) (threadIn f (now (b .entry)) n) w) r ⌝ }
+{
+    let plan = moundify::mend_swap(f, b, f.load_thread(b, n), w);
+    let effect = plan.effect;
+    let answer = store_record(f, b, n, plan);
+    access::carry_exchange(f, b, effect);
+    answer
+}
+
+// M6
+pub fn turn_mend_clean(f: Frame, b: &mut [u8], n: u32, w: u32) -> Answer
+    requires { ⌜ Within f (length (now b)) ⌝ }
+    ensures { λ r. ⌜ Ended cleaning f (now (b .entry)) (now (b .exit)) n (mendClean (sharedIn f (now (b .entry))) (threadIn f (now (b .entry)) n) w) r ⌝ }
+{
+    let plan = moundify::mend_clean(f, b, f.load_thread(b, n), w);
+    let effect = plan.effect;
+    let answer = store_record(f, b, n, plan);
+    access::carry_cleaning(f, b, effect);
+    answer
+}
