@@ -8,7 +8,7 @@ use lib.ListN.{length, replicate}
 use Rattle.region.specs.declared.record.Item.{Item}
 use Rattle.layout.specs.Layout.{layoutBytes}
 use Rattle.cases.specs.Row.{schedule}
-use Rattle.computes.specs.Computes.{computes}
+use Rattle.computes.proofs.Computes.{computes}
 use Rattle.mound.specs.Told.{Told, nothing, beginsPut, beginsTake, decidesPut, decidesTake, decidesEmpty, answersTook}
 use Rattle.bag.specs.Calls.{Call, put, take, run, after, refusalOf}
 use Rattle.bag.specs.History.{Moment, servedOn, turnMoments, servedMoments, callMoments, history}

@@ -1,4 +1,4 @@
--- Cases worked out by hand from documents 01 and 02, as theorems that compute them from the definitions.
+-- Cases worked out by hand from documents 01 and 02: what a row says, the rows, and the statement that all hold.
 pub mod Cases
 pub mod Document01
 pub mod Request2

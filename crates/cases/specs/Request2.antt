@@ -1,12 +1,10 @@
--- Cases of request 2, "Equal keys, smaller tag first"; each row computed from the definitions.
+-- Cases of request 2, "Equal keys, smaller tag first": the rows.
 use Prim.Native.Nat.{ℕ}
-use mathlib.Core.Path.{refl}
 use mathlib.Core.List.{List, [], _∷_, _++_}
 use Rattle.region.specs.Answer.{done}
 use Rattle.region.specs.declared.answer.Answer.the-variants.{Moved, Took}
 use Rattle.region.specs.declared.record.Item.{Item}
-use Rattle.computes.specs.Computes.{computes}
-use Rattle.cases.specs.Row.{Does, takes, turns, costs, writes, Says, answered, Row, tagged, Holds, AllHold, both, callsRow, serves, doesOf, saysOf, turnsTo, inserting, taking, oneThread}
+use Rattle.cases.specs.Row.{Does, takes, turns, costs, writes, Says, answered, Row, tagged, both, callsRow, serves, turnsTo, inserting, taking, oneThread}
 
 -- two items of one key
 abbrev nine : Item
@@ -20,17 +18,17 @@ abbrev row : List (Does × Says) → ℕ → Row
 row cs depth = oneThread 2 2 216 cs depth
 
 -- 2 is less than 9, so it goes to the root's front and leaves first
-abbrev nine-then-two : Row
+abbrev pub nine-then-two : Row
 nine-then-two =
     row (inserting nine 4 ++ inserting two 4 ++ taking 5 (Took two) ++ taking 5 (Took nine)) 1
 
 -- 9 is greater than the root's 2, so the tree grows and 9 goes below; 2 leaves first. By keys alone 9 would go to the root's front.
-abbrev two-then-nine : Row
+abbrev pub two-then-nine : Row
 two-then-nine =
     row (inserting two 4 ++ inserting nine 9 ++ taking 10 (Took two)) 2
 
 -- a take between the puts: 9 leaves, since 2 is not there yet
-abbrev take-between : Row
+abbrev pub take-between : Row
 take-between =
     row (inserting nine 4 ++ taking 5 (Took nine) ++ inserting two 4 ++ taking 5 (Took two)) 1
 
@@ -43,12 +41,12 @@ crossing =
     ∷ inserting two 4
     ++ turnsTo 2 6 (Took two)
 
-abbrev take-under-way : Row
+abbrev pub take-under-way : Row
 take-under-way =
-    callsRow both (doesOf crossing) (saysOf (λ x. x) crossing) 1
+    callsRow both crossing 1
 
 -- two copies of one item, which leave one after the other
-abbrev equal-items : Row
+abbrev pub equal-items : Row
 equal-items =
     row (inserting nine 4 ++ inserting nine 4 ++ taking 5 (Took nine) ++ taking 5 (Took nine)) 1
 
@@ -59,7 +57,7 @@ greatest-below = 2 ∷ 0 ∷ 1 ∷ 0 ∷ 0 ∷ 2 ∷ 0 ∷ 0 ∷ 0 ∷ 0 ∷ 0 �
 
 -- "an empty node is above every item": without its head the root's list is empty, which is above the item below it. So it goes down to
 -- level 2, and the take costs 5 × 2.
-abbrev above-every-item : Row
+abbrev pub above-every-item : Row
 above-every-item =
     row ((writes 4 greatest-below, answered done) ∷ (costs, answered 10) ∷ taking 10 (Took nine)) 2
 
@@ -72,37 +70,3 @@ casesOfRequest2 =
     ∷ equal-items
     ∷ above-every-item
     ∷ []
-
--- Each row, computed.
-nine-then-two-holds : Holds nine-then-two
-unfolding computes
-nine-then-two-holds = (refl, refl)
-
-two-then-nine-holds : Holds two-then-nine
-unfolding computes
-two-then-nine-holds = (refl, refl)
-
-take-between-holds : Holds take-between
-unfolding computes
-take-between-holds = (refl, refl)
-
-take-under-way-holds : Holds take-under-way
-unfolding computes
-take-under-way-holds = (refl, refl)
-
-equal-items-holds : Holds equal-items
-unfolding computes
-equal-items-holds = (refl, refl)
-
-above-every-item-holds : Holds above-every-item
-unfolding computes
-above-every-item-holds = (refl, refl)
-
-pub casesOfRequest2-hold : AllHold casesOfRequest2
-casesOfRequest2-hold = (
-  nine-then-two-holds,
-  (
-    two-then-nine-holds,
-    (take-between-holds, (take-under-way-holds, (equal-items-holds, (above-every-item-holds, tt)))),
-  ),
-)

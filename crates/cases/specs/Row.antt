@@ -48,14 +48,14 @@ abbrev pub schedule : List ℕ → List ℕ
 schedule [] = []
 schedule (t ∷ ts) = t ∷ 0 ∷ 0 ∷ 0 ∷ 0 ∷ 0 ∷ 0 ∷ 0 ∷ schedule ts
 
--- calls, each with what it says
-abbrev pub doesOf : {A : Type 0} → List (Does × A) → List Does
+-- calls with what they say, apart
+abbrev doesOf : List (Does × Says) → List Does
 doesOf [] = []
 doesOf ((d, x) ∷ rest) = d ∷ doesOf rest
 
-abbrev pub saysOf : {A : Type 0} → (A → Says) → List (Does × A) → List Says
-saysOf says [] = []
-saysOf says ((d, x) ∷ rest) = says x ∷ saysOf says rest
+abbrev saysOf : List (Does × Says) → List Says
+saysOf [] = []
+saysOf ((d, x) ∷ rest) = x ∷ saysOf rest
 
 -- what is said, and the region afterwards
 pub record Outcome : Type 0 where
@@ -115,21 +115,21 @@ shaped d c = record { depth = d; cells = c; threads = 2; threshold = 1 }
 abbrev pub both : List ℕ
 both = 3 ∷ 3 ∷ []
 
--- a row that asks for the depth at its end
-abbrev pub rowOf : Shape → List ℕ → ℕ → ℕ → List Does → List Says → ℕ → Row
-rowOf s ps bytes answer ds ss depth =
+-- a row from calls with what they say, which asks for the depth at its end
+abbrev pub rowOf : Shape → List ℕ → ℕ → ℕ → List (Does × Says) → ℕ → Row
+rowOf s ps bytes answer cs depth =
     record {
       shape = s;
       permissions = ps;
       bytes = bytes;
-      does = ds ++ depths ∷ [];
+      does = doesOf cs ++ depths ∷ [];
       layout = answer;
-      says = ss ++ answered depth ∷ [];
+      says = saysOf cs ++ answered depth ∷ [];
     }
 
 -- calls on D 2, C 2, with these permissions
-abbrev pub callsRow : List ℕ → List Does → List Says → ℕ → Row
-callsRow ps ds ss depth = rowOf (shaped 2 2) ps 348 done ds ss depth
+abbrev pub callsRow : List ℕ → List (Does × Says) → ℕ → Row
+callsRow ps cs depth = rowOf (shaped 2 2) ps 348 done cs depth
 
 -- the words of these answers
 abbrev wordsOf : List Answer → List ℕ
@@ -151,7 +151,6 @@ inserting i n = (putsItem 1 i, answered done) ∷ turnsTo 1 n Inserted
 abbrev pub taking : ℕ → Answer → List (Does × Says)
 taking n a = (takes 1, answered done) ∷ turnsTo 1 n a
 
--- calls with what they say, on a region of one thread which is this long
+-- calls on a region of one thread which is this long
 abbrev pub oneThread : ℕ → ℕ → ℕ → List (Does × Says) → ℕ → Row
-oneThread d c bytes cs depth =
-    rowOf (record { depth = d; cells = c; threads = 1; threshold = 1 }) (3 ∷ []) bytes done (doesOf cs) (saysOf (λ x. x) cs) depth
+oneThread d c bytes cs depth = rowOf (record { depth = d; cells = c; threads = 1; threshold = 1 }) (3 ∷ []) bytes done cs depth

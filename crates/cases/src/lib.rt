@@ -1,1 +1,1 @@
-// The cases are theorems of specs/; this crate has no code.
+// The cases and their statement are in specs/, their proofs in proofs/; this crate has no code.

@@ -1,1 +1,1 @@
-// What theorems that compute from the definitions unfold, in specs/; this crate has no code.
+// What proofs that compute from the definitions unfold, in proofs/; this crate has no code.

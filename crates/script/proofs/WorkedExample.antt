@@ -1,7 +1,7 @@
 -- Document 01's script prints its output, computed from the definitions. Assumes nothing.
 use mathlib.Core.Path.{refl}
 use Rattle.machine.specs.Turn.{turnOnAnswer, turnOnBytes}
-use Rattle.computes.specs.Computes.{computes}
+use Rattle.computes.proofs.Computes.{computes}
 use Rattle.script.specs.Text.{decimal, digits, isDigit, startsWith, textAt}
 use Rattle.script.specs.Reading.{digitsThen, fieldsAt, numberThen, readLine, readOpening, shapeAt}
 use Rattle.script.specs.Printing.{lineText, numberText, outcomeText}

@@ -1,4 +1,4 @@
--- The names that a computation from the definitions unfolds, together: a theorem that computes says `unfolding computes`.
+-- The definitions of the machine, named together: a theorem that computes says `unfolding computes`.
 use Prim.Native.Nat.{ℕ}
 use Rattle.words.specs.Word.{word, setWord}
 use Rattle.region.specs.Frame.{frameOf}
