@@ -27,7 +27,7 @@ use Rattle.region.specs.declared.record.Item.{Item}
 use Rattle.region.specs.declared.record.Node.{Node}
 use Rattle.region.specs.declared.shape.Shape.{Shape}
 use Rattle.region.specs.declared.thread.Thread.{Thread}
-use Rattle.region.proofs.Levels.{level-holds}
+use Rattle.region.proofs.Levels.{level-holds, power-doubles}
 use Rattle.region.proofs.Picks.{upd-same, upd-other}
 use Rattle.region.proofs.Shapes.{is-between, sizes}
 use Rattle.access.specs.Effect.{effectShared, freed}
@@ -44,7 +44,7 @@ use Rattle.machine.specs.Turn.{decide, decideAt, staysPut, turnAnswer, turnByte
 use Rattle.cost.specs.Cost.{lesserChild, levelsDown, withoutHead}
 use Rattle.cost.proofs.Laws.{goes-down, lesser-is-child, levels-same, rests-deepest, rests-there, swaps-as-placed, tests-as-placed}
 use Rattle.preserved.proofs.Proved.{turn-keeps}
-use Rattle.preserved.proofs.TreeLevels.{level-child, twice}
+use Rattle.preserved.proofs.TreeLevels.{level-child}
 use Rattle.mound.specs.Tree.{listFrom}
 use Rattle.mound.proofs.Sorted.{valueAt}
 use Rattle.bag.specs.Alone.{EndsAt, NoneSpent, Step, last, moved-then, stepOf}
@@ -330,7 +330,7 @@ module _ (f : Frame) (t : ℕ) (t-least : 1 ≤ t) (t-most : t ≤ f .shape .thr
             g .most,
             q,
             ap (λ j. 2 ^ j) e,
-            twice (l + 1) (omega arith),
+            power-doubles (l + 1) (omega arith),
             pow-mono {i = l + 1} {j = s .depth} (omega arith),
           )
 

@@ -1,7 +1,6 @@
 -- Every plan of a thread in its place: its effect is one that the mound allows, what it tells fits the thread's operation, and
 -- the facts of its next place hold; or the turn is refused 11 for a counter that is spent, and never 7. Assumes nothing.
-use Prim.Native.Nat.{ℕ, zero, suc, _+_, _-_, _*_, _/_, _^_, _≤_, _<_}
-use native.Mathlib.Decide.{decLt}
+use Prim.Native.Nat.{ℕ, suc, _+_, _-_, _*_, _/_, _^_, _≤_, _<_}
 use native.Mathlib.Nat.{div-le-self, le-div-iff-mul-le, mod-lt, pow-suc}
 use native.Mathlib.Omega.{arith}
 use mathlib.Core.Path.{_≡_, refl, sym, ap, subst, _∙_}
@@ -11,7 +10,7 @@ use borrow.Author.Tests.{ltb-true, eqb-true, eqb-false, ne-eqb, lt-ltb, le-ltb}
 use lib.Dec.{ltb, eqb}
 use lib.Pow.{pow-mono, pow-pos}
 use Rattle.region.specs.Answer.{counterSpent}
-use Rattle.region.specs.Level.{ancestor, digits, level, mark}
+use Rattle.region.specs.Level.{ancestor, level, mark}
 use Rattle.region.specs.Pick.{pick}
 use Rattle.region.specs.Shape.{between, nodeCount}
 use Rattle.region.specs.Inner.{InRange}
@@ -26,7 +25,7 @@ use Rattle.region.specs.declared.record.Node.{Node}
 use Rattle.region.specs.declared.record.NodeCopy.{NodeCopy}
 use Rattle.region.specs.declared.shape.Shape.{Shape}
 use Rattle.region.specs.declared.thread.Thread.{Thread}
-use Rattle.region.proofs.Levels.{level-holds}
+use Rattle.region.proofs.Levels.{level-at-least, level-at-most, level-holds, level-some, power-doubles}
 use Rattle.region.proofs.Picks.{pick-good}
 use Rattle.region.proofs.Shapes.{and-left, and-right, and-both, is-between, sizes}
 use Rattle.access.specs.Order.{itemLe, itemLt, topItem, val, valueOf}
@@ -98,28 +97,7 @@ pub data Planned (s : Shape) (m : Shared) (own : ℕ → ℕ) (t : ℕ) (o : ℕ
   moves : (op′ : Operation) → Allowed s m own t (p .effect) → Speaks m op op′ (p .effect) (p .answer)
       → OwnAfter m (p .effect) o (p .thread .own) → At s m (p .thread) op′ (p .thread .place) → Planned s m own t o op p
 
--- Where n lies. Each level has twice the nodes of the one above.
-doubled : (d : ℕ) → 1 ≤ d → 2 ^ d ≡ 2 ^ (d - 1) * 2
-doubled d p =
-    let e : d ≡ suc (d - 1) = omega arith in
-    ap (λ j. 2 ^ j) e ∙ pow-suc 2 (d - 1)
-
--- no level is 0 but that of node 0
-level-some : (n : ℕ) → 1 ≤ n → 1 ≤ level n
-unfolding level digits
-level-some zero p = absurd (omega arith)
-level-some (suc n) p = omega arith
-
--- a node that level j has lies no higher
-level-least : (n j : ℕ) → 1 ≤ n → n < 2 ^ 32 → 2 ^ (j - 1) ≤ n → j ≤ level n
-level-least n j p few h = go (decLt (level n) j)
-  where
-    go : Dec (level n < j) → j ≤ level n
-    go (yes k) =
-        let b = pow-mono {i = level n} {j = j - 1} (omega arith) in
-        absurd (omega (arith, level-holds n p few .most, b, h))
-    go (no k) = omega arith
-
+-- Where nodes lie: ancestors and children.
 ancestor-some : (n j : ℕ) → 1 ≤ n → n < 2 ^ 32 → 1 ≤ j → 1 ≤ ancestor n j
 unfolding ancestor
 ancestor-some n j p few l =
@@ -133,20 +111,15 @@ ancestor-most n j = div-le-self n (2 ^ (level n - j))
 
 -- a node above the present depth's level has its children in the tree; at that level they lie deeper
 children-inside : (n d : ℕ) → 1 ≤ n → n < 2 ^ 32 → n < 2 ^ d → (level n ≡ d → ⊥) → 2 * n + 1 < 2 ^ d
-children-inside n d p few h ne = go (decLt d (level n))
-  where
-    go : Dec (d < level n) → 2 * n + 1 < 2 ^ d
-    go (yes k) =
-        let b = pow-mono {i = d} {j = level n - 1} (omega arith) in
-        absurd (omega (arith, level-holds n p few .least, b, h))
-    go (no k) =
-        let b = pow-mono {i = suc (level n)} {j = d} (omega arith) in
-        omega (arith, level-holds n p few .most, b, pow-suc 2 (level n))
+children-inside n d p few h ne =
+    let a = level-at-most n d p few h in
+    let b = pow-mono {i = suc (level n)} {j = d} (omega arith) in
+    omega (arith, level-holds n p few .most, b, pow-suc 2 (level n))
 
 children-deeper : (n d : ℕ) → 1 ≤ n → n < 2 ^ 32 → level n ≡ d → 2 ^ d ≤ 2 * n
 children-deeper n d p few e =
     let a = level-holds n p few in
-    let b = doubled (level n) (a .some) in
+    let b = power-doubles (level n) (a .some) in
     let c = ap (λ j. 2 ^ j) e in
     omega (arith, a .least, b, c)
 
@@ -236,7 +209,7 @@ module _ (s : Shape) (r : InRange s) (m : Shared) (own : ℕ → ℕ) {all : ℕ
     module _ (choice : ℕ) where
       leaf-most : leafOf (th .depth) choice < 2 ^ th .depth
       unfolding leafOf
-      leaf-most = omega (arith, mod-lt choice (pow-pos (th .depth - 1)), doubled (th .depth) (l .0))
+      leaf-most = omega (arith, mod-lt choice (pow-pos (th .depth - 1)), power-doubles (th .depth) (l .0))
 
       leaf-in-tree : InTree m (leafOf (th .depth) choice)
       unfolding leafOf
@@ -249,7 +222,7 @@ module _ (s : Shape) (r : InRange s) (m : Shared) (own : ℕ → ℕ) {all : ℕ
       unfolding leafOf
       leaf-level =
           let leaf = leafOf (th .depth) choice in
-          level-least leaf (th .depth) (leaf-in-tree .0) (few-nodes leaf (leaf-in-tree .1)) (omega arith)
+          level-at-least leaf (th .depth) (leaf-in-tree .0) (few-nodes leaf (leaf-in-tree .1)) (omega arith)
 
       leaf-planned : Fits (readLeaf s m th choice)
       unfolding readLeaf leafRead leafFailed failedPlace withFirst withCopies withSearch

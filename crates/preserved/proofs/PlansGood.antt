@@ -25,6 +25,7 @@ use Rattle.region.specs.declared.record.NodeCopy.{NodeCopy}
 use Rattle.region.specs.declared.shape.Shape.{Shape}
 use Rattle.region.specs.declared.thread.Search.{Search}
 use Rattle.region.specs.declared.thread.Thread.{Thread}
+use Rattle.region.proofs.Levels.{power-doubles}
 use Rattle.region.proofs.Picks.{pick-good}
 use Rattle.region.proofs.Shapes.{and-left, and-right, between-least, between-most, sizes}
 use Rattle.access.specs.Order.{itemLe, itemLt, valueOf}
@@ -37,7 +38,7 @@ use Rattle.insert.specs.Insert.{searching, readDepth, searchOn, leafOf, nextTri
 use Rattle.extract.specs.Extract.{rootRead, readRoot, headRemoved, removeHead}
 use Rattle.moundify.specs.Moundify.{returning, mendReadNode, depthRead, mendReadDepth, mendReadLeft, marked, childLess, childrenRead, mendReadRight, exchangeAt, nodeAndChildSame, exchangeWith, mendSwap, cleanAt, mendClean}
 use Rattle.readable.proofs.Stores.{NodeGood, CopyGood, FieldsGood, WaitsAbove, PlaceGood, ThreadGood, SharedGood, idle-good}
-use Rattle.preserved.proofs.TreeLevels.{twice, waits-at-child, waits-marked, waits-returned}
+use Rattle.preserved.proofs.TreeLevels.{waits-at-child, waits-marked, waits-returned}
 
 pub or-left : (a b : Bool) → a || b ≡ false → a ≡ false
 or-left true b e = e
@@ -225,7 +226,7 @@ module _ (s : Shape) (r : InRange s) (m : Shared) (sm : SharedGood s m) where
     leaf-few d c e =
         let l = between-least 1 d (s .depth) e in
         let u = between-most 1 d (s .depth) e in
-        omega (arith, mod-lt c (pow-pos (d - 1)), twice d l, pow-mono {i = d} {j = s .depth} u)
+        omega (arith, mod-lt c (pow-pos (d - 1)), power-doubles d l, pow-mono {i = d} {j = s .depth} u)
 
     pub leafFailed-good : (leaf : ℕ) → leaf ≤ nodeCount s → (q : NodeCopy) → CopyGood (s .cells) q → PlanGood s (leafFailed s t leaf q)
     unfolding leafFailed failedPlace nextTries withFirst withSearch

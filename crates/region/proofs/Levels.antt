@@ -1,9 +1,11 @@
 -- A node's level: its digits and its leading zeros make 32, and "Level j holds nodes 2^(j−1) to 2^j − 1". Assumes nothing.
-use Prim.Native.Nat.{ℕ, zero, suc, _+_, _-_, _/_, _^_, _≤_, _<_}
+use Prim.Native.Nat.{ℕ, zero, suc, _+_, _-_, _*_, _/_, _^_, _≤_, _<_}
+use native.Mathlib.Decide.{decLt}
 use native.Mathlib.Nat.{div-one}
 use native.Mathlib.Omega.{arith}
 use mathlib.Core.Path.{_≡_, refl, sym, ap, subst, _∙_}
 use lib.Count.{leadingZeros, leading-top}
+use lib.Pow.{pow-mono, pow-pos}
 use Rattle.region.specs.Level.{ancestor, digits, level}
 
 digits-leading : (k n : ℕ) → digits k n + leadingZeros k n ≡ k
@@ -36,6 +38,50 @@ level-holds n p h =
 pub level-most : (n : ℕ) → level n ≤ 32
 unfolding level
 level-most n = omega (arith, digits-leading 32 n)
+
+-- node 0 alone has level 0
+pub level-some : (n : ℕ) → 1 ≤ n → 1 ≤ level n
+unfolding level digits
+level-some zero h = absurd (omega arith)
+level-some (suc n) h = omega arith
+
+pub node-some : (n : ℕ) → 1 ≤ level n → 1 ≤ n
+unfolding level digits
+node-some zero h = absurd (omega arith)
+node-some (suc n) h = omega arith
+
+-- each level has twice the nodes of the one above
+pub power-doubles : (j : ℕ) → 1 ≤ j → 2 ^ j ≡ 2 * 2 ^ (j - 1)
+power-doubles (suc k) h =
+    let e : suc k - 1 ≡ k = omega arith in
+    omega (arith, ap (λ j. 2 ^ j) e)
+power-doubles zero h = omega arith
+
+-- a number of at least 2^(j−1) has level j or a deeper one; one below 2^j has level j or a higher one
+module _ (n j : ℕ) (some : 1 ≤ n) (fits : n < 2 ^ 32) where
+  pub level-at-least : 2 ^ (j - 1) ≤ n → j ≤ level n
+  level-at-least h = go (decLt (level n) j)
+    where
+      go : Dec (level n < j) → j ≤ level n
+      go (yes k) =
+          let b = pow-mono {i = level n} {j = j - 1} (omega arith) in
+          absurd (omega (arith, level-holds n some fits .most, b, h))
+      go (no k) = omega arith
+
+  pub level-at-most : n < 2 ^ j → level n ≤ j
+  level-at-most h = go (decLt j (level n))
+    where
+      go : Dec (j < level n) → level n ≤ j
+      go (yes k) =
+          let b = pow-mono {i = j} {j = level n - 1} (omega arith) in
+          absurd (omega (arith, level-holds n some fits .least, b, h))
+      go (no k) = omega arith
+
+-- a number between 2^(j−1) and 2^j has level j
+pub level-unique : (n j : ℕ) → 2 ^ (j - 1) ≤ n → n < 2 ^ j → n < 2 ^ 32 → level n ≡ j
+level-unique n j lo hi fits =
+    let some : 1 ≤ n = omega (arith, lo, pow-pos (j - 1)) in
+    omega (arith, level-at-least n j some fits lo, level-at-most n j some fits hi)
 
 -- Ancestors.
 module _ (n j l : ℕ) (e : l ≡ level n) where
