@@ -14,8 +14,8 @@ use Rattle.region.specs.Frame.{frameOf}
 use Rattle.region.specs.Pick.{pick}
 use Rattle.region.specs.Shared.{sharedIn, threadIn}
 use Rattle.region.specs.declared.record.Item.{Item}
-use Rattle.readable.specs.Readable.{shapeIn}
-use Rattle.machine.specs.Begin.{frameIn, hasFreeCell, putRefusal}
+use Rattle.readable.specs.Readable.{frameIn, shapeIn}
+use Rattle.begin.specs.Begin.{hasFreeCell, putRefusal}
 use Rattle.mound.specs.Ledger.{Ledger}
 use Rattle.mound.proofs.Account.{all-cells, full-without, not-full-with}
 use Rattle.mound.proofs.Steps.{Invariant}
@@ -24,7 +24,7 @@ use Rattle.bag.specs.Account.{treeCells, begunPuts, freeCells, AllCellsA
 -- where nothing else refuses a put, the first free cell decides
 cell-decides : (b : List ℕ) (t : ℕ) (i : Item) → NothingElseRefuses b t i
     → putRefusal b t i ≡ pick (not (eqb (word b (frameIn b .free)) 0)) done noFreeCell
-unfolding putRefusal hasFreeCell pick
+unfolding putRefusal putRefusalIn hasFreeCell frameOf pick
 cell-decides b t i a = rw (a .region, a .thread, a .item, a .permitted, a .idle) refl
 
 -- Both, of every region of one queue of which the invariant holds.

@@ -25,7 +25,7 @@ use Rattle.insert.specs.Insert.{readDepth, readLeaf, readAncestor, growDepth, r
 use Rattle.extract.specs.Extract.{readRoot, removeHead}
 use Rattle.moundify.specs.Moundify.{returning, mendReadNode, mendReadDepth, mendReadLeft, mendReadRight, exchangeWith, mendSwap, mendClean}
 use Rattle.readable.proofs.Laws.{Good}
-use Rattle.machine.specs.Run.{Turn}
+use Rattle.run.specs.Run.{Turn}
 use Rattle.machine.specs.Turn.{decide, decideAt, staysPut, turnAnswer, turnPlan}
 use Rattle.mound.specs.Told.{nothing, decidesPut}
 use Rattle.mound.proofs.Steps.{effectTells, quietTells}

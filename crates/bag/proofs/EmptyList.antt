@@ -22,9 +22,10 @@ use Rattle.access.specs.Plan.{plan, refused}
 use Rattle.layout.specs.Layout.{layoutRefusal, layoutBytes}
 use Rattle.layout.proofs.Laws.{laid-exact}
 use Rattle.layout.proofs.LayoutReads.{laid-thread}
-use Rattle.readable.specs.Readable.{readable, shapeIn}
+use Rattle.readable.specs.Readable.{readable, frameIn, shapeIn}
 use Rattle.readable.proofs.Laws.{readable-length}
-use Rattle.machine.specs.Begin.{frameIn, mayPut, mayTake, putBytes, putRefusal, takeBytes, takeRefusal}
+use Rattle.begin.specs.Begin.{mayPut, mayTake, putBytes, putBytesIn, putRefusalIn, takeBytes, takeBytesIn, takeRefusalIn}
+use Rattle.begin.proofs.Laws.{put-bytes-in, take-bytes-in}
 use Rattle.machine.specs.Turn.{carriedOut, decide, decideAt, turnBytes, turnPlan}
 use Rattle.queue.proofs.LaidOutIsReadable.{laid-out-is-readable, same-shape}
 use Rattle.preserved.proofs.Proved.{put-passed, take-passed, put-keeps-readable, put-keeps-shape, put-leaves-others, take-keeps-readable, take-keeps-shape, take-leaves-others, turn-keeps-readable, turn-keeps-shape, turn-leaves-others}
@@ -42,6 +43,21 @@ idle-turn f b t c e =
     (λ h. subst (λ v. carriedOut f b t (decideAt (f .shape) (sharedIn f b) v c (v .place)) ≡ b) (sym e) refl)
     (λ h. refl)
 
+-- its calls are refused: no permission
+refused-put : (f : Frame) (b : List ℕ) (t : ℕ) (i : Item) → threadIn f b t ≡ idleThread 0 → putBytesIn f b t i ≡ b
+unfolding putBytesIn mayPut
+refused-put f b t i e =
+    pick-good (λ x. x ≡ b) (eqb (putRefusalIn f b t i) done)
+    (λ k. absurd (true≢false (sym (put-passed f b t i (eqb-true (putRefusalIn f b t i) done k) .permitted) ∙ ap mayPut e)))
+    (λ k. refl)
+
+refused-take : (f : Frame) (b : List ℕ) (t : ℕ) → threadIn f b t ≡ idleThread 0 → takeBytesIn f b t ≡ b
+unfolding takeBytesIn mayTake
+refused-take f b t e =
+    pick-good (λ x. x ≡ b) (eqb (takeRefusalIn f b t) done)
+    (λ k. absurd (true≢false (sym (take-passed f b t (eqb-true (takeRefusalIn f b t) done k) .permitted) ∙ ap mayTake e)))
+    (λ k. refl)
+
 -- the region is readable, of the laid-out shape, and thread t's record is idle with no permission
 record Barred (s : Shape) (t : ℕ) (b : List ℕ) : Type 0 where
   reads : readable b ≡ true
@@ -54,18 +70,10 @@ module _ (s : Shape) (t : ℕ) (b : List ℕ) (h : Barred s t b) where
 
   -- its calls are refused, and its turns idle
   put-stays : (i : Item) → putBytes b t i ≡ b
-  unfolding putBytes mayPut
-  put-stays i =
-      pick-good (λ x. x ≡ b) (eqb (putRefusal b t i) done)
-      (λ e. absurd (true≢false (sym (put-passed b t i (eqb-true (putRefusal b t i) done e) .permitted) ∙ ap mayPut here)))
-      (λ e. refl)
+  put-stays i = put-bytes-in b (h .reads) t i ∙ refused-put (frameIn b) b t i here
 
   take-stays : takeBytes b t ≡ b
-  unfolding takeBytes mayTake
-  take-stays =
-      pick-good (λ x. x ≡ b) (eqb (takeRefusal b t) done)
-      (λ e. absurd (true≢false (sym (take-passed b t (eqb-true (takeRefusal b t) done e) .permitted) ∙ ap mayTake here)))
-      (λ e. refl)
+  take-stays = take-bytes-in b (h .reads) t ∙ refused-take (frameIn b) b t here
 
   -- bytes b′ that are readable, of b's shape, and have t's record as it was
   barred-still : (b′ : List ℕ) → readable b′ ≡ true → shapeIn b′ ≡ shapeIn b

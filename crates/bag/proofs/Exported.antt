@@ -10,8 +10,8 @@ use lib.ListN.{length}
 use Rattle.region.specs.Answer.{done}
 use Rattle.region.specs.Pick.{pick}
 use Rattle.region.specs.declared.frame.Frame.{Frame}
-use Rattle.machine.specs.Begin.{frameIn}
-use Rattle.machine.specs.Run.{Served, Turn, runRefusal, runResult, serve, serveAll, soFar, turnsFrom}
+use Rattle.readable.specs.Readable.{frameIn}
+use Rattle.run.specs.Run.{Served, Turn, runRefusal, runResult, serve, serveAll, soFar, turnsFrom}
 use Rattle.queue.proofs.RunAnswerTellsAll.{run-answer-tells-all}
 use Rattle.bag.specs.Calls.{refusalOf, after, run}
 use Rattle.bag.specs.Exported.{CallsAreExported}

@@ -14,9 +14,9 @@ use Rattle.region.specs.declared.frame.Frame.{Frame}
 use Rattle.region.specs.declared.record.Item.{Item}
 use Rattle.region.specs.declared.shape.Shape.{Shape}
 use Rattle.layout.specs.Layout.{layoutRefusal, layoutBytes}
-use Rattle.readable.specs.Readable.{checkAnswer}
-use Rattle.machine.specs.Begin.{frameIn, putBytes, putRefusal, takeBytes, takeRefusal}
-use Rattle.machine.specs.Run.{Served, Turn, runRefusal, runResult, serve, serveAll, soFar, turnsFrom}
+use Rattle.readable.specs.Readable.{checkAnswer, frameIn}
+use Rattle.begin.specs.Begin.{putBytes, putRefusal, takeBytes, takeRefusal}
+use Rattle.run.specs.Run.{Served, Turn, runRefusal, runResult, serve, serveAll, soFar, turnsFrom}
 use Rattle.machine.specs.Turn.{turnBytes}
 use Rattle.mound.specs.Told.{nothing}
 use Rattle.bag.specs.Calls.{Call, layout, put, take, run, check, NoAcceptedLayout, after, refusalOf}

@@ -1,29 +1,27 @@
 -- Demand 3: the invariant holds of a laid-out region with the empty ledger, and every call and turn keeps it. Assumes nothing.
 use Prim.Native.Nat.{ℕ, _*_}
-use mathlib.Core.Path.{_≡_, refl, sym, ap, subst, _∙_}
+use mathlib.Core.Path.{_≡_, refl, sym, ap, subst, subst₂, _∙_}
 use mathlib.Core.Bool.{Bool, true, false}
 use mathlib.Core.List.{List, [], _∷_}
-use borrow.Author.Tests.{eqb-true}
 use lib.Dec.{eqb}
 use lib.ListN.{length}
 use Rattle.region.specs.Answer.{done}
 use Rattle.region.specs.Frame.{frameOf}
 use Rattle.region.specs.Pick.{pick}
 use Rattle.region.specs.Shape.{regionWords}
-use Rattle.region.specs.Shared.{setThreadIn, threadIn}
-use Rattle.region.specs.Thread.{begunTake}
 use Rattle.region.specs.declared.frame.Frame.{Frame}
 use Rattle.region.specs.declared.record.Item.{Item}
 use Rattle.region.specs.declared.shape.Shape.{Shape}
 use Rattle.layout.specs.Layout.{layoutBytes, layoutRefusal}
 use Rattle.layout.proofs.Laws.{laid-exact}
-use Rattle.readable.specs.Readable.{readable, shapeIn}
+use Rattle.readable.specs.Readable.{readable, frameIn, shapeIn}
 use Rattle.readable.proofs.Laws.{readable-length}
 use Rattle.readable.proofs.Stores.{Keeps, readable-kept, shape-kept}
-use Rattle.machine.specs.Begin.{frameIn, acceptedPut, putBytes, putRefusal, takeBytes, takeRefusal}
-use Rattle.machine.specs.Run.{Turn}
+use Rattle.begin.specs.Begin.{putBytes, putRefusal, takeBytes, takeRefusal}
+use Rattle.begin.proofs.Laws.{put-bytes-in, put-refusal-in, take-bytes-in, take-refusal-in}
+use Rattle.run.specs.Run.{Turn}
 use Rattle.machine.specs.Turn.{turnBytes}
-use Rattle.preserved.proofs.Proved.{put-keeps, put-passed, take-keeps, take-passed, turn-keeps}
+use Rattle.preserved.proofs.Proved.{put-keeps, take-keeps, turn-keeps}
 use Rattle.queue.proofs.LaidOutIsReadable.{laid-out-is-readable, same-shape}
 use Rattle.mound.specs.Ledger.{Ledger, Follows, emptyLedger, still}
 use Rattle.mound.specs.Told.{Told, nothing, beginsPut, beginsTake}
@@ -36,7 +34,7 @@ use Rattle.bag.proofs.Answers.{turn-says}
 use Rattle.bag.proofs.EmptyList.{empty-list-changes-nothing}
 use Rattle.bag.proofs.Histories.{Kept, Next, calls-kept}
 use Rattle.bag.proofs.Operations.{Followed, at-most-once, exactly-once}
-use Rattle.bag.proofs.Regions.{Follow, Region, put-next, stays, take-next, turn-next}
+use Rattle.bag.proofs.Regions.{Follow, Region, put-follows, take-follows, turn-next}
 use Rattle.bag.proofs.Start.{laid-region}
 
 -- the readable region of one queue of shape s, on which the invariant holds with all its cells accounted for
@@ -85,29 +83,18 @@ module _ (s : Shape) (b : List ℕ) (l : Ledger) (g : QueueRegion s b l) where
   turn-answered x = subst (λ y. AnswerSays (turned (servedOn y b x))) queue-frame (turn-says f b (g .region .good) x)
 
   -- the two beginnings, refused or not
-  put-followed : (t : ℕ) (i : Item) → Next (QueueRegion s) Follows l (pick (eqb (putRefusal b t i) done) (beginsPut t i) nothing) (putBytes b t i)
-  unfolding putBytes pick
-  put-followed t i = still-queue (put-keeps b (g .region .good) t i) follows
-    where
-      follows : Follow f all l (pick (eqb (putRefusal b t i) done) (beginsPut t i) nothing) (putBytes b t i)
-      follows = go (eqb (putRefusal b t i) done) refl
-        where
-          go : (q : Bool) → eqb (putRefusal b t i) done ≡ q
-              → Follow f all l (pick q (beginsPut t i) nothing) (pick q (acceptedPut f b t i) b)
-          go true h = put-next f all b l (g .region) t i (put-passed b t i (eqb-true (putRefusal b t i) done h))
-          go false h = stays f all b l (g .region)
+  put-followed : (t : ℕ) (i : Item)
+      → Next (QueueRegion s) Follows l (pick (eqb (putRefusal b t i) done) (beginsPut t i) nothing) (putBytes b t i)
+  put-followed t i =
+      subst₂ (λ n x. Next (QueueRegion s) Follows l (pick (eqb n done) (beginsPut t i) nothing) x)
+      (sym (put-refusal-in b (g .reads) t i)) (sym (put-bytes-in b (g .reads) t i))
+      (still-queue (put-keeps f b (g .region .good) t i) (put-follows f all b l (g .region) t i))
 
   take-followed : (t : ℕ) → Next (QueueRegion s) Follows l (pick (eqb (takeRefusal b t) done) (beginsTake t) nothing) (takeBytes b t)
-  unfolding takeBytes pick
-  take-followed t = still-queue (take-keeps b (g .region .good) t) follows
-    where
-      follows : Follow f all l (pick (eqb (takeRefusal b t) done) (beginsTake t) nothing) (takeBytes b t)
-      follows = go (eqb (takeRefusal b t) done) refl
-        where
-          go : (q : Bool) → eqb (takeRefusal b t) done ≡ q
-              → Follow f all l (pick q (beginsTake t) nothing) (pick q (setThreadIn f b t (begunTake (threadIn f b t))) b)
-          go true h = take-next f all b l (g .region) t (take-passed b t (eqb-true (takeRefusal b t) done h))
-          go false h = stays f all b l (g .region)
+  take-followed t =
+      subst₂ (λ n x. Next (QueueRegion s) Follows l (pick (eqb n done) (beginsTake t) nothing) x)
+      (sym (take-refusal-in b (g .reads) t)) (sym (take-bytes-in b (g .reads) t))
+      (still-queue (take-keeps f b (g .region .good) t) (take-follows f all b l (g .region) t))
 
   -- the bag holds exactly what the tree holds
   tree-agrees : HoldsTheSame l b

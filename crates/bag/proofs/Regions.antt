@@ -4,8 +4,10 @@ use native.Mathlib.Omega.{arith}
 use mathlib.Core.Path.{_≡_, refl, sym, ap, subst, subst₂, _∙_}
 use mathlib.Core.Bool.{Bool, true, false}
 use mathlib.Core.List.{List}
+use borrow.Author.Tests.{eqb-true}
+use lib.Dec.{eqb}
 use Rattle.words.specs.Word.{word, setWord}
-use Rattle.region.specs.Answer.{badThread, counterSpent}
+use Rattle.region.specs.Answer.{badThread, counterSpent, done}
 use Rattle.region.specs.Pick.{pick, upd}
 use Rattle.region.specs.Shape.{between}
 use Rattle.region.specs.Shared.{Shared, putCell, putFree, cellIn, setCellIn, threadIn, setThreadIn, sharedIn}
@@ -25,12 +27,12 @@ use Rattle.access.specs.declared.plan.Plan.{Plan}
 use Rattle.access.proofs.OrderLaws.{item-below-top}
 use Rattle.readable.proofs.Laws.{Good}
 use Rattle.readable.proofs.Stores.{Keeps, thread-fit}
-use Rattle.machine.specs.Begin.{acceptedPut}
-use Rattle.machine.specs.Run.{Turn}
+use Rattle.begin.specs.Begin.{acceptedPut, acceptedTake, putBytesIn, putRefusalIn, takeBytesIn, takeRefusalIn}
+use Rattle.run.specs.Run.{Turn}
 use Rattle.machine.specs.Turn.{staysPut, turnBytes, turnPlan}
-use Rattle.machine.proofs.Laws.{is-idle, may-put, may-take}
+use Rattle.begin.proofs.Laws.{is-idle, may-put, may-take}
 use Rattle.preserved.proofs.EffectsGood.{cell-fit, few-cells}
-use Rattle.preserved.proofs.Proved.{PutPassed, TakePassed, accepted-put-keeps, accepted-take-keeps, mine-good, moved-keeps, next-few, put-free, put-key, put-least, put-most, put-tag, putter-good, stored-keeps, take-least, take-most, taker-good, turn-keeps}
+use Rattle.preserved.proofs.Proved.{PutPassed, TakePassed, accepted-put-keeps, accepted-take-keeps, mine-good, moved-keeps, next-few, put-free, put-key, put-least, put-most, put-passed, put-tag, putter-good, stored-keeps, take-least, take-most, take-passed, taker-good, turn-keeps}
 use Rattle.mound.specs.Ledger.{Operation, Ledger, Follows, still}
 use Rattle.mound.specs.Told.{Told, nothing, beginsPut, beginsTake}
 use Rattle.mound.proofs.Facts.{At}
@@ -71,7 +73,7 @@ module _ (f : Frame) (all : ℕ) (b : List ℕ) (l : Ledger) (g : Region f all b
   abbrev th : ℕ → Thread
   th = threadIn f b
 
-  pub stays : Follow f all l nothing b
+  stays : Follow f all l nothing b
   stays = record { next = l; follows = still; region = g }
 
   -- the plan of a thread's turn, wherever it stands
@@ -147,7 +149,7 @@ module _ (f : Frame) (all : ℕ) (b : List ℕ) (l : Ledger) (g : Region f all b
         threads-setThread f b (g .good .placed) t taker (take-least f b t p) (take-most f b t p)
         (thread-fit s (g .good .range) taker (taker-good f b t p (g .good)))
 
-    pub take-next : Follow f all l (beginsTake t) (setThreadIn f b t (begunTake (threadIn f b t)))
+    take-next : Follow f all l (beginsTake t) (acceptedTake f b t)
     take-next =
         followed (accepted-take-keeps f b t p (g .good) .good) (shared-setThread f b (g .good .placed) t taker) take-threads
         (take-begun s m th l (g .holds) t (take-least f b t p) (take-most f b t p) (is-idle (th t) (p .idle)) (may-take (th t) (p .permitted)))
@@ -194,10 +196,27 @@ module _ (f : Frame) (all : ℕ) (b : List ℕ) (l : Ledger) (g : Region f all b
         ∙ ap (λ y. upd y t putter)
         (threads-setCell f (setWord b (f .free) next) (moved .good .placed) c cell ∙ threads-setFree f b (g .good .placed) next)
 
-    pub put-next : Follow f all l (beginsPut t i) (acceptedPut f b t i)
+    put-next : Follow f all l (beginsPut t i) (acceptedPut f b t i)
     unfolding begun sharedIn
     put-next =
         followed (accepted-put-keeps f b t i p (g .good) .good) put-shared put-threads
         (put-begun s m th l (g .holds) t (put-least f b t i p) (put-most f b t i p) (is-idle (th t) (p .idle))
         (may-put (th t) (p .permitted)) i
         (item-below-top i (omega (arith, put-key f b t i p)) (put-tag f b t i p)) (omega (arith, put-free f b t i p)))
+
+  -- Both, refused or not.
+  pub take-follows : (t : ℕ) → Follow f all l (pick (eqb (takeRefusalIn f b t) done) (beginsTake t) nothing) (takeBytesIn f b t)
+  unfolding takeBytesIn pick
+  take-follows t = go (eqb (takeRefusalIn f b t) done) refl
+    where
+      go : (q : Bool) → eqb (takeRefusalIn f b t) done ≡ q → Follow f all l (pick q (beginsTake t) nothing) (pick q (acceptedTake f b t) b)
+      go true h = take-next t (take-passed f b t (eqb-true (takeRefusalIn f b t) done h))
+      go false h = stays
+
+  pub put-follows : (t : ℕ) (i : Item) → Follow f all l (pick (eqb (putRefusalIn f b t i) done) (beginsPut t i) nothing) (putBytesIn f b t i)
+  unfolding putBytesIn pick
+  put-follows t i = go (eqb (putRefusalIn f b t i) done) refl
+    where
+      go : (q : Bool) → eqb (putRefusalIn f b t i) done ≡ q → Follow f all l (pick q (beginsPut t i) nothing) (pick q (acceptedPut f b t i) b)
+      go true h = put-next t i (put-passed f b t i (eqb-true (putRefusalIn f b t i) done h))
+      go false h = stays

@@ -25,11 +25,12 @@ use Rattle.access.specs.Effect.{effectShared}
 use Rattle.access.specs.Order.{val, valueOf}
 use Rattle.access.specs.Read.{readNode, updated}
 use Rattle.access.proofs.ReadLaws.{updated-first}
-use Rattle.readable.specs.Readable.{readable, shapeIn}
+use Rattle.readable.specs.Readable.{readable, frameIn, shapeIn}
 use Rattle.readable.proofs.Laws.{Good, good}
 use Rattle.readable.proofs.Stores.{thread-fit}
-use Rattle.machine.specs.Begin.{frameIn, takeBytes, takeRefusal}
-use Rattle.machine.specs.Run.{Turn, accessesOf}
+use Rattle.begin.specs.Begin.{acceptedTake, takeBytes, takeRefusal}
+use Rattle.begin.proofs.Laws.{take-refusal-in}
+use Rattle.run.specs.Run.{Turn, accessesOf}
 use Rattle.machine.specs.Turn.{staysPut, turnAnswer, turnBytes}
 use Rattle.cost.specs.Cost.{levelsDown, restLevel, takeCost, withoutHead}
 use Rattle.cost.proofs.Laws.{cost-ceiling, cost-counted, cost-empty, cost-full, levels-same, rest-most}
@@ -90,9 +91,6 @@ ends-so h (last {x = x} p) = last (h x p)
 ends-so h (moved-then e more) = moved-then e (ends-so h more)
 
 -- A take begun on bytes in range.
-abbrev begunOn : Frame → List ℕ → ℕ → List ℕ
-begunOn f b t = setThreadIn f b t (begunTake (threadIn f b t))
-
 module _ (f : Frame) (b : List ℕ) (t : ℕ) (choices : List ℕ) (r : Good f b) (passed : TakePassed f b t) where
   t-least : 1 ≤ t
   t-least = take-least f b t passed
@@ -101,7 +99,7 @@ module _ (f : Frame) (b : List ℕ) (t : ℕ) (choices : List ℕ) (r : Good f b
   t-most = take-most f b t passed
 
   abbrev begun : List ℕ
-  begun = begunOn f b t
+  begun = acceptedTake f b t
 
   begun-shared : sharedIn f begun ≡ sharedIn f b
   begun-shared = shared-setThread f b (r .placed) t (begunTake (threadIn f b t))
@@ -191,7 +189,7 @@ module _ (f : Frame) (b : List ℕ) (t : ℕ) (choices : List ℕ) (r : Good f b
           begun choices (accepted-take-keeps f b t passed r .good) begun-shared begun-thread long spent
 
 -- on a region of one queue
-begun-is : (b : List ℕ) (t : ℕ) → takeRefusal b t ≡ done → takeBytes b t ≡ begunOn (frameIn b) b t
+begun-is : (b : List ℕ) (t : ℕ) → takeRefusal b t ≡ done → takeBytes b t ≡ acceptedTake (frameIn b) b t
 unfolding takeBytes pick
 begun-is b t e = rw (eq-eqb (takeRefusal b t) done e) refl
 
@@ -207,30 +205,30 @@ take-costs b r own g t turns a = subst (EndsAt (LastAccess b t) (takeCost m)) (s
     choices : List ℕ
     choices = choicesOf t turns
 
-    same : takeSteps b t turns ≡ alone (frameIn b) (begunOn (frameIn b) b t) t choices
+    same : takeSteps b t turns ≡ alone (frameIn b) (acceptedTake (frameIn b) b t) t choices
     same = others-aside (frameIn b) t turns (takeBytes b t) (a .quiet) ∙ ap (λ x. alone (frameIn b) x t choices) (begun-is b t (a .begun))
 
     enough : takeCost m ≤ length choices
     enough = subst (λ n. takeCost m ≤ n) (ap length same ∙ length-alone (frameIn b) t choices _) (a .enough)
 
-    unspent : NoneSpent (alone (frameIn b) (begunOn (frameIn b) b t) t choices)
+    unspent : NoneSpent (alone (frameIn b) (acceptedTake (frameIn b) b t) t choices)
     unspent = subst NoneSpent same (a .unspent)
 
     passed : TakePassed (frameIn b) b t
-    passed = take-passed b t (a .begun)
+    passed = take-passed (frameIn b) b t (sym (take-refusal-in b r t) ∙ a .begun)
 
     go : Dec (nodeIn (frameIn b) b 1 .first ≡ 0)
-        → EndsAt (LastAccess b t) (takeCost m) (alone (frameIn b) (begunOn (frameIn b) b t) t choices)
+        → EndsAt (LastAccess b t) (takeCost m) (alone (frameIn b) (acceptedTake (frameIn b) b t) t choices)
     go (yes none) =
         let e = cost-empty m none in
-        subst (λ n. EndsAt (LastAccess b t) n (alone (frameIn b) (begunOn (frameIn b) b t) t choices)) (sym e)
+        subst (λ n. EndsAt (LastAccess b t) n (alone (frameIn b) (acceptedTake (frameIn b) b t) t choices)) (sym e)
         (ends-so (λ x h. record { empty = λ z. h; mended = λ full. absurd (full none) })
         (take-empty (frameIn b) b t choices (good b r) passed (a .clean) none (omega (arith, e, enough))))
     go (no full) =
         let e = cost-full m full in
         let k = cost-counted (m .depth) (restLevel m) (rest-most m (g .depth-least)) in
         let h = take-rests (frameIn b) b t choices (good b r) passed (a .clean) own g full (omega (arith, e, k, enough)) unspent in
-        subst (λ n. EndsAt (LastAccess b t) n (alone (frameIn b) (begunOn (frameIn b) b t) t choices)) (omega (arith, e, k, h .exact))
+        subst (λ n. EndsAt (LastAccess b t) n (alone (frameIn b) (acceptedTake (frameIn b) b t) t choices)) (omega (arith, e, k, h .exact))
         (ends-so (λ x l. record { empty = λ z. absurd (full z); mended = λ n. l }) (h .rests))
 
 -- The ceiling follows: the figure is at most 5 × d.

@@ -9,8 +9,8 @@ use Rattle.region.specs.Shape.{between, nodeCount}
 use Rattle.region.specs.Shared.{sharedIn, threadIn}
 use Rattle.region.specs.declared.frame.Frame.{Frame}
 use Rattle.region.specs.declared.record.Item.{Item}
-use Rattle.readable.specs.Readable.{readable, shapeIn}
-use Rattle.machine.specs.Begin.{frameIn, isIdle, isItem, mayPut, putRefusal}
+use Rattle.readable.specs.Readable.{readable, frameIn, shapeIn}
+use Rattle.begin.specs.Begin.{isIdle, isItem, mayPut, putRefusal}
 use Rattle.mound.specs.Account.{anyItem, putsAmong}
 use Rattle.mound.specs.Tree.{inList, inNodes}
 

@@ -12,8 +12,9 @@ use Rattle.region.specs.Shared.{nodeIn}
 use Rattle.region.specs.declared.answer.Answer.{Answer}
 use Rattle.region.specs.declared.answer.Answer.the-variants.{Moved, Refused}
 use Rattle.region.specs.declared.frame.Frame.{Frame}
-use Rattle.machine.specs.Begin.{frameIn, takeBytes, takeRefusal}
-use Rattle.machine.specs.Run.{Turn, accessesOf}
+use Rattle.readable.specs.Readable.{frameIn}
+use Rattle.begin.specs.Begin.{takeBytes, takeRefusal}
+use Rattle.run.specs.Run.{Turn, accessesOf}
 use Rattle.machine.specs.Turn.{turnAnswer, turnBytes}
 
 -- a turn: the region before it, its answer, and the region after it

@@ -9,8 +9,8 @@ use Rattle.region.specs.declared.record.Item.{Item}
 use Rattle.region.specs.declared.shape.Shape.{Shape}
 use Rattle.layout.specs.Layout.{layoutRefusal, layoutBytes}
 use Rattle.readable.specs.Readable.{checkAnswer}
-use Rattle.machine.specs.Begin.{putBytes, putRefusal, takeBytes, takeRefusal}
-use Rattle.machine.specs.Run.{runRefusal, runResult}
+use Rattle.begin.specs.Begin.{putBytes, putRefusal, takeBytes, takeRefusal}
+use Rattle.run.specs.Run.{runRefusal, runResult}
 
 pub data Call : Type 0 where
   layout : Shape → List ℕ → Call

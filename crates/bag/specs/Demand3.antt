@@ -12,7 +12,7 @@ use Rattle.region.specs.declared.answer.Answer.the-variants.{Moved, Idle, Inser
 use Rattle.region.specs.declared.frame.Frame.{Frame}
 use Rattle.region.specs.declared.record.Item.{Item}
 use Rattle.region.specs.declared.shape.Shape.{Shape}
-use Rattle.machine.specs.Begin.{frameIn}
+use Rattle.readable.specs.Readable.{frameIn}
 use Rattle.mound.specs.Ledger.{Ledger, Follows, emptyLedger}
 use Rattle.mound.specs.Told.{Told, nothing, decidesPut, decidesTake, decidesEmpty, answersTook}
 use Rattle.mound.specs.Tree.{inNodes, sameItem}

@@ -8,8 +8,8 @@ use Rattle.region.specs.declared.record.Item.{Item}
 use Rattle.region.specs.declared.shape.Shape.{Shape}
 use Rattle.layout.specs.Layout.{LaidOut}
 use Rattle.readable.specs.Readable.{checkAnswer}
-use Rattle.machine.specs.Begin.{PutBegun, TakeBegun}
-use Rattle.machine.specs.Run.{runResult}
+use Rattle.begin.specs.Begin.{PutBegun, TakeBegun}
+use Rattle.run.specs.Run.{runResult}
 use Rattle.queue.specs.Calls.{RunDone}
 use Rattle.bag.specs.Calls.{Call, layout, put, take, run, check, refusalOf, after}
 use Rattle.bag.specs.History.{servedMoments}

@@ -11,8 +11,8 @@ use Rattle.region.specs.declared.answer.Answer.{Answer}
 use Rattle.region.specs.declared.frame.Frame.{Frame}
 use Rattle.region.specs.declared.place.Place.{Place}
 use Rattle.region.specs.declared.record.Item.{Item}
-use Rattle.machine.specs.Begin.{frameIn}
-use Rattle.machine.specs.Run.{Served, Turn, runRefusal, serve, soFar, turnsFrom}
+use Rattle.readable.specs.Readable.{frameIn}
+use Rattle.run.specs.Run.{Served, Turn, runRefusal, serve, soFar, turnsFrom}
 use Rattle.machine.specs.Turn.{turnAnswer, turnBytes}
 use Rattle.bag.specs.Calls.{Call, layout, put, take, run, check, refusalOf, after}
 

@@ -9,9 +9,9 @@ use Rattle.region.specs.Shared.{cellIn, nodeIn, sharedIn, threadIn}
 use Rattle.region.specs.declared.answer.Answer.the-variants.{Took, Empty}
 use Rattle.region.specs.declared.frame.Frame.{Frame}
 use Rattle.region.specs.declared.place.Place.the-variants.{MendClean}
+use Rattle.readable.specs.Readable.{frameIn}
 use Rattle.cost.specs.Cost.{restLevel, takeCost}
-use Rattle.machine.specs.Begin.{frameIn}
-use Rattle.machine.specs.Run.{Turn}
+use Rattle.run.specs.Run.{Turn}
 use Rattle.mound.specs.Tree.{Listed, listFrom}
 use Rattle.bag.specs.Alone.{AllClean, Alone, EndsAt, Step, takeSteps}
 use Rattle.bag.specs.History.{rootItem}

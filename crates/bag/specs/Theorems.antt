@@ -7,8 +7,7 @@ use mathlib.Core.List.{List}
 use Rattle.region.specs.Answer.{unreadable}
 use Rattle.region.specs.declared.answer.Answer.the-variants.{Refused}
 use Rattle.region.specs.declared.record.Item.{Item}
-use Rattle.readable.specs.Readable.{readable, shapeIn}
-use Rattle.machine.specs.Begin.{frameIn}
+use Rattle.readable.specs.Readable.{frameIn, readable, shapeIn}
 use Rattle.machine.specs.Turn.{turnAnswer}
 use Rattle.mound.specs.Ledger.{Least}
 use Rattle.bag.specs.Account.{AllCellsAccounted, PutsRefusedWhenFull}

@@ -12,9 +12,9 @@ use Rattle.region.specs.declared.record.Item.{Item}
 use Rattle.region.specs.declared.shape.Shape.{Shape}
 use Rattle.cost.specs.Cost.{takeCost}
 use Rattle.layout.specs.Layout.{layoutRefusal, layoutBytes}
-use Rattle.readable.specs.Readable.{checkAnswer}
-use Rattle.machine.specs.Begin.{frameIn, putBytes, putRefusal, takeBytes, takeRefusal}
-use Rattle.machine.specs.Run.{Served, runResult}
+use Rattle.readable.specs.Readable.{checkAnswer, frameIn}
+use Rattle.begin.specs.Begin.{putBytes, putRefusal, takeBytes, takeRefusal}
+use Rattle.run.specs.Run.{Served, runResult}
 
 -- what is called on a laid-out region: a put of an item by a thread, a take, a run of these threads' turns, and a check of a copy with
 -- these words from a word on; what is asked of it: the cost of a take, and the present depth; and what no call does: these words are

@@ -18,8 +18,8 @@ use Rattle.moundify.specs.Moundify.{returning, mendReadNode, depthRead, mendRea
 use Rattle.cost.specs.Cost.{lesserChild, levelsDown, withoutHead, restLevel, costOfLevel, takeCost}
 use Rattle.layout.specs.Layout.{atMost, permissionsFit, layoutRefusal, cellWord, threadWord, laidWord, laidWords, layoutBytes}
 use Rattle.readable.specs.Readable.{triesMost, waitingMost, bounded, threadReadable, allRecords, treeReadable, fieldsReadable, readable, checkAnswer}
-use Rattle.machine.specs.Begin.{mayPut, mayTake, isIdle, isItem, hasFreeCell, putRefusal, acceptedPut, putBytes, takeRefusal, takeBytes}
-use Rattle.machine.specs.Run.{turnsFrom, serve, serveAll, runRefusal, runResult}
+use Rattle.begin.specs.Begin.{mayPut, mayTake, isIdle, isItem, hasFreeCell, putRefusal, acceptedPut, putBytes, takeRefusal, takeBytes}
+use Rattle.run.specs.Run.{turnsFrom, serve, serveAll, runRefusal, runResult}
 use Rattle.machine.specs.Turn.{decide, turnPlan, turnAnswer, carriedOut, turnBytes}
 
 unfoldable pub computes : ℕ

@@ -1,4 +1,3 @@
--- What the crates above cite of `machine` beside its contracts, how each place's plan can end, and the ways out of its functions.
-pub mod Laws
+-- How each place's plan ends, and the ways out of the functions.
 mod PlaceEffects
 mod Ways

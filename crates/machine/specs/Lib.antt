@@ -1,4 +1,2 @@
--- One turn, the two beginnings and a run, on a region's bytes.
-pub mod Begin
-pub mod Run
+-- One turn on a region's bytes.
 pub mod Turn

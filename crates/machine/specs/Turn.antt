@@ -3,7 +3,6 @@ use Prim.Native.Nat.{ℕ}
 use mathlib.Core.Path.{_≡_}
 use mathlib.Core.List.{List}
 use Rattle.region.specs.Answer.{badThread, unreadable}
-use Rattle.region.specs.Frame.{frameOf}
 use Rattle.region.specs.Pick.{pick}
 use Rattle.region.specs.Shape.{between}
 use Rattle.region.specs.Shared.{Shared, sharedIn, threadIn, setThreadIn}
@@ -20,7 +19,7 @@ use Rattle.access.specs.Plan.{plan, refused}
 pub use Rattle.access.specs.Plan.{ends, staysPut}
 use Rattle.access.specs.declared.effect.Effect.the-variants.{Nothing}
 use Rattle.access.specs.declared.plan.Plan.{Plan}
-use Rattle.readable.specs.Readable.{readable, shapeIn}
+use Rattle.readable.specs.Readable.{frameIn, readable}
 use Rattle.insert.specs.Insert.{readDepth, readLeaf, readAncestor, growDepth, readTarget, insertAtRoot, readParent, insertBelow}
 use Rattle.extract.specs.Extract.{readRoot, removeHead}
 use Rattle.moundify.specs.Moundify.{mendReadNode, mendReadDepth, mendReadLeft, mendReadRight, mendSwap, mendClean}
@@ -78,11 +77,11 @@ pub record Turned (f : Frame) (b b′ : List ℕ) (t c : ℕ) (r : Answer) : Typ
 -- a turn by itself on a whole region that holds one queue: "7: region not readable", then as above
 unfoldable pub turnOnAnswer : List ℕ → ℕ → ℕ → Answer
 unfolding turnAnswer
-turnOnAnswer b t c = pick (readable b) (turnAnswer (frameOf (shapeIn b)) b t c) (Refused unreadable)
+turnOnAnswer b t c = pick (readable b) (turnAnswer (frameIn b) b t c) (Refused unreadable)
 
 unfoldable pub turnOnBytes : List ℕ → ℕ → ℕ → List ℕ
 unfolding turnBytes
-turnOnBytes b t c = pick (readable b) (turnBytes (frameOf (shapeIn b)) b t c) b
+turnOnBytes b t c = pick (readable b) (turnBytes (frameIn b) b t c) b
 
 pub record TurnedOn (b b′ : List ℕ) (t c : ℕ) (r : Answer) : Type 0 where
   pub answer : r ≡ turnOnAnswer b t c

@@ -1,11 +1,7 @@
-// One turn of a thread, made at the place where it stands; and the beginnings of a put and a take. On a region's bytes.
-mod beginnings;
-
+// One turn of a thread on a region's bytes, made at the place where the thread stands.
 ghost use lib.ListN.{length};
 ghost use Rattle.region.specs.Inner.{Within};
 ghost use Rattle.machine.specs.Turn.{Turned, TurnedOn};
-pub use beginnings::begin_put;
-pub use beginnings::begin_take;
 use region::Answer;
 use region::BAD_THREAD;
 use region::Frame;

@@ -42,7 +42,8 @@ use Rattle.access.proofs.OrderLaws.{item-below-top}
 use Rattle.readable.specs.Readable.{readable, frameIn, shapeIn}
 use Rattle.readable.proofs.Laws.{Good, good}
 use Rattle.readable.proofs.Stores.{CellGood, FieldsGood, Keeps, PlaceGood, SharedGood, ThreadGood, good-shared, good-thread, keeps-more, keeps-same, keeps-setThread, make-good, readable-kept, shape-kept, thread-fit, threads-pass}
-use Rattle.machine.specs.Begin.{isIdle, isItem, mayPut, mayTake, acceptedPut, hasFreeCell, putRefusal, putBytes, takeRefusal, takeBytes}
+use Rattle.begin.specs.Begin.{isIdle, isItem, mayPut, mayTake, acceptedPut, acceptedTake, hasFreeCell, putBytes, putBytesIn, putRefusalIn, takeBytes, takeBytesIn, takeRefusalIn}
+use Rattle.begin.proofs.Laws.{put-bytes-in, take-bytes-in}
 use Rattle.machine.specs.Turn.{carriedOut, decide, decideAt, staysPut, turnBytes, turnPlan}
 use Rattle.preserved.specs.Theorems.{EmptyIsAbove, OutsideEffect, TurnKeepsReadable, PutKeepsReadable, TakeKeepsReadable, TurnKeepsShape, PutKeepsShape, TakeKeepsShape, TurnLeavesOthers, PutLeavesOthers, TakeLeavesOthers, TurnLeavesWords}
 use Rattle.preserved.proofs.EffectsGood.{cell-fit, few-cells, keeps-effect, put-cell}
@@ -120,12 +121,11 @@ pub record TakePassed (f : Frame) (b : List ℕ) (t : ℕ) : Type 0 where
   pub permitted : mayTake (threadIn f b t) ≡ true
   pub idle : isIdle (threadIn f b t) ≡ true
 
-pub take-passed : (b : List ℕ) (t : ℕ) → takeRefusal b t ≡ done → TakePassed (frameIn b) b t
-unfolding takeRefusal frameOf
-take-passed b t e =
-    let x = threadIn (frameIn b) b t in
-    let region = in-order (readable b) _ 7 (λ z. omega arith) e in
-    let thread = in-order (between 1 t (shapeIn b .threads)) _ 3 (λ z. omega arith) (region .1) in
+pub take-passed : (f : Frame) (b : List ℕ) (t : ℕ) → takeRefusalIn f b t ≡ done → TakePassed f b t
+unfolding takeRefusalIn
+take-passed f b t e =
+    let x = threadIn f b t in
+    let thread = in-order (between 1 t (f .shape .threads)) _ 3 (λ z. omega arith) e in
     let permitted = in-order (mayTake x) _ 8 (λ z. omega arith) (thread .1) in
     let idle = in-order (isIdle x) _ 9 (λ z. omega arith) (permitted .1) in
     record { thread = thread .0; permitted = permitted .0; idle = idle .0 }
@@ -145,21 +145,25 @@ module _ (f : Frame) (b : List ℕ) (t : ℕ) (p : TakePassed f b t) where
     pub taker-good : ThreadGood (f .shape) (begunTake (threadIn f b t))
     taker-good = begun-take-good (f .shape) _ (good-thread f b g t)
 
-    pub accepted-take-keeps : Keeps f b (setThreadIn f b t (begunTake (threadIn f b t)))
+    pub accepted-take-keeps : Keeps f b (acceptedTake f b t)
     accepted-take-keeps = keeps-setThread f b g t take-least take-most _ taker-good
 
-pub take-keeps : (b : List ℕ) → Good (frameIn b) b → (t : ℕ) → Keeps (frameIn b) b (takeBytes b t)
-unfolding takeBytes
-take-keeps b g t =
-    pick-good (Keeps (frameIn b) b) (eqb (takeRefusal b t) done)
-    (λ h. accepted-take-keeps (frameIn b) b t (take-passed b t (eqb-true (takeRefusal b t) done h)) g)
+pub take-keeps : (f : Frame) (b : List ℕ) → Good f b → (t : ℕ) → Keeps f b (takeBytesIn f b t)
+unfolding takeBytesIn
+take-keeps f b g t =
+    pick-good (Keeps f b) (eqb (takeRefusalIn f b t) done)
+    (λ h. accepted-take-keeps f b t (take-passed f b t (eqb-true (takeRefusalIn f b t) done h)) g)
     (λ h. keeps-same g)
 
+-- on a readable region
+take-keeps-on : (b : List ℕ) → readable b ≡ true → (t : ℕ) → Keeps (frameIn b) b (takeBytes b t)
+take-keeps-on b e t = subst (Keeps (frameIn b) b) (sym (take-bytes-in b e t)) (take-keeps (frameIn b) b (good b e) t)
+
 pub take-keeps-readable : TakeKeepsReadable
-take-keeps-readable b e t = readable-kept b _ e (take-keeps b (good b e) t)
+take-keeps-readable b e t = readable-kept b _ e (take-keeps-on b e t)
 
 pub take-keeps-shape : TakeKeepsShape
-take-keeps-shape b e t = shape-kept b _ e (take-keeps b (good b e) t)
+take-keeps-shape b e t = shape-kept b _ e (take-keeps-on b e t)
 
 -- Stores of the first free cell and of a cell keep the bytes in range.
 module _ (f : Frame) (b : List ℕ) (g : Good f b) where
@@ -211,16 +215,15 @@ pub record PutPassed (f : Frame) (b : List ℕ) (t : ℕ) (i : Item) : Type 0 wh
   pub idle : isIdle (threadIn f b t) ≡ true
   pub cell : hasFreeCell f b ≡ true
 
-pub put-passed : (b : List ℕ) (t : ℕ) (i : Item) → putRefusal b t i ≡ done → PutPassed (frameIn b) b t i
-unfolding putRefusal frameOf
-put-passed b t i e =
-    let x = threadIn (frameIn b) b t in
-    let region = in-order (readable b) _ 7 (λ z. omega arith) e in
-    let thread = in-order (between 1 t (shapeIn b .threads)) _ 3 (λ z. omega arith) (region .1) in
+pub put-passed : (f : Frame) (b : List ℕ) (t : ℕ) (i : Item) → putRefusalIn f b t i ≡ done → PutPassed f b t i
+unfolding putRefusalIn
+put-passed f b t i e =
+    let x = threadIn f b t in
+    let thread = in-order (between 1 t (f .shape .threads)) _ 3 (λ z. omega arith) e in
     let item = in-order (isItem i) _ 4 (λ z. omega arith) (thread .1) in
     let permitted = in-order (mayPut x) _ 8 (λ z. omega arith) (item .1) in
     let idle = in-order (isIdle x) _ 9 (λ z. omega arith) (permitted .1) in
-    let cell = in-order (hasFreeCell (frameIn b) b) _ 10 (λ z. omega arith) (idle .1) in
+    let cell = in-order (hasFreeCell f b) _ 10 (λ z. omega arith) (idle .1) in
     record { thread = thread .0; item = item .0; permitted = permitted .0; idle = idle .0; cell = cell .0 }
 
 pub begun-put-good : (s : Shape) (t : Thread) → ThreadGood s t → (i : Item) → i .key < 2 ^ 32 → i .tag ≤ greatestTag → (own : ℕ)
@@ -289,18 +292,22 @@ module _ (f : Frame) (b : List ℕ) (t : ℕ) (i : Item) (p : PutPassed f b t i)
         keeps-more moved-keeps
         (keeps-more stored-keeps (keeps-setThread f ownStored (stored-keeps .good) t put-least put-most _ putter-good))
 
-pub put-keeps : (b : List ℕ) → Good (frameIn b) b → (t : ℕ) (i : Item) → Keeps (frameIn b) b (putBytes b t i)
-unfolding putBytes
-put-keeps b g t i =
-    pick-good (Keeps (frameIn b) b) (eqb (putRefusal b t i) done)
-    (λ h. accepted-put-keeps (frameIn b) b t i (put-passed b t i (eqb-true (putRefusal b t i) done h)) g)
+pub put-keeps : (f : Frame) (b : List ℕ) → Good f b → (t : ℕ) (i : Item) → Keeps f b (putBytesIn f b t i)
+unfolding putBytesIn
+put-keeps f b g t i =
+    pick-good (Keeps f b) (eqb (putRefusalIn f b t i) done)
+    (λ h. accepted-put-keeps f b t i (put-passed f b t i (eqb-true (putRefusalIn f b t i) done h)) g)
     (λ h. keeps-same g)
 
+-- on a readable region
+put-keeps-on : (b : List ℕ) → readable b ≡ true → (t : ℕ) (i : Item) → Keeps (frameIn b) b (putBytes b t i)
+put-keeps-on b e t i = subst (Keeps (frameIn b) b) (sym (put-bytes-in b e t i)) (put-keeps (frameIn b) b (good b e) t i)
+
 pub put-keeps-readable : PutKeepsReadable
-put-keeps-readable b e t i = readable-kept b _ e (put-keeps b (good b e) t i)
+put-keeps-readable b e t i = readable-kept b _ e (put-keeps-on b e t i)
 
 pub put-keeps-shape : PutKeepsShape
-put-keeps-shape b e t i = shape-kept b _ e (put-keeps b (good b e) t i)
+put-keeps-shape b e t i = shape-kept b _ e (put-keeps-on b e t i)
 
 -- What a turn leaves alone: storing a record of thread t's leaves every other thread's alone
 store-others : (f : Frame) (b : List ℕ) → Good f b → (t : ℕ) → 1 ≤ t → t ≤ f .shape .threads → (v : Thread) → ThreadGood (f .shape) v
@@ -336,20 +343,22 @@ pub turn-leaves-others : TurnLeavesOthers
 turn-leaves-others b e t c u n = turn-others (frameIn b) b (good b e) t c u n
 
 -- What a beginning leaves alone.
-pub take-leaves-others : TakeLeavesOthers
-unfolding takeBytes
-take-leaves-others b e t u n =
-    let f = frameIn b in
-    let g = good b e in
-    pick-good (λ x. threadIn f x u ≡ threadIn f b u) (eqb (takeRefusal b t) done)
-    (λ h. let p = take-passed b t (eqb-true (takeRefusal b t) done h) in
+take-others : (f : Frame) (b : List ℕ) → Good f b → (t u : ℕ) → (u ≡ t → ⊥) → threadIn f (takeBytesIn f b t) u ≡ threadIn f b u
+unfolding takeBytesIn
+take-others f b g t u n =
+    pick-good (λ x. threadIn f x u ≡ threadIn f b u) (eqb (takeRefusalIn f b t) done)
+    (λ h. let p = take-passed f b t (eqb-true (takeRefusalIn f b t) done h) in
     store-others f b g t (take-least f b t p) (take-most f b t p) _ (taker-good f b t p g) u n)
     (λ h. refl)
 
-put-others : (f : Frame) (b : List ℕ) (t : ℕ) (i : Item) → PutPassed f b t i → Good f b → (u : ℕ) → (u ≡ t → ⊥)
+pub take-leaves-others : TakeLeavesOthers
+take-leaves-others b e t u n =
+    ap (λ x. threadIn (frameIn b) x u) (take-bytes-in b e t) ∙ take-others (frameIn b) b (good b e) t u n
+
+accepted-put-others : (f : Frame) (b : List ℕ) (t : ℕ) (i : Item) → PutPassed f b t i → Good f b → (u : ℕ) → (u ≡ t → ⊥)
     → threadIn f (acceptedPut f b t i) u ≡ threadIn f b u
 unfolding acceptedPut
-put-others f b t i p g u n =
+accepted-put-others f b t i p g u n =
     let c = own f b t i p in
     let moved = moved-keeps f b t i p g .good in
     let stored = stored-keeps f b t i p g .good in
@@ -358,12 +367,17 @@ put-others f b t i p g u n =
     (threads-setCell f (freeMoved f b t i p) (moved .placed) c (mine f b t i p)
     ∙ threads-setFree f b (g .placed) (cellIn f b c .next))
 
-pub put-leaves-others : PutLeavesOthers
-unfolding putBytes
-put-leaves-others b e t i u n =
-    pick-good (λ x. threadIn (frameIn b) x u ≡ threadIn (frameIn b) b u) (eqb (putRefusal b t i) done)
-    (λ h. put-others (frameIn b) b t i (put-passed b t i (eqb-true (putRefusal b t i) done h)) (good b e) u n)
+put-others : (f : Frame) (b : List ℕ) → Good f b → (t : ℕ) (i : Item) (u : ℕ) → (u ≡ t → ⊥)
+    → threadIn f (putBytesIn f b t i) u ≡ threadIn f b u
+unfolding putBytesIn
+put-others f b g t i u n =
+    pick-good (λ x. threadIn f x u ≡ threadIn f b u) (eqb (putRefusalIn f b t i) done)
+    (λ h. accepted-put-others f b t i (put-passed f b t i (eqb-true (putRefusalIn f b t i) done h)) g u n)
     (λ h. refl)
+
+pub put-leaves-others : PutLeavesOthers
+put-leaves-others b e t i u n =
+    ap (λ x. threadIn (frameIn b) x u) (put-bytes-in b e t i) ∙ put-others (frameIn b) b (good b e) t i u n
 
 -- an effect changes none but its own words
 module _ (f : Frame) (j : ℕ) where

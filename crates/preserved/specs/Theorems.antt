@@ -15,8 +15,8 @@ use Rattle.region.specs.declared.record.Item.{Item}
 use Rattle.access.specs.Order.{itemLt, topItem}
 use Rattle.access.specs.declared.effect.Effect.{Effect}
 use Rattle.access.specs.declared.effect.Effect.the-variants.{Nothing, Grow, Push, Pop, Exchange, Clean}
-use Rattle.readable.specs.Readable.{readable, shapeIn}
-use Rattle.machine.specs.Begin.{frameIn, putBytes, takeBytes}
+use Rattle.readable.specs.Readable.{frameIn, readable, shapeIn}
+use Rattle.begin.specs.Begin.{putBytes, takeBytes}
 use Rattle.machine.specs.Turn.{turnBytes, turnPlan}
 
 -- "an empty node is above every item" (document 02, request 2): what a turn compares an empty node with is less, be it the item of a cell,

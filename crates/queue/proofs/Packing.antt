@@ -4,7 +4,7 @@ use native.Mathlib.Omega.{arith}
 use mathlib.Core.Path.{_≡_, ap, _∙_}
 use mathlib.Core.List.{List}
 use lib.ListN.{length}
-use Rattle.machine.specs.Run.{runRefusal, runResult}
+use Rattle.run.specs.Run.{runRefusal, runResult}
 use Rattle.run.specs.Inner.{Ran}
 use Rattle.run.specs.declared.Outcome.{Outcome}
 use Rattle.run.proofs.Laws.{refusal-most, counts-most}

@@ -5,7 +5,7 @@ use mathlib.Core.List.{List}
 use lib.ListN.{length}
 use Rattle.region.specs.declared.record.Item.{Item}
 use Rattle.region.specs.declared.shape.Shape.{Shape}
-use Rattle.machine.specs.Run.{runRefusal, runResult}
+use Rattle.run.specs.Run.{runRefusal, runResult}
 
 -- the shape that layout's numbers give: D, C, T, H
 abbrev pub shapeGiven : ℕ → ℕ → ℕ → ℕ → Shape

@@ -4,7 +4,7 @@
 ghost use mathlib.Core.Path.{_≡_};
 ghost use Rattle.layout.specs.Layout.{LaidOut};
 ghost use Rattle.readable.specs.Readable.{checkAnswer};
-ghost use Rattle.machine.specs.Begin.{PutBegun, TakeBegun};
+ghost use Rattle.begin.specs.Begin.{PutBegun, TakeBegun};
 ghost use Rattle.queue.specs.Calls.{RunDone, itemGiven, packed, shapeGiven};
 ghost use Rattle.queue.specs.Inner.{PackAsked};
 use region::Item;
@@ -39,7 +39,7 @@ pub extern "C" fn mound_layout(
 pub extern "C" fn mound_put(region: &mut [u8], thread: u32, key: u32, tag: u32) -> u32
     ensures { λ r. ⌜ PutBegun (now (region .entry)) (now (region .exit)) thread (itemGiven key tag) r ⌝ }
 {
-    machine::begin_put(region, thread, Item { key, tag })
+    begin::begin_put(region, thread, Item { key, tag })
 }
 
 // Begins a take by a thread: 0 if begun. Refusals 7, 3, 8, 9.
@@ -47,7 +47,7 @@ pub extern "C" fn mound_put(region: &mut [u8], thread: u32, key: u32, tag: u32) 
 pub extern "C" fn mound_take(region: &mut [u8], thread: u32) -> u32
     ensures { λ r. ⌜ TakeBegun (now (region .entry)) (now (region .exit)) thread r ⌝ }
 {
-    machine::begin_take(region, thread)
+    begin::begin_take(region, thread)
 }
 
 // A run's three numbers in one.

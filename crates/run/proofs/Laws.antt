@@ -12,9 +12,8 @@ use Rattle.region.specs.Pick.{pick}
 use Rattle.region.specs.declared.answer.Answer.{Answer}
 use Rattle.region.specs.declared.answer.Answer.the-variants.{Moved, Idle, Inserted, Took, Empty, Refused}
 use Rattle.region.specs.declared.frame.Frame.{Frame}
-use Rattle.readable.specs.Readable.{readable}
-use Rattle.machine.specs.Begin.{frameIn}
-use Rattle.machine.specs.Run.{Served, Turn, accessesOf, runRefusal, runResult, serve, serveAll, soFar, turnsFrom}
+use Rattle.readable.specs.Readable.{frameIn, readable}
+use Rattle.run.specs.Run.{Served, Turn, accessesOf, runRefusal, runResult, serve, serveAll, soFar, turnsFrom}
 use Rattle.machine.specs.Turn.{turnAnswer}
 
 pub one-access : (x : Answer) → accessesOf x ≤ 1

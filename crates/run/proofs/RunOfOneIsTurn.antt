@@ -13,9 +13,8 @@ use Rattle.words.specs.Word.{word, setWords}
 use Rattle.region.specs.Answer.{answerWords, done, unreadable}
 use Rattle.region.specs.Pick.{pick}
 use Rattle.region.specs.declared.answer.Answer.the-variants.{Refused}
-use Rattle.readable.specs.Readable.{readable}
-use Rattle.machine.specs.Begin.{frameIn}
-use Rattle.machine.specs.Run.{accessesOf, runRefusal, runResult, serve, serveAll, soFar, turnAt, turnsFrom}
+use Rattle.readable.specs.Readable.{frameIn, readable}
+use Rattle.run.specs.Run.{accessesOf, runRefusal, runResult, serve, serveAll, soFar, turnAt, turnsFrom}
 use Rattle.machine.specs.Turn.{turnAnswer, turnBytes, turnOnAnswer, turnOnBytes}
 use Rattle.run.specs.Theorems.{RunOfOneIsTurn}
 

@@ -18,7 +18,7 @@ use Rattle.region.specs.declared.answer.Answer.{Answer}
 use Rattle.region.specs.declared.frame.Frame.{Frame}
 use Rattle.readable.specs.Readable.{readable, shapeIn}
 use Rattle.readable.proofs.Laws.{readable-within}
-use Rattle.machine.specs.Run.{accessesOf, runRefusal, runResult, serve, serveAll, soFar, turnAt, turnsFrom}
+use Rattle.run.specs.Run.{accessesOf, runRefusal, runResult, serve, serveAll, soFar, turnAt, turnsFrom}
 use Rattle.machine.specs.Turn.{Turned, turnAnswer, turnBytes}
 use Rattle.run.specs.Inner.{Ran, RunAsked, TurnAsked}
 use Rattle.run.specs.declared.Counts.{Counts}

@@ -5,7 +5,7 @@ use mathlib.Core.List.{List}
 use lib.ListN.{length}
 use Rattle.region.specs.Inner.{Within}
 use Rattle.region.specs.declared.frame.Frame.{Frame}
-use Rattle.machine.specs.Run.{runRefusal, runResult, soFar}
+use Rattle.run.specs.Run.{runRefusal, runResult, soFar}
 use Rattle.run.specs.declared.Outcome.{Outcome}
 
 -- for one turn: the frame lies within b bytes, turn k within s bytes of schedule, its answer within a bytes; n accesses were made

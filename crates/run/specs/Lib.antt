@@ -1,3 +1,4 @@
--- The contracts of the run, and what holds of runs; what a run does is defined in the crate `machine`, Run.antt.
+-- What a run does, the contracts of its functions, and what holds of runs.
 pub mod Inner
+pub mod Run
 pub mod Theorems

@@ -4,7 +4,7 @@ ghost use Prim.Native.Nat.{_+_, _*_, _/_, _≤_};
 ghost use lib.ListN.{length};
 ghost use Rattle.words.specs.Word.{setWords};
 ghost use Rattle.region.specs.Answer.{answerWords};
-ghost use Rattle.machine.specs.Run.{accessesOf, runRefusal, serve, serveAll, soFar, turnAt, turnsFrom};
+ghost use Rattle.run.specs.Run.{accessesOf, runRefusal, serve, serveAll, soFar, turnAt, turnsFrom};
 ghost use Rattle.run.specs.Inner.{Ran, RunAsked, TurnAsked};
 use region::Answer;
 use region::BAD_SCHEDULE;

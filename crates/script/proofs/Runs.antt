@@ -14,7 +14,7 @@ use Rattle.region.specs.Pick.{pick}
 use Rattle.region.specs.declared.answer.Answer.{Answer}
 use Rattle.region.specs.declared.answer.Answer.the-variants.{Refused}
 use Rattle.region.specs.declared.record.Item.{Item}
-use Rattle.machine.specs.Begin.{PutBegun, TakeBegun}
+use Rattle.begin.specs.Begin.{PutBegun, TakeBegun}
 use Rattle.machine.specs.Turn.{TurnedOn}
 use Rattle.script.specs.Inner.{Wrote, CallMade, LinesRan}
 use Rattle.script.specs.Reading.{readLine}

@@ -9,7 +9,7 @@ use Rattle.region.specs.Pick.{pick}
 use Rattle.region.specs.Shape.{regionWords}
 use Rattle.region.specs.declared.answer.Answer.the-variants.{Refused}
 use Rattle.layout.specs.Layout.{layoutRefusal, layoutBytes}
-use Rattle.machine.specs.Begin.{putRefusal, putBytes, takeRefusal, takeBytes}
+use Rattle.begin.specs.Begin.{putRefusal, putBytes, takeRefusal, takeBytes}
 use Rattle.machine.specs.Turn.{turnOnAnswer, turnOnBytes}
 use Rattle.script.specs.Text.{ascii}
 use Rattle.script.specs.Reading.{readLine, readOpening}

@@ -41,8 +41,8 @@ fn make_call(region: &mut [u8], what: What, thread: u32) -> Outcome
     ensures { λ r. ⌜ CallMade (now (region .entry)) (now (region .exit)) what thread r ⌝ }
 {
     match what {
-        What::Put(item) => begun_or(machine::begin_put(region, thread, item)),
-        What::Take => begun_or(machine::begin_take(region, thread)),
+        What::Put(item) => begun_or(begin::begin_put(region, thread, item)),
+        What::Take => begun_or(begin::begin_take(region, thread)),
         What::Turn(choice) => Outcome::Answered(machine::turn_on(region, thread, choice)),
     }
 }

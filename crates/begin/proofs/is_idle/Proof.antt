@@ -1,8 +1,8 @@
--- `machine::beginnings::is_idle` meets its contract. Assumes nothing.
+-- `begin::is_idle` meets its contract. Assumes nothing.
 use borrow.Author.Needs.{needs}
-use Rattle.machine.proofs.beginnings.is_idle.Statement.{statement}
-use Rattle.machine.proofs.Ways.{idle-test}
-use Rattle.machine.proofs.beginnings.is_idle.Tie as tie
+use Rattle.begin.proofs.is_idle.Statement.{statement}
+use Rattle.begin.proofs.Ways.{idle-test}
+use Rattle.begin.proofs.is_idle.Tie as tie
 
 number-requires : tie.Need-number-requires
 number-requires c κs = search needs

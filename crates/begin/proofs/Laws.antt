@@ -1,16 +1,21 @@
--- What the tests of the two beginnings tell: a thread that may put or take has a permission, and an idle one stands at no place.
--- Assumes nothing.
-use Prim.Native.Nat.{_/_, _%_, _≤_}
+-- What the tests of the two beginnings tell: a thread that may put or take has a permission, and an idle one stands at no place. On a
+-- readable region each beginning is the one under its frame. Assumes nothing.
+use Prim.Native.Nat.{ℕ, _/_, _%_, _≤_}
 use native.Mathlib.Omega.{arith}
-use mathlib.Core.Path.{_≡_, refl, sym}
+use mathlib.Core.Path.{_≡_, refl, sym, ap}
 use mathlib.Core.Bool.{true, true≢false}
+use mathlib.Core.List.{List}
 use borrow.Author.Tests.{eqb-true}
 use lib.Dec.{eqb}
+use Rattle.region.specs.Answer.{done}
+use Rattle.region.specs.Pick.{pick}
 use Rattle.region.specs.Place.{placeNumber}
 use Rattle.region.specs.declared.place.Place.{Place}
 use Rattle.region.specs.declared.place.Place.the-variants.{Idle, ReadDepth, ReadLeaf, ReadAncestor, GrowDepth, ReadTarget, InsertAtRoot, ReadParent, InsertBelow, ReadRoot, RemoveHead, MendReadNode, MendReadDepth, MendReadLeft, MendReadRight, MendSwap, MendClean}
+use Rattle.region.specs.declared.record.Item.{Item}
 use Rattle.region.specs.declared.thread.Thread.{Thread}
-use Rattle.machine.specs.Begin.{isIdle, mayPut, mayTake}
+use Rattle.readable.specs.Readable.{frameIn, readable}
+use Rattle.begin.specs.Begin.{acceptedPut, acceptedTake, isIdle, mayPut, mayTake, putBytes, putBytesIn, putRefusal, putRefusalIn, takeBytes, takeBytesIn, takeRefusal, takeRefusalIn}
 
 -- "0 is the empty list and grants nothing"
 pub may-put : (t : Thread) → mayPut t ≡ true → 1 ≤ t .permission
@@ -43,3 +48,21 @@ idle-place (MendClean w) e = absurd (true≢false (sym e))
 pub is-idle : (x : Thread) → isIdle x ≡ true → x .place ≡ Idle
 unfolding isIdle
 is-idle x e = idle-place (x .place) e
+
+-- On a readable region a call is the one under its frame.
+module _ (b : List ℕ) (e : readable b ≡ true) (t : ℕ) where
+  pub put-refusal-in : (i : Item) → putRefusal b t i ≡ putRefusalIn (frameIn b) b t i
+  unfolding putRefusal pick
+  put-refusal-in i = rw e refl
+
+  pub put-bytes-in : (i : Item) → putBytes b t i ≡ putBytesIn (frameIn b) b t i
+  unfolding putBytes putBytesIn
+  put-bytes-in i = ap (λ n. pick (eqb n done) (acceptedPut (frameIn b) b t i) b) (put-refusal-in i)
+
+  pub take-refusal-in : takeRefusal b t ≡ takeRefusalIn (frameIn b) b t
+  unfolding takeRefusal pick
+  take-refusal-in = rw e refl
+
+  pub take-bytes-in : takeBytes b t ≡ takeBytesIn (frameIn b) b t
+  unfolding takeBytes takeBytesIn
+  take-bytes-in = ap (λ n. pick (eqb n done) (acceptedTake (frameIn b) b t) b) take-refusal-in

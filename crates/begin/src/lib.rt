@@ -1,9 +1,10 @@
-// Beginning a put and a take: calls on a whole region, which refuse what they cannot begin and then change no byte.
+// Beginning a put and a take: what cannot begin is refused, and then no byte changes. First under a frame, for any region that
+// has a queue in it; then as calls on a whole region that holds one queue.
 ghost use mathlib.Core.Path.{_≡_};
 ghost use lib.ListN.{length};
 ghost use Rattle.region.specs.Answer.{done, threadBusy, noFreeCell, _unless_otherwise_};
 ghost use Rattle.region.specs.Inner.{Within};
-ghost use Rattle.machine.specs.Begin.{PutBegun, TakeBegun, isIdle, isItem, mayPut, mayTake, acceptedPut, hasFreeCell, putRefusal, takeRefusal};
+ghost use Rattle.begin.specs.Begin.{PutBegun, PutBegunIn, TakeBegun, TakeBegunIn, isIdle, isItem, mayPut, mayTake, acceptedPut, hasFreeCell, putRefusalIn, takeRefusalIn};
 use region::BAD_ITEM;
 use region::BAD_THREAD;
 use region::Cell;
@@ -58,14 +59,11 @@ fn put_busy(f: Frame, b: &[u8], t: Thread) -> u32
     DONE
 }
 
-// The refusal of a put, or done.
-fn put_refusal(b: &[u8], thread: u32, item: Item) -> u32
-    ensures { λ r. ⌜ r ≡ putRefusal (now (b .entry)) thread item ⌝ }
+// The refusal of a put under a frame, or done.
+fn put_refusal(f: Frame, b: &[u8], thread: u32, item: Item) -> u32
+    requires { ⌜ Within f (length (now b)) ⌝ }
+    ensures { λ r. ⌜ r ≡ putRefusalIn f (now (b .entry)) thread item ⌝ }
 {
-    if !readable::is_readable(b) {
-        return UNREADABLE;
-    }
-    let f = readable::frame_of(b);
     let shape = f.shape;
     if !region::is_between(1, thread, shape.threads) {
         return BAD_THREAD;
@@ -93,26 +91,34 @@ fn accept_put(f: Frame, b: &mut [u8], thread: u32, item: Item)
     f.store_thread(b, thread, t.begun_put(item, own));
 }
 
-// Begins a put of item by a thread: 0 if begun, else the refusal (7, 3, 4, 8, 9, 10).
-pub fn begin_put(b: &mut [u8], thread: u32, item: Item) -> u32
-    ensures { λ r. ⌜ PutBegun (now (b .entry)) (now (b .exit)) thread item r ⌝ }
+// Begins a put of item by a thread under a frame: 0 if begun, else the refusal (3, 4, 8, 9, 10).
+pub fn begin_put_in(f: Frame, b: &mut [u8], thread: u32, item: Item) -> u32
+    requires { ⌜ Within f (length (now b)) ⌝ }
+    ensures { λ r. ⌜ PutBegunIn f (now (b .entry)) (now (b .exit)) thread item r ⌝ }
 {
-    let refused = put_refusal(b, thread, item);
+    let refused = put_refusal(f, b, thread, item);
     if refused == DONE {
-        let f = readable::frame_of(b);
         accept_put(f, b, thread, item);
     }
     refused
 }
 
-// The refusal of a take, or done.
-fn take_refusal(b: &[u8], thread: u32) -> u32
-    ensures { λ r. ⌜ r ≡ takeRefusal (now (b .entry)) thread ⌝ }
+// Begins a put of item by a thread: 0 if begun, else the refusal (7, 3, 4, 8, 9, 10).
+pub fn begin_put(b: &mut [u8], thread: u32, item: Item) -> u32
+    ensures { λ r. ⌜ PutBegun (now (b .entry)) (now (b .exit)) thread item r ⌝ }
 {
     if !readable::is_readable(b) {
         return UNREADABLE;
     }
     let f = readable::frame_of(b);
+    begin_put_in(f, b, thread, item)
+}
+
+// The refusal of a take under a frame, or done.
+fn take_refusal(f: Frame, b: &[u8], thread: u32) -> u32
+    requires { ⌜ Within f (length (now b)) ⌝ }
+    ensures { λ r. ⌜ r ≡ takeRefusalIn f (now (b .entry)) thread ⌝ }
+{
     let shape = f.shape;
     if !region::is_between(1, thread, shape.threads) {
         return BAD_THREAD;
@@ -127,15 +133,26 @@ fn take_refusal(b: &[u8], thread: u32) -> u32
     DONE
 }
 
-// Begins a take by a thread: 0 if begun, else the refusal (7, 3, 8, 9).
-pub fn begin_take(b: &mut [u8], thread: u32) -> u32
-    ensures { λ r. ⌜ TakeBegun (now (b .entry)) (now (b .exit)) thread r ⌝ }
+// Begins a take by a thread under a frame: 0 if begun, else the refusal (3, 8, 9).
+pub fn begin_take_in(f: Frame, b: &mut [u8], thread: u32) -> u32
+    requires { ⌜ Within f (length (now b)) ⌝ }
+    ensures { λ r. ⌜ TakeBegunIn f (now (b .entry)) (now (b .exit)) thread r ⌝ }
 {
-    let refused = take_refusal(b, thread);
+    let refused = take_refusal(f, b, thread);
     if refused == DONE {
-        let f = readable::frame_of(b);
         let t = f.load_thread(b, thread);
         f.store_thread(b, thread, t.begun_take());
     }
     refused
+}
+
+// Begins a take by a thread: 0 if begun, else the refusal (7, 3, 8, 9).
+pub fn begin_take(b: &mut [u8], thread: u32) -> u32
+    ensures { λ r. ⌜ TakeBegun (now (b .entry)) (now (b .exit)) thread r ⌝ }
+{
+    if !readable::is_readable(b) {
+        return UNREADABLE;
+    }
+    let f = readable::frame_of(b);
+    begin_take_in(f, b, thread)
 }

@@ -1,4 +1,4 @@
--- Beginning a put and a take on a whole region (document 01, The sixteen places and the refusals).
+-- Beginning a put and a take (document 01, The sixteen places and the refusals), under a frame and on a whole region that holds one queue.
 use Prim.Native.Nat.{ℕ, _/_, _%_}
 use mathlib.Core.Path.{_≡_}
 use mathlib.Core.Bool.{Bool, not, _&&_}
@@ -16,11 +16,7 @@ use Rattle.region.specs.Thread.{begunPut, begunTake}
 use Rattle.region.specs.declared.frame.Frame.{Frame}
 use Rattle.region.specs.declared.record.Item.{Item}
 use Rattle.region.specs.declared.thread.Thread.{Thread}
-use Rattle.readable.specs.Readable.{readable, shapeIn}
-
--- the frame of a region that holds one queue
-abbrev pub frameIn : List ℕ → Frame
-frameIn b = frameOf (shapeIn b)
+use Rattle.readable.specs.Readable.{frameIn, readable}
 
 -- "bit 0 put, bit 1 take; 0 is the empty list and grants nothing"
 unfoldable pub mayPut : Thread → Bool
@@ -40,16 +36,19 @@ isItem i = leb (i .key) greatestKey && leb (i .tag) greatestTag
 unfoldable pub hasFreeCell : Frame → List ℕ → Bool
 hasFreeCell f b = not (eqb (word b (f .free)) 0)
 
--- "Put 7, 3, 4, 8, 9, 10."
-unfoldable pub putRefusal : List ℕ → ℕ → Item → ℕ
-putRefusal b t i =
-    unreadable unless readable b
-    otherwise badThread unless between 1 t (shapeIn b .threads)
+-- "Put 7, 3, 4, 8, 9, 10.": under a frame all but 7
+unfoldable pub putRefusalIn : Frame → List ℕ → ℕ → Item → ℕ
+putRefusalIn f b t i =
+    badThread unless between 1 t (f .shape .threads)
     otherwise badItem unless isItem i
-    otherwise notPermitted unless mayPut (threadIn (frameIn b) b t)
-    otherwise threadBusy unless isIdle (threadIn (frameIn b) b t)
-    otherwise noFreeCell unless hasFreeCell (frameIn b) b
+    otherwise notPermitted unless mayPut (threadIn f b t)
+    otherwise threadBusy unless isIdle (threadIn f b t)
+    otherwise noFreeCell unless hasFreeCell f b
     otherwise done
+
+unfoldable pub putRefusal : List ℕ → ℕ → Item → ℕ
+unfolding putRefusalIn frameOf
+putRefusal b t i = unreadable unless readable b otherwise putRefusalIn (frameIn b) b t i
 
 -- "Own cell is the first free one; key and tag are written in it, next 0": it leaves the chain
 unfoldable pub acceptedPut : Frame → List ℕ → ℕ → Item → List ℕ
@@ -62,30 +61,49 @@ acceptedPut f b t i =
     t
     (begunPut (threadIn f b t) i (word b (f .free)))
 
+-- what a put leaves: a refused one leaves the region alone
+unfoldable pub putBytesIn : Frame → List ℕ → ℕ → Item → List ℕ
+unfolding acceptedPut
+putBytesIn f b t i = pick (eqb (putRefusalIn f b t i) done) (acceptedPut f b t i) b
+
 unfoldable pub putBytes : List ℕ → ℕ → Item → List ℕ
 unfolding acceptedPut
 putBytes b t i = pick (eqb (putRefusal b t i) done) (acceptedPut (frameIn b) b t i) b
 
--- "Take 7, 3, 8, 9."
-unfoldable pub takeRefusal : List ℕ → ℕ → ℕ
-takeRefusal b t =
-    unreadable unless readable b
-    otherwise badThread unless between 1 t (shapeIn b .threads)
-    otherwise notPermitted unless mayTake (threadIn (frameIn b) b t)
-    otherwise threadBusy unless isIdle (threadIn (frameIn b) b t)
+-- "Take 7, 3, 8, 9.": under a frame all but 7
+unfoldable pub takeRefusalIn : Frame → List ℕ → ℕ → ℕ
+takeRefusalIn f b t =
+    badThread unless between 1 t (f .shape .threads)
+    otherwise notPermitted unless mayTake (threadIn f b t)
+    otherwise threadBusy unless isIdle (threadIn f b t)
     otherwise done
 
-unfoldable pub takeBytes : List ℕ → ℕ → List ℕ
-takeBytes b t =
-    pick
-    (eqb (takeRefusal b t) done)
-    (setThreadIn (frameIn b) b t (begunTake (threadIn (frameIn b) b t)))
-    b
+unfoldable pub takeRefusal : List ℕ → ℕ → ℕ
+unfolding takeRefusalIn frameOf
+takeRefusal b t = unreadable unless readable b otherwise takeRefusalIn (frameIn b) b t
 
--- what the calls answer and leave
+-- what a take leaves
+abbrev pub acceptedTake : Frame → List ℕ → ℕ → List ℕ
+acceptedTake f b t = setThreadIn f b t (begunTake (threadIn f b t))
+
+unfoldable pub takeBytesIn : Frame → List ℕ → ℕ → List ℕ
+takeBytesIn f b t = pick (eqb (takeRefusalIn f b t) done) (acceptedTake f b t) b
+
+unfoldable pub takeBytes : List ℕ → ℕ → List ℕ
+takeBytes b t = pick (eqb (takeRefusal b t) done) (acceptedTake (frameIn b) b t) b
+
+-- what the calls answer and leave, under a frame and on a whole region
+pub record PutBegunIn (f : Frame) (b b′ : List ℕ) (t : ℕ) (i : Item) (r : ℕ) : Type 0 where
+  pub answer : r ≡ putRefusalIn f b t i
+  pub bytes : b′ ≡ putBytesIn f b t i
+
 pub record PutBegun (b b′ : List ℕ) (t : ℕ) (i : Item) (r : ℕ) : Type 0 where
   pub answer : r ≡ putRefusal b t i
   pub bytes : b′ ≡ putBytes b t i
+
+pub record TakeBegunIn (f : Frame) (b b′ : List ℕ) (t r : ℕ) : Type 0 where
+  pub answer : r ≡ takeRefusalIn f b t
+  pub bytes : b′ ≡ takeBytesIn f b t
 
 pub record TakeBegun (b b′ : List ℕ) (t r : ℕ) : Type 0 where
   pub answer : r ≡ takeRefusal b t

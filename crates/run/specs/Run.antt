@@ -1,4 +1,4 @@
--- A run (document 01): "Turns are served in order until the list ends or accesses made equal the limit." Its code is the crate `run`.
+-- A run (document 01): "Turns are served in order until the list ends or accesses made equal the limit."
 use Prim.Native.Nat.{ℕ, zero, suc, _+_, _*_, _/_, _%_}
 use mathlib.Core.Bool.{_&&_}
 use mathlib.Core.List.{List, [], _∷_}
@@ -10,9 +10,8 @@ use Rattle.region.specs.Pick.{pick}
 use Rattle.region.specs.declared.answer.Answer.{Answer}
 use Rattle.region.specs.declared.answer.Answer.the-variants.{Moved, Idle, Inserted, Took, Empty, Refused}
 use Rattle.region.specs.declared.frame.Frame.{Frame}
-use Rattle.readable.specs.Readable.{readable}
-use Rattle.machine.specs.Begin.{frameIn}
+use Rattle.readable.specs.Readable.{frameIn, readable}
 use Rattle.machine.specs.Turn.{turnAnswer, turnBytes}
 
 -- "turns of two words (thread, choice)"
 pub record Turn : Type 0 where
@@ -61,19 +60,33 @@ unfolding serve
 serveAll f limit [] r = r
 serveAll f limit (t ∷ ts) r = pick (eqb (r .accesses) limit) r (serveAll f limit ts (serve f t r))
 
--- "Run 7, 6, 5": "6: schedule not whole turns of 8 bytes, or over 4,096", "5: answer slice below 12 bytes a turn"; l is the answers' length
-unfoldable pub runRefusal : List ℕ → List ℕ → ℕ → ℕ
-runRefusal b schedule l =
-    unreadable unless readable b
-    otherwise badSchedule unless eqb (length schedule % 8) 0 && leb (length schedule / 8) 4096
+-- "Run 7, 6, 5": 6 and 5 look at the schedule and at l, the answers' length, alone. "6: schedule not whole turns of 8 bytes, or over
+-- 4,096", "5: answer slice below 12 bytes a turn"
+unfoldable pub scheduleRefusal : List ℕ → ℕ → ℕ
+scheduleRefusal schedule l =
+    badSchedule unless eqb (length schedule % 8) 0 && leb (length schedule / 8) 4096
     otherwise shortAnswers unless leb (12 * (length schedule / 8)) l
     otherwise done
 
--- the whole call: "The result is the turns served, refused and idle ones included, and the accesses made"; a refused one changes nothing
+unfoldable pub runRefusal : List ℕ → List ℕ → ℕ → ℕ
+unfolding scheduleRefusal
+runRefusal b schedule l = unreadable unless readable b otherwise scheduleRefusal schedule l
+
+-- all turns of a schedule that is not refused, under a frame
+abbrev pub scheduleServed : Frame → List ℕ → List ℕ → ℕ → List ℕ → Served
+scheduleServed f b schedule limit answers = serveAll f limit (turnsFrom schedule 0 (length schedule / 8)) (soFar b answers 0 0)
+
+-- the whole call: "The result is the turns served, refused and idle ones included, and the accesses made"; a refused one changes nothing.
+-- Under a frame, and on a whole region that holds one queue
+unfoldable pub runResultIn : Frame → List ℕ → List ℕ → ℕ → List ℕ → Served
+unfolding turnsFrom serveAll scheduleRefusal
+runResultIn f b schedule limit answers =
+    pick (eqb (scheduleRefusal schedule (length answers)) done) (scheduleServed f b schedule limit answers) (soFar b answers 0 0)
+
 unfoldable pub runResult : List ℕ → List ℕ → ℕ → List ℕ → Served
 unfolding turnsFrom serveAll runRefusal
 runResult b schedule limit answers =
     pick
     (eqb (runRefusal b schedule (length answers)) done)
-    (serveAll (frameIn b) limit (turnsFrom schedule 0 (length schedule / 8)) (soFar b answers 0 0))
+    (scheduleServed (frameIn b) b schedule limit answers)
     (soFar b answers 0 0)

@@ -1,8 +1,8 @@
--- `machine::beginnings::accept_put` meets its contract: the stores, one after the other. Assumes nothing.
+-- `begin::accept_put` meets its contract: the stores, one after the other. Assumes nothing.
 use borrow.Author.Needs.{needs}
-use Rattle.machine.proofs.beginnings.accept_put.Statement.{statement}
-use Rattle.machine.proofs.Ways.{put-stored, still-within}
-use Rattle.machine.proofs.beginnings.accept_put.Tie as tie
+use Rattle.begin.proofs.accept_put.Statement.{statement}
+use Rattle.begin.proofs.Ways.{put-stored, still-within}
+use Rattle.begin.proofs.accept_put.Tie as tie
 
 load-free-requires : tie.Need-load-free-requires
 load-free-requires c κs = search needs

@@ -1,8 +1,8 @@
--- `machine::beginnings::put_busy` meets its contract: the first test that fails decides. Assumes nothing.
+-- `begin::put_busy` meets its contract: the first test that fails decides. Assumes nothing.
 use borrow.Author.Needs.{needs}
-use Rattle.machine.proofs.beginnings.put_busy.Statement.{statement}
-use Rattle.machine.proofs.Ways.{put-is-busy, no-cell, some-cell}
-use Rattle.machine.proofs.beginnings.put_busy.Tie as tie
+use Rattle.begin.proofs.put_busy.Statement.{statement}
+use Rattle.begin.proofs.Ways.{put-is-busy, no-cell, some-cell}
+use Rattle.begin.proofs.put_busy.Tie as tie
 
 is-idle-requires : tie.Need-is-idle-requires
 is-idle-requires c κs = search needs

@@ -1,0 +1,2 @@
+-- Beginning a put and a take.
+pub mod Begin
