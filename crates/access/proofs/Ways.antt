@@ -11,7 +11,7 @@ use mir.Val.{hasKey}
 use types.Run.{OneOf, miss}
 use Rattle.words.specs.Word.{word, setWord}
 use Rattle.region.specs.Pick.{pick}
-use Rattle.region.specs.Record.{zeroItem}
+use Rattle.region.specs.Record.{greatestCounter, zeroItem}
 use Rattle.region.specs.Shape.{nodeCount}
 use Rattle.region.specs.Shared.{sharedIn, nodeIn, cellIn, setNodeIn, setCellIn}
 use Rattle.region.specs.declared.frame.Frame.{Frame}
@@ -73,7 +73,7 @@ module _ (a b : Node) where
 pub counts-up : (n : Node) → isSpent n ≡ false → n .counter < 2 ^ 32 → n .counter + 1 < 2 ^ 32
 unfolding isSpent
 counts-up n e h =
-    let ne : n .counter ≡ 4294967295 → ⊥ = eqb-false (n .counter) 4294967295 e in
+    let ne : n .counter ≡ greatestCounter → ⊥ = eqb-false (n .counter) greatestCounter e in
     omega arith
 
 module _ (s : Shape) (n : ℕ) where

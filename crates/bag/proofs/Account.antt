@@ -15,7 +15,7 @@ use Rattle.region.specs.Pick.{pick}
 use Rattle.region.specs.Shared.{sharedIn, threadIn}
 use Rattle.region.specs.declared.record.Item.{Item}
 use Rattle.readable.specs.Readable.{frameIn, shapeIn}
-use Rattle.begin.specs.Begin.{hasFreeCell, putRefusal}
+use Rattle.begin.specs.Begin.{hasFreeCell, putRefusal, putRefusalIn}
 use Rattle.mound.specs.Ledger.{Ledger}
 use Rattle.mound.proofs.Account.{all-cells, full-without, not-full-with}
 use Rattle.mound.proofs.Steps.{Invariant}
