@@ -17,7 +17,7 @@ use Rattle.region.specs.Pick.{pick, upd}
 use Rattle.region.specs.Shape.{nodeCount}
 use Rattle.region.specs.Inner.{InRange}
 use Rattle.region.specs.Shared.{Shared, sharedIn, threadIn}
-use Rattle.region.specs.Thread.{atPlace, goneIdle, mending, returnAnswer, withAfter, withCopies, withDepth, withFirst, withNode, withResult, withSecond, withThird}
+use Rattle.region.specs.Thread.{atPlace, goneIdle, mending, withAfter, withCopies, withDepth, withFirst, withNode, withResult, withSecond, withThird}
 use Rattle.region.specs.declared.answer.Answer.the-variants.{Moved, Took, Empty}
 use Rattle.region.specs.declared.frame.Frame.{Frame}
 use Rattle.region.specs.declared.place.Place.{Place}
@@ -39,7 +39,7 @@ use Rattle.access.specs.declared.plan.Plan.{Plan}
 use Rattle.access.proofs.ReadLaws.{same-itself, updated-dirty, updated-first}
 use Rattle.readable.proofs.Laws.{Good}
 use Rattle.extract.specs.Extract.{rootRead, readRoot, headRemoved, removeHead}
-use Rattle.moundify.specs.Moundify.{returning, mendReadNode, depthRead, mendReadDepth, mendReadLeft, lessBelow, childLess, childrenRead, mendReadRight, exchangeAt, nodeAndChildSame, exchangeWith, cleanAt, mendClean}
+use Rattle.moundify.specs.Moundify.{returning, mendReadNode, depthRead, mendReadDepth, mendReadLeft, lessBelow, childLess, childrenRead, mendReadRight, exchangeAt, nodeAndChildSame, exchangeWith, cleanAt, mendClean, returnAnswer}
 use Rattle.machine.specs.Turn.{decide, decideAt, staysPut, turnAnswer, turnBytes, turnPlan}
 use Rattle.cost.specs.Cost.{lesserChild, levelsDown, withoutHead}
 use Rattle.cost.proofs.Laws.{goes-down, lesser-is-child, levels-same, rests-deepest, rests-there, swaps-as-placed, tests-as-placed}

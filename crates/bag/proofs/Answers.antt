@@ -6,7 +6,7 @@ use mathlib.Core.List.{List}
 use lib.Dec.{eqb}
 use Rattle.region.specs.Pick.{pick}
 use Rattle.region.specs.Shared.{Shared, sharedIn, threadIn}
-use Rattle.region.specs.Thread.{atPlace, goneIdle, mending, returned, returnAnswer, withDepth}
+use Rattle.region.specs.Thread.{atPlace, goneIdle, mending, withDepth}
 use Rattle.region.specs.declared.answer.Answer.{Answer}
 use Rattle.region.specs.declared.answer.Answer.the-variants.{Moved, Idle as AnswersIdle, Inserted, Took, Empty, Refused}
 use Rattle.region.specs.declared.frame.Frame.{Frame}
@@ -23,7 +23,7 @@ use Rattle.access.specs.declared.effect.Effect.the-variants.{Nothing, Push, Pop
 use Rattle.access.specs.declared.plan.Plan.{Plan}
 use Rattle.insert.specs.Insert.{readDepth, readLeaf, readAncestor, growDepth, readTarget, insertAt, insertAtRoot, readParent, insertBelow}
 use Rattle.extract.specs.Extract.{readRoot, removeHead}
-use Rattle.moundify.specs.Moundify.{returning, mendReadNode, mendReadDepth, mendReadLeft, mendReadRight, exchangeWith, mendSwap, mendClean}
+use Rattle.moundify.specs.Moundify.{returning, mendReadNode, mendReadDepth, mendReadLeft, mendReadRight, exchangeWith, mendSwap, mendClean, returned, returnAnswer}
 use Rattle.readable.proofs.Laws.{Good}
 use Rattle.run.specs.Run.{Turn}
 use Rattle.machine.specs.Turn.{decide, decideAt, staysPut, turnAnswer, turnPlan}

@@ -7,14 +7,14 @@ use Rattle.region.specs.Pick.{pick, upd}
 use Rattle.region.specs.Record.{nodeAt, setNodeAt, cellAt, setCellAt}
 use Rattle.region.specs.Shape.{between, shapeFits, regionWords}
 use Rattle.region.specs.Shared.{loadEntry, storeEntry, nodeIn, setNodeIn, cellIn, setCellIn, threadIn, setThreadIn, sharedIn}
-use Rattle.region.specs.Thread.{threadAt, setThreadAt, goneIdle, atPlace, withItem, withOwn, withDepth, withSearch, withNode, withAfter, withResult, withCopies, withFirst, withSecond, withThird, begunPut, begunTake, mending, returned, returnAnswer}
+use Rattle.region.specs.Thread.{threadAt, setThreadAt, goneIdle, atPlace, withItem, withOwn, withDepth, withSearch, withNode, withAfter, withResult, withCopies, withFirst, withSecond, withThird, begunPut, begunTake, mending}
 use Rattle.access.specs.Effect.{effectBytes, freedBytes, pushBytes}
 use Rattle.access.specs.Order.{itemLe, itemLt, valueOf}
 use Rattle.access.specs.Plan.{plan, moved, onTo, refused}
 use Rattle.access.specs.Read.{readNode, sameNode, isDirty, isSpent, updated, isNode, isLevel}
 use Rattle.insert.specs.Insert.{readDepth, searchOn, leafOf, nextTries, failedPlace, leafFailed, leafRead, readLeaf, ancestorRead, middleLevel, hasMiddle, readAncestor, growDepth, targetPlace, readTarget, insertAt, insertAtRoot, readParent, nodeAndParentSame, insertBelow}
 use Rattle.extract.specs.Extract.{rootRead, readRoot, headRemoved, removeHead}
-use Rattle.moundify.specs.Moundify.{returning, mendReadNode, depthRead, mendReadDepth, mendReadLeft, marked, lessBelow, childLess, childrenRead, mendReadRight, exchangeAt, nodeAndChildSame, exchangeWith, mendSwap, cleanAt, mendClean}
+use Rattle.moundify.specs.Moundify.{returning, mendReadNode, depthRead, mendReadDepth, mendReadLeft, marked, lessBelow, childLess, childrenRead, mendReadRight, exchangeAt, nodeAndChildSame, exchangeWith, mendSwap, cleanAt, mendClean, returned, returnAnswer}
 use Rattle.cost.specs.Cost.{lesserChild, levelsDown, withoutHead, restLevel, costOfLevel, takeCost}
 use Rattle.layout.specs.Layout.{atMost, permissionsFit, layoutRefusal, cellWord, threadWord, laidWord, laidWords, layoutBytes}
 use Rattle.readable.specs.Readable.{triesMost, waitingMost, bounded, threadReadable, allRecords, treeReadable, fieldsReadable, readable, checkAnswer}

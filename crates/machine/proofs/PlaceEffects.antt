@@ -7,7 +7,7 @@ use mathlib.Core.List.{List}
 use lib.Dec.{eqb}
 use Rattle.region.specs.Pick.{pick}
 use Rattle.region.specs.Shared.{Shared}
-use Rattle.region.specs.Thread.{goneIdle, returned, returnAnswer, withDepth}
+use Rattle.region.specs.Thread.{goneIdle, withDepth}
 use Rattle.region.specs.declared.answer.Answer.{Answer}
 use Rattle.region.specs.declared.answer.Answer.the-variants.{Moved, Took}
 use Rattle.region.specs.declared.frame.Frame.{Frame}
@@ -24,7 +24,7 @@ use Rattle.access.specs.declared.effect.Effect.the-variants.{Nothing, Grow, Pus
 use Rattle.access.specs.declared.plan.Plan.{Plan}
 use Rattle.insert.specs.Insert.{ancestorRead, growDepth, insertAt, insertAtRoot, insertBelow, leafFailed, leafRead, readAncestor, readDepth, readLeaf, readParent, readTarget, searchOn}
 use Rattle.extract.specs.Extract.{headRemoved, readRoot, removeHead, rootRead}
-use Rattle.moundify.specs.Moundify.{childrenRead, cleanAt, depthRead, exchangeAt, exchangeWith, mendClean, mendSwap, mendReadDepth, mendReadLeft, mendReadNode, mendReadRight, returning}
+use Rattle.moundify.specs.Moundify.{childrenRead, cleanAt, depthRead, exchangeAt, exchangeWith, mendClean, mendSwap, mendReadDepth, mendReadLeft, mendReadNode, mendReadRight, returning, returned, returnAnswer}
 use Rattle.turns.specs.Inner.{recordBytes}
 use Rattle.machine.specs.Turn.{carriedOut, decideAt}
 

@@ -15,7 +15,7 @@ use Rattle.region.specs.Pick.{pick}
 use Rattle.region.specs.Shape.{between, nodeCount}
 use Rattle.region.specs.Inner.{InRange}
 use Rattle.region.specs.Shared.{Shared}
-use Rattle.region.specs.Thread.{goneIdle, mending, returned, returnAnswer, atPlace, withDepth, withSearch, withNode, withAfter, withResult, withCopies, withFirst, withSecond, withThird}
+use Rattle.region.specs.Thread.{goneIdle, mending, atPlace, withDepth, withSearch, withNode, withAfter, withResult, withCopies, withFirst, withSecond, withThird}
 use Rattle.region.specs.declared.answer.Answer.{Answer}
 use Rattle.region.specs.declared.answer.Answer.the-variants.{Moved, Idle as AnswersIdle, Inserted, Took, Empty, Refused}
 use Rattle.region.specs.declared.place.Place.{Place}
@@ -39,7 +39,7 @@ use Rattle.access.proofs.ReadLaws.{is-clean, is-dirty, same-node}
 use Rattle.insert.specs.Insert.{searching, readDepth, searchOn, leafOf, nextTries, failedPlace, leafFailed, leafRead, readLeaf, ancestorRead, middleLevel, hasMiddle, readAncestor, growDepth, targetPlace, readTarget, insertAt, insertAtRoot, readParent, nodeAndParentSame, insertBelow}
 use Rattle.insert.proofs.Laws.{node-same, parent-same}
 use Rattle.extract.specs.Extract.{rootRead, readRoot, headRemoved, removeHead}
-use Rattle.moundify.specs.Moundify.{returning, mendReadNode, depthRead, mendReadDepth, mendReadLeft, marked, lessBelow, childLess, childrenRead, mendReadRight, exchangeAt, nodeAndChildSame, exchangeWith, mendSwap, cleanAt, mendClean}
+use Rattle.moundify.specs.Moundify.{returning, mendReadNode, depthRead, mendReadDepth, mendReadLeft, marked, lessBelow, childLess, childrenRead, mendReadRight, exchangeAt, nodeAndChildSame, exchangeWith, mendSwap, cleanAt, mendClean, returned, returnAnswer}
 use Rattle.machine.specs.Turn.{decide, decideAt, staysPut}
 use Rattle.mound.specs.Ledger.{Operation, none, putting, taking, holding}
 use Rattle.mound.proofs.Effects.{Mound, PushAsks, PopAsks, ExchangeAsks, CleanAsks, in-tree}

@@ -1,2 +1,3 @@
--- The ways out of the functions of `moundify`.
+-- The ways out of the functions of `moundify`, and of its return.
+mod Returns
 mod Ways

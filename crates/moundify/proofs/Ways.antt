@@ -13,7 +13,7 @@ use Rattle.region.specs.Level.{level, mark}
 use Rattle.region.specs.Pick.{pick}
 use Rattle.region.specs.Shape.{nodeCount}
 use Rattle.region.specs.Shared.{Shared, sharedIn, nodeIn}
-use Rattle.region.specs.Thread.{mending, returned, returnAnswer, withDepth, withFirst, withSecond, withThird}
+use Rattle.region.specs.Thread.{mending, withDepth, withFirst, withSecond, withThird}
 use Rattle.region.specs.declared.answer.Answer.{Answer}
 use Rattle.region.specs.declared.answer.Answer.the-variants.{Moved}
 use Rattle.region.specs.declared.frame.Frame.{Frame}
@@ -31,7 +31,7 @@ use Rattle.access.specs.Read.{isDirty, isNode, isSpent, readNode, sameNode, upd
 use Rattle.access.specs.declared.effect.Effect.{Effect}
 use Rattle.access.specs.declared.effect.Effect.the-variants.{Nothing, Exchange, Clean}
 use Rattle.access.specs.declared.plan.Plan.{Plan}
-use Rattle.moundify.specs.Moundify.{nodeAndChildSame, childLess, childrenRead, cleanAt, depthRead, exchangeAt, exchangeWith, lessBelow, marked, mendClean, mendReadDepth, mendReadLeft, mendReadNode, mendReadRight, mendSwap, returning}
+use Rattle.moundify.specs.Moundify.{nodeAndChildSame, childLess, childrenRead, cleanAt, depthRead, exchangeAt, exchangeWith, lessBelow, marked, mendClean, mendReadDepth, mendReadLeft, mendReadNode, mendReadRight, mendSwap, returning, returned, returnAnswer}
 use Rattle.moundify.specs.Inner.{ChildrenAsked}
 
 -- The return.

@@ -1,15 +1,16 @@
 -- The places of mending n, M1 to M6 (document 01, The sixteen places; Listing 1, moundify, lines 32 to 56). n is the thread's node, w the
 -- waiting levels that its place carries.
-use Prim.Native.Nat.{ℕ, _+_, _*_}
+use Prim.Native.Nat.{ℕ, _+_, _-_, _*_}
 use mathlib.Core.Bool.{Bool, not, _&&_, _||_}
 use lib.Dec.{ltb, eqb}
 use Rattle.region.specs.Answer.{unreadable, counterSpent}
-use Rattle.region.specs.Level.{level, mark}
+use Rattle.region.specs.Level.{ancestor, level, mark}
 use Rattle.region.specs.Pick.{pick}
 use Rattle.region.specs.Shared.{Shared}
-use Rattle.region.specs.Thread.{mending, returned, returnAnswer, withDepth, withFirst, withSecond, withThird}
-use Rattle.region.specs.declared.answer.Answer.the-variants.{Moved}
-use Rattle.region.specs.declared.place.Place.the-variants.{MendReadNode, MendReadDepth, MendReadLeft, MendReadRight, MendSwap, MendClean}
+use Rattle.region.specs.Thread.{atPlace, goneIdle, mending, withDepth, withFirst, withSecond, withThird}
+use Rattle.region.specs.declared.answer.Answer.{Answer}
+use Rattle.region.specs.declared.answer.Answer.the-variants.{Moved, Took}
+use Rattle.region.specs.declared.place.Place.the-variants.{ReadRoot, MendReadNode, MendReadDepth, MendReadLeft, MendReadRight, MendSwap, MendClean}
 use Rattle.region.specs.declared.record.Item.{Item}
 use Rattle.region.specs.declared.record.Node.{Node}
 use Rattle.region.specs.declared.shape.Shape.{Shape}
@@ -20,6 +21,20 @@ use Rattle.access.specs.Read.{isDirty, isNode, isSpent, readNode, sameNode, upd
 use Rattle.access.specs.declared.effect.Effect.{Effect}
 use Rattle.access.specs.declared.effect.Effect.the-variants.{Nothing, Exchange, Clean}
 use Rattle.access.specs.declared.plan.Plan.{Plan}
+
+-- "Return: M1 at the deepest waiting level's ancestor, whose mark is cleared; if none waits, by after" ("0 back to E1, 1 answer"): the
+-- record afterwards, with the waiting levels w
+unfoldable pub returned : Thread → ℕ → Thread
+unfolding mending goneIdle atPlace pick
+returned t w =
+    pick
+    (eqb w 0)
+    (pick (eqb (t .after) 1) (goneIdle t) (atPlace t ReadRoot))
+    (mending t (ancestor (t .node) (level w)) (w - mark (level w)))
+
+-- and what the turn that returns answers
+unfoldable pub returnAnswer : Thread → ℕ → Answer
+returnAnswer t w = pick (eqb w 0 && eqb (t .after) 1) (Took (t .result)) Moved
 
 -- "Return", after an effect: the record afterwards and the answer
 unfoldable pub returning : Effect → Thread → ℕ → Plan

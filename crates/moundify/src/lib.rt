@@ -5,7 +5,7 @@ ghost use lib.ListN.{length};
 ghost use Rattle.region.specs.Inner.{Within};
 ghost use Rattle.region.specs.Pick.{pick};
 ghost use Rattle.region.specs.Shared.{sharedIn};
-ghost use Rattle.moundify.specs.Moundify.{nodeAndChildSame, childLess, childrenRead, cleanAt, depthRead, exchangeAt, exchangeWith, marked, mendClean, mendReadDepth, mendReadLeft, mendReadNode, mendReadRight, mendSwap, returning};
+ghost use Rattle.moundify.specs.Moundify.{nodeAndChildSame, childLess, childrenRead, cleanAt, depthRead, exchangeAt, exchangeWith, marked, mendClean, mendReadDepth, mendReadLeft, mendReadNode, mendReadRight, mendSwap, returnAnswer, returned, returning};
 ghost use Rattle.moundify.specs.Inner.{ChildrenAsked};
 use access::Effect;
 use access::Plan;
@@ -17,11 +17,40 @@ use region::Place;
 use region::Thread;
 use region::UNREADABLE;
 
+// The record after the return from mending, with these levels waiting.
+fn returned(t: Thread, w: u32) -> Thread
+    ensures { λ r. ⌜ r ≡ returned t w ⌝ }
+{
+    if w == 0 {
+        if t.after == 1 {
+            return t.gone_idle();
+        }
+        return t.at_place(Place::ReadRoot);
+    }
+    let deepest = region::level_of(w);
+    let node = region::ancestor_at(t.node, deepest);
+    t.mending(node, w - region::mark_of(deepest))
+}
+
+// What the turn that returns from mending answers.
+fn return_answer(t: Thread, w: u32) -> Answer
+    ensures { λ r. ⌜ r ≡ returnAnswer t w ⌝ }
+{
+    if w != 0 {
+        return Answer::Moved;
+    }
+    if t.after != 1 {
+        return Answer::Moved;
+    }
+    let result = t.result;
+    Answer::Took(result)
+}
+
 // The return from mending, after an effect.
 fn returning(effect: Effect, t: Thread, w: u32) -> Plan
     ensures { λ r. ⌜ r ≡ returning effect t w ⌝ }
 {
-    access::plan_of(effect, t.returned(w), t.return_answer(w))
+    access::plan_of(effect, returned(t, w), return_answer(t, w))
 }
 
 // M1

@@ -4,7 +4,6 @@ pub mod Frames
 pub mod Levels
 pub mod Picks
 pub mod Places
-mod Returns
 pub mod Shapes
 pub mod Threads
 pub mod Views

@@ -1,16 +1,10 @@
 -- The thread's record as a run of words, and the values that its methods hand back (document 01, The region).
-use Prim.Native.Nat.{ℕ, _+_, _-_}
-use mathlib.Core.Bool.{_&&_}
+use Prim.Native.Nat.{ℕ, _+_}
 use mathlib.Core.List.{List, [], _∷_, _++_}
-use lib.Dec.{eqb}
 use lib.ListN.{getD}
 use Rattle.words.specs.Word.{wordsAt, setWords}
-use Rattle.region.specs.Level.{ancestor, level, mark}
-use Rattle.region.specs.Pick.{pick}
 use Rattle.region.specs.Place.{placeOf, placeNumber, waitingLevels}
 use Rattle.region.specs.Record.{copySize, itemOf, copyOf, copyWords, zeroItem, zeroCopy}
-use Rattle.region.specs.declared.answer.Answer.{Answer}
-use Rattle.region.specs.declared.answer.Answer.the-variants.{Moved, Took}
 use Rattle.region.specs.declared.place.Place.{Place}
 use Rattle.region.specs.declared.place.Place.the-variants.{Idle, ReadDepth, ReadRoot, MendReadNode}
 use Rattle.region.specs.declared.record.Item.{Item}
@@ -193,17 +187,3 @@ begunTake t = atPlace t ReadRoot
 unfoldable pub mending : Thread → ℕ → ℕ → Thread
 unfolding atPlace withNode
 mending t n w = atPlace (withNode t n) (MendReadNode w)
-
--- "Return: M1 at the deepest waiting level's ancestor, whose mark is cleared; if none waits, by after" ("0 back to E1, 1 answer"): the
--- record afterwards, with the waiting levels w
-unfoldable pub returned : Thread → ℕ → Thread
-unfolding mending goneIdle atPlace pick
-returned t w =
-    pick
-    (eqb w 0)
-    (pick (eqb (t .after) 1) (goneIdle t) (atPlace t ReadRoot))
-    (mending t (ancestor (t .node) (level w)) (w - mark (level w)))
-
--- and what the turn that returns answers
-unfoldable pub returnAnswer : Thread → ℕ → Answer
-returnAnswer t w = pick (eqb w 0 && eqb (t .after) 1) (Took (t .result)) Moved

@@ -2,11 +2,7 @@
 ghost use mathlib.Core.Path.{_≡_};
 ghost use Prim.Native.Nat.{_+_, _*_, _≤_};
 ghost use lib.ListN.{length};
-ghost use Rattle.region.specs.Thread.{threadSize, idleThread, threadAt, setThreadAt, goneIdle, begunPut, begunTake, mending, returned, returnAnswer, atPlace, withItem, withOwn, withDepth, withSearch, withNode, withAfter, withResult, withFirst, withSecond, withThird};
-use crate::answer::Answer;
-use crate::level::ancestor_at;
-use crate::level::level_of;
-use crate::level::mark_of;
+ghost use Rattle.region.specs.Thread.{threadSize, idleThread, threadAt, setThreadAt, goneIdle, begunPut, begunTake, mending, atPlace, withItem, withOwn, withDepth, withSearch, withNode, withAfter, withResult, withFirst, withSecond, withThird};
 use crate::place::Place;
 use crate::place::place_of;
 use crate::record::Item;
@@ -185,35 +181,6 @@ impl Thread {
             node,
             ..self
         }
-    }
-
-    // The return from mending, with these levels waiting.
-    pub fn returned(self, waiting: u32) -> Thread
-        ensures { λ r. ⌜ r ≡ returned self waiting ⌝ }
-    {
-        if waiting == 0 {
-            if self.after == 1 {
-                return self.gone_idle();
-            }
-            return self.at_place(Place::ReadRoot);
-        }
-        let deepest = level_of(waiting);
-        let node = ancestor_at(self.node, deepest);
-        self.mending(node, waiting - mark_of(deepest))
-    }
-
-    // What the turn that returns from mending answers, with these levels waiting.
-    pub fn return_answer(self, waiting: u32) -> Answer
-        ensures { λ r. ⌜ r ≡ returnAnswer self waiting ⌝ }
-    {
-        if waiting != 0 {
-            return Answer::Moved;
-        }
-        if self.after != 1 {
-            return Answer::Moved;
-        }
-        let result = self.result;
-        Answer::Took(result)
     }
 
     pub fn at_place(self, place: Place) -> Thread

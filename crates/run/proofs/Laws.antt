@@ -13,7 +13,7 @@ use Rattle.region.specs.declared.answer.Answer.{Answer}
 use Rattle.region.specs.declared.answer.Answer.the-variants.{Moved, Idle, Inserted, Took, Empty, Refused}
 use Rattle.region.specs.declared.frame.Frame.{Frame}
 use Rattle.readable.specs.Readable.{frameIn, readable}
-use Rattle.run.specs.Run.{Served, Turn, accessesOf, runRefusal, runResult, serve, serveAll, soFar, turnsFrom}
+use Rattle.run.specs.Run.{Served, Turn, accessesOf, runRefusal, runResult, scheduleRefusal, serve, serveAll, soFar, turnsFrom}
 use Rattle.machine.specs.Turn.{turnAnswer}
 
 pub one-access : (x : Answer) → accessesOf x ≤ 1
@@ -24,27 +24,32 @@ one-access (Took i) = omega arith
 one-access Empty = omega arith
 one-access (Refused n) = omega arith
 
--- "Run 7, 6, 5": with none of them, all three conditions hold; l is the answers' length
-pub record Passed (b s : List ℕ) (l : ℕ) : Type 0 where
-  pub region : readable b ≡ true
+-- "6, 5": with neither, the schedule and the answers are as long as serving asks; l is the answers' length
+pub record Passed (s : List ℕ) (l : ℕ) : Type 0 where
   pub few : length s / 8 ≤ 4096
   pub room : 12 * (length s / 8) ≤ l
 
-module _ (b s : List ℕ) (l : ℕ) where
-  conditions : (q w m x : Bool) → readable b ≡ q → leb (length s / 8) 4096 ≡ m → leb (12 * (length s / 8)) l ≡ x
-      → pick q (pick (w && m) (pick x done shortAnswers) badSchedule) unreadable ≡ done → Passed b s l
+module _ (s : List ℕ) (l : ℕ) where
+  conditions : (w m x : Bool) → leb (length s / 8) 4096 ≡ m → leb (12 * (length s / 8)) l ≡ x
+      → pick (w && m) (pick x done shortAnswers) badSchedule ≡ done → Passed s l
   unfolding pick
-  conditions true true true true eq em ex z =
-      record { region = eq; few = leb-true (length s / 8) 4096 em; room = leb-true (12 * (length s / 8)) l ex }
-  conditions true true true false eq em ex z = absurd (omega arith)
-  conditions true true false x eq em ex z = absurd (omega arith)
-  conditions true false m x eq em ex z = absurd (omega arith)
-  conditions false w m x eq em ex z = absurd (omega arith)
+  conditions true true true em ex z = record { few = leb-true (length s / 8) 4096 em; room = leb-true (12 * (length s / 8)) l ex }
+  conditions true true false em ex z = absurd (omega arith)
+  conditions true false x em ex z = absurd (omega arith)
+  conditions false m x em ex z = absurd (omega arith)
 
-  pub passed : runRefusal b s l ≡ done → Passed b s l
-  unfolding runRefusal
-  passed e =
-      conditions (readable b) (eqb (length s % 8) 0) (leb (length s / 8) 4096) (leb (12 * (length s / 8)) l) refl refl refl e
+  pub passed : scheduleRefusal s l ≡ done → Passed s l
+  unfolding scheduleRefusal
+  passed e = conditions (eqb (length s % 8) 0) (leb (length s / 8) 4096) (leb (12 * (length s / 8)) l) refl refl e
+
+-- so do a run's, with none of 7, 6 and 5
+run-passed : (b s : List ℕ) (l : ℕ) → runRefusal b s l ≡ done → Passed s l
+unfolding runRefusal pick
+run-passed b s l = go (readable b)
+  where
+    go : (q : Bool) → pick q (scheduleRefusal s l) unreadable ≡ done → Passed s l
+    go true e = passed s l e
+    go false e = absurd (omega arith)
 
 -- no refusal is greater than 7
 pub refusal-most : (b s : List ℕ) (l : ℕ) → runRefusal b s l ≤ 7
@@ -93,7 +98,7 @@ module _ (b s : List ℕ) (limit : ℕ) (a : List ℕ) where
           → CountsMost (pick q (serveAll (frameIn b) limit (turnsFrom s 0 (length s / 8)) (soFar b a 0 0)) (soFar b a 0 0))
       go true e =
           let h = counted (frameIn b) limit (turnsFrom s 0 (length s / 8)) (soFar b a 0 0) in
-          let few = passed b s (length a) (eqb-true (runRefusal b s (length a)) done e) .few in
+          let few = run-passed b s (length a) (eqb-true (runRefusal b s (length a)) done e) .few in
           record {
             turns = omega (arith, h .turns, length-turnsFrom s 0 (length s / 8), few);
             accesses = omega (arith, h .accesses);

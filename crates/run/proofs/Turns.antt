@@ -11,17 +11,17 @@ use lib.Dec.{eqb}
 use lib.ListN.{length}
 use Rattle.words.specs.Word.{word, setWords}
 use Rattle.region.specs.Answer.{answerCode, answerKey, answerTag, answerWords, done, shortAnswers, badSchedule, unreadable}
-use Rattle.region.specs.Frame.{frameOf}
 use Rattle.region.specs.Inner.{Within}
 use Rattle.region.specs.Pick.{pick}
 use Rattle.region.specs.declared.answer.Answer.{Answer}
 use Rattle.region.specs.declared.frame.Frame.{Frame}
-use Rattle.readable.specs.Readable.{readable, shapeIn}
+use Rattle.readable.specs.Readable.{frameIn, readable}
 use Rattle.readable.proofs.Laws.{readable-within}
-use Rattle.run.specs.Run.{accessesOf, runRefusal, runResult, serve, serveAll, soFar, turnAt, turnsFrom}
+use Rattle.run.specs.Run.{accessesOf, runRefusal, runResult, runResultIn, scheduleRefusal, serve, serveAll, soFar, turnAt, turnsFrom}
 use Rattle.machine.specs.Turn.{Turned, turnAnswer, turnBytes}
-use Rattle.run.specs.Inner.{Ran, RunAsked, TurnAsked}
+use Rattle.run.specs.Inner.{Ran, RanIn, RunAsked, TurnAsked, refused}
 use Rattle.run.specs.declared.Counts.{Counts}
+use Rattle.run.specs.declared.Outcome.{Outcome}
 use Rattle.run.proofs.Laws.{one-access, passed}
 
 -- One turn.
@@ -117,66 +117,67 @@ module _ {f : Frame} {limit count : ℕ} {s b₀ a₀ b a : List ℕ} {k n : ℕ
       let m : 0 ≡ count - k = omega arith in
       ap (λ j. serveAll f limit (turnsFrom s k j) (soFar b a k n)) m ∙ e .left
 
--- The refusals: the first test that fails decides.
-module _ (b s : List ℕ) (l : ℕ) (q : Bool) (eq : q ≡ readable b) where
-  pub run-unreadable : not q ≡ true → unreadable ≡ runRefusal b s l
-  unfolding runRefusal pick
-  run-unreadable g = rw (← eq, not-true q g) refl
+-- The refusals of a schedule: the first test that fails decides.
+module _ (s : List ℕ) (l : ℕ) where
+  pub part-of-turn : (length s % 8 ≡ 0 → ⊥) → badSchedule ≡ scheduleRefusal s l
+  unfolding scheduleRefusal pick
+  part-of-turn n = rw (ne-eqb (length s % 8) 0 n) refl
 
-  module _ (gq : not q ≡ false) where
-    pub part-of-turn : (length s % 8 ≡ 0 → ⊥) → badSchedule ≡ runRefusal b s l
-    unfolding runRefusal pick
-    part-of-turn n = rw (← eq, not-false q gq, ne-eqb (length s % 8) 0 n) refl
+  module _ (whole : length s % 8 ≡ 0) where
+    pub too-many : 4096 < length s / 8 → badSchedule ≡ scheduleRefusal s l
+    unfolding scheduleRefusal pick
+    too-many h = rw (eq-eqb (length s % 8) 0 whole, lt-leb (length s / 8) 4096 h) refl
 
-    module _ (whole : length s % 8 ≡ 0) where
-      pub too-many : 4096 < length s / 8 → badSchedule ≡ runRefusal b s l
-      unfolding runRefusal pick
-      too-many h = rw (← eq, not-false q gq, eq-eqb (length s % 8) 0 whole, lt-leb (length s / 8) 4096 h) refl
+    module _ (few : length s / 8 ≤ 4096) where
+      pub no-room : l < 12 * (length s / 8) → shortAnswers ≡ scheduleRefusal s l
+      unfolding scheduleRefusal pick
+      no-room h =
+          rw (eq-eqb (length s % 8) 0 whole, le-leb (length s / 8) 4096 few, lt-leb (12 * (length s / 8)) l h) refl
 
-      module _ (few : length s / 8 ≤ 4096) where
-        pub no-room : l < 12 * (length s / 8) → shortAnswers ≡ runRefusal b s l
-        unfolding runRefusal pick
-        no-room h =
-            rw
-            (← eq, not-false q gq, eq-eqb (length s % 8) 0 whole, le-leb (length s / 8) 4096 few, lt-leb (12 * (length s / 8)) l h)
-            refl
+      pub run-accepted : 12 * (length s / 8) ≤ l → done ≡ scheduleRefusal s l
+      unfolding scheduleRefusal pick
+      run-accepted h =
+          rw (eq-eqb (length s % 8) 0 whole, le-leb (length s / 8) 4096 few, le-leb (12 * (length s / 8)) l h) refl
 
-        pub run-accepted : 12 * (length s / 8) ≤ l → done ≡ runRefusal b s l
-        unfolding runRefusal pick
-        run-accepted h =
-            rw
-            (← eq, not-false q gq, eq-eqb (length s % 8) 0 whole, le-leb (length s / 8) 4096 few, le-leb (12 * (length s / 8)) l h)
-            refl
-
--- The whole call: a refused one leaves both slices, another serves its turns.
-module _ (b s a : List ℕ) (limit r : ℕ) (e : r ≡ runRefusal b s (length a)) where
-  pub run-refused : (r ≡ done → ⊥) → Ran b b s limit a a (record { refusal = r; counts = record { turns = 0; accesses = 0 } })
-  unfolding runResult pick
-  run-refused n = record { refusal = e; served = rw (← e, ne-eqb r done n) refl }
+-- A run under a frame: a refused one leaves both slices, another serves its turns.
+module _ (f : Frame) (b s a : List ℕ) (limit r : ℕ) (e : r ≡ scheduleRefusal s (length a)) where
+  pub schedule-refused : (r ≡ done → ⊥) → (x : Outcome) → x ≡ refused r → RanIn f b b s limit a a x
+  unfolding runResultIn pick
+  schedule-refused n x ex =
+      subst (RanIn f b b s limit a a) (sym ex) (record { refusal = e; served = rw (← e, ne-eqb r done n) refl })
 
   module _ (d : r ≡ done) where
+    pub schedule-asks : Within f (length b) → RunAsked f (length b) (length s) (length a)
+    schedule-asks w =
+        let h = passed s (length a) (sym e ∙ d) in
+        record { within = w; few = h .few; answers = h .room }
+
+    pub schedule-served : (b′ a′ : List ℕ) (n : Counts)
+        → soFar b′ a′ (n .turns) (n .accesses) ≡ serveAll f limit (turnsFrom s 0 (length s / 8)) (soFar b a 0 0)
+        → RanIn f b b′ s limit a a′ (record { refusal = done; counts = n })
+    unfolding runResultIn pick
+    schedule-served b′ a′ n h = record { refusal = sym d ∙ e; served = rw (← e, eq-eqb r done d) h }
+
+-- The whole call: the region is not readable, or the run is made in its frame.
+module _ (b s a : List ℕ) (limit : ℕ) (q : Bool) (eq : q ≡ readable b) where
+  pub run-unreadable : not q ≡ true → (x : Outcome) → x ≡ refused unreadable → Ran b b s limit a a x
+  unfolding runRefusal runResult pick
+  run-unreadable g x ex =
+      subst (Ran b b s limit a a) (sym ex)
+      (record { refusal = rw (← eq, not-true q g) refl; served = rw (← eq, not-true q g) refl })
+
+  module _ (gq : not q ≡ false) where
     pub run-readable : readable b ≡ true
-    run-readable = passed b s (length a) (sym e ∙ d) .region
+    run-readable = sym eq ∙ not-false q gq
 
-    module _ (f : Frame) (ef : f ≡ frameOf (shapeIn b)) where
-      pub run-asks : RunAsked f (length b) (length s) (length a)
-      run-asks =
-          let h = passed b s (length a) (sym e ∙ d) in
-          record {
-            within = subst (λ g. Within g (length b)) (sym ef) (readable-within b (h .region));
-            few = h .few;
-            answers = h .room;
-          }
+    module _ (f : Frame) (ef : f ≡ frameIn b) where
+      pub run-within : Within f (length b)
+      run-within = subst (λ g. Within g (length b)) (sym ef) (readable-within b run-readable)
 
-      pub run-served : (b′ a′ : List ℕ) (n : Counts)
-          → soFar b′ a′ (n .turns) (n .accesses) ≡ serveAll f limit (turnsFrom s 0 (length s / 8)) (soFar b a 0 0)
-          → Ran b b′ s limit a a′ (record { refusal = r; counts = n })
-      unfolding runResult pick
-      run-served b′ a′ n h =
+      pub run-served : (b′ a′ : List ℕ) (x : Outcome) → RanIn f b b′ s limit a a′ x → Ran b b′ s limit a a′ x
+      unfolding runRefusal runResult runResultIn pick
+      run-served b′ a′ x h =
           record {
-            refusal = e;
-            served =
-                rw
-                (← e, eq-eqb r done d)
-                (h ∙ ap (λ g. serveAll g limit (turnsFrom s 0 (length s / 8)) (soFar b a 0 0)) ef);
+            refusal = rw run-readable (h .refusal);
+            served = rw run-readable (h .served ∙ ap (λ g. runResultIn g b s limit a) ef);
           }

@@ -4,8 +4,9 @@ ghost use Prim.Native.Nat.{_+_, _*_, _/_, _≤_};
 ghost use lib.ListN.{length};
 ghost use Rattle.words.specs.Word.{setWords};
 ghost use Rattle.region.specs.Answer.{answerWords};
-ghost use Rattle.run.specs.Run.{accessesOf, runRefusal, serve, serveAll, soFar, turnAt, turnsFrom};
-ghost use Rattle.run.specs.Inner.{Ran, RunAsked, TurnAsked};
+ghost use Rattle.region.specs.Inner.{Within};
+ghost use Rattle.run.specs.Run.{accessesOf, scheduleRefusal, serve, serveAll, soFar, turnAt, turnsFrom};
+ghost use Rattle.run.specs.Inner.{Ran, RanIn, RunAsked, TurnAsked, refused};
 use region::Answer;
 use region::BAD_SCHEDULE;
 use region::DONE;
@@ -86,13 +87,10 @@ fn serve_all(f: Frame, b: &mut [u8], schedule: &[u8], limit: u32, answers: &mut 
     Counts { turns, accesses }
 }
 
-// The refusal of a run, or done.
-fn refusal(b: &[u8], schedule: &[u8], room: usize) -> u32
-    ensures { λ r. ⌜ r ≡ runRefusal (now (b .entry)) (now (schedule .entry)) room ⌝ }
+// The refusal of a schedule with this much room for its answers, or done.
+fn schedule_refusal(schedule: &[u8], room: usize) -> u32
+    ensures { λ r. ⌜ r ≡ scheduleRefusal (now (schedule .entry)) room ⌝ }
 {
-    if !readable::is_readable(b) {
-        return UNREADABLE;
-    }
     let count = schedule.len() / 8;
     if schedule.len() % 8 != 0 {
         return BAD_SCHEDULE;
@@ -106,24 +104,42 @@ fn refusal(b: &[u8], schedule: &[u8], room: usize) -> u32
     DONE
 }
 
-// Runs a schedule on a region. Refused 7, 6, 5 in that order; a refused run changes no byte.
+// A refused run: no turn is served.
+fn refused(number: u32) -> Outcome
+    ensures { λ r. ⌜ r ≡ refused number ⌝ }
+{
+    Outcome {
+        refusal: number,
+        counts: Counts {
+            turns: 0,
+            accesses: 0,
+        },
+    }
+}
+
+// Runs a schedule under a frame. Refused 6, 5 in that order; a refused run changes no byte.
+pub fn run_in(f: Frame, b: &mut [u8], schedule: &[u8], limit: u32, answers: &mut [u8]) -> Outcome
+    requires { ⌜ Within f (length (now b)) ⌝ }
+    ensures { λ r. ⌜ RanIn f (now (b .entry)) (now (b .exit)) (now (schedule .entry)) limit (now (answers .entry)) (now (answers .exit)) r ⌝ }
+{
+    let number = schedule_refusal(schedule, answers.len());
+    if number != DONE {
+        return refused(number);
+    }
+    let counts = serve_all(f, b, schedule, limit, answers);
+    Outcome {
+        refusal: DONE,
+        counts,
+    }
+}
+
+// Runs a schedule on a region that holds one queue. Refused 7, 6, 5 in that order; a refused run changes no byte.
 pub fn run(b: &mut [u8], schedule: &[u8], limit: u32, answers: &mut [u8]) -> Outcome
     ensures { λ r. ⌜ Ran (now (b .entry)) (now (b .exit)) (now (schedule .entry)) limit (now (answers .entry)) (now (answers .exit)) r ⌝ }
 {
-    let refused = refusal(b, schedule, answers.len());
-    if refused != DONE {
-        return Outcome {
-            refusal: refused,
-            counts: Counts {
-                turns: 0,
-                accesses: 0,
-            },
-        };
+    if !readable::is_readable(b) {
+        return refused(UNREADABLE);
     }
     let f = readable::frame_of(b);
-    let counts = serve_all(f, b, schedule, limit, answers);
-    Outcome {
-        refusal: refused,
-        counts,
-    }
+    run_in(f, b, schedule, limit, answers)
 }

@@ -3,13 +3,14 @@ use Prim.Native.Nat.{ℕ, _-_, _≤_, _<_, _^_}
 use native.Mathlib.Omega.{arith}
 use mathlib.Core.Path.{_≡_, refl, ap, _∙_}
 use borrow.Author.Tests.{eq-eqb, ne-eqb}
 use Rattle.region.specs.Level.{ancestor, level, mark}
 use Rattle.region.specs.Pick.{pick}
-use Rattle.region.specs.Thread.{atPlace, goneIdle, mending, returned, returnAnswer}
+use Rattle.region.specs.Thread.{atPlace, goneIdle, mending}
 use Rattle.region.specs.declared.answer.Answer.the-variants.{Moved, Took}
 use Rattle.region.specs.declared.place.Place.the-variants.{ReadRoot}
 use Rattle.region.specs.declared.thread.Thread.{Thread}
 use Rattle.region.proofs.Levels.{level-holds, level-most}
+use Rattle.moundify.specs.Moundify.{returned, returnAnswer}
 
 module _ (t r : Thread) (w : ℕ) where
   pub goes-idle : w ≡ 0 → t .after ≡ 1 → r ≡ goneIdle t → r ≡ returned t w

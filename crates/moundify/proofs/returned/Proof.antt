@@ -1,8 +1,8 @@
--- `region::thread::Thread::returned` meets its contract: none waits, or the deepest level's ancestor is next. Assumes nothing.
+-- `moundify::returned` meets its contract: none waits, or the deepest level's ancestor is next. Assumes nothing.
 use borrow.Author.Needs.{needs}
-use Rattle.region.proofs.thread.Thread.returned.Statement.{statement}
-use Rattle.region.proofs.Returns.{goes-idle, back-to-root, some-level, few-levels, mark-within, to-ancestor}
-use Rattle.region.proofs.thread.Thread.returned.Tie as tie
+use Rattle.moundify.proofs.returned.Statement.{statement}
+use Rattle.moundify.proofs.Returns.{goes-idle, back-to-root, some-level, few-levels, mark-within, to-ancestor}
+use Rattle.moundify.proofs.returned.Tie as tie
 
 gone-idle-requires : tie.Need-gone-idle-requires
 gone-idle-requires c κs = search needs
