@@ -42,16 +42,16 @@ module _ (f : Frame) (b : List ℕ) (g : Good f b) (t : ℕ) (l : 1 ≤ t) (u : 
   unfolding carriedOut pick stored
   carried-shared =
       rw e
-      (effect-shared f stored (stored-good .placed) (few-cells (f .shape) (g .range)) (p .effect)
+      (effect-shared f stored (stored-good .framed) (few-cells (f .shape) (g .range)) (p .effect)
       (fits-of f (g .range) stored (good-shared f stored stored-good) (p .effect) (gp .effect))
-      ∙ ap (λ m. effectShared m (p .effect)) (shared-setThread f b (g .placed) t (p .thread)))
+      ∙ ap (λ m. effectShared m (p .effect)) (shared-setThread f b (g .framed) t (p .thread)))
 
   carried-threads : threadIn f (carriedOut f b t p) ≡ upd (threadIn f b) t (p .thread)
   unfolding carriedOut pick stored
   carried-threads =
       rw e
       (effect-threads f stored stored-good (p .effect)
-      ∙ threads-setThread f b (g .placed) t (p .thread) l u (thread-fit (f .shape) (g .range) (p .thread) (gp .thread)))
+      ∙ threads-setThread f b (g .framed) t (p .thread) l u (thread-fit (f .shape) (g .range) (p .thread) (gp .thread)))
 
 -- A turn of thread t with choice c.
 module _ (f : Frame) (b : List ℕ) (t c : ℕ) where

@@ -36,7 +36,7 @@ use Rattle.preserved.proofs.Proved.{PutPassed, TakePassed, accepted-put-keeps, 
 use Rattle.mound.specs.Ledger.{Operation, Ledger, Follows, still}
 use Rattle.mound.specs.Told.{Told, nothing, beginsPut, beginsTake}
 use Rattle.mound.proofs.Facts.{At}
-use Rattle.mound.proofs.Plans.{Allowed, OwnAfter, Planned, Speaks, rests, refuses, moves, planned, speaks-moves}
+use Rattle.mound.proofs.Plans.{Allowed, OwnAfter, Planned, OperationAfter, rests, refuses, moves, planned, operation-moves}
 use Rattle.mound.proofs.Steps.{Invariant, NextState, effectTells, owns, put-begun, quietTells, take-begun, turn-moves}
 use Rattle.bag.specs.History.{rootItem, servedOn, turned}
 use Rattle.bag.specs.Told.{tells}
@@ -102,13 +102,13 @@ module _ (f : Frame) (all : ℕ) (b : List ℕ) (l : Ledger) (g : Region f all b
         }
 
     module _ (lt : 1 ≤ t) (ut : t ≤ f .shape .threads) where
-      moving-turn : (op′ : Operation) → Allowed s m (owns th) t (p .effect) → Speaks m (l .operation t) op′ (p .effect) (p .answer)
+      moving-turn : (op′ : Operation) → Allowed s m (owns th) t (p .effect) → OperationAfter m (l .operation t) op′ (p .effect) (p .answer)
           → OwnAfter m (p .effect) (th t .own) (p .thread .own) → At s m (p .thread) op′ (p .thread .place)
           → Follow f all l (effectTells (rootItem f b) t (p .answer) (p .effect)) (turnBytes f b t c)
       unfolding p
       moving-turn op′ al sp ow at =
           let n = turn-moves s m th l (g .holds) t lt ut p op′ al sp ow at in
-          let e = speaks-moves sp in
+          let e = operation-moves sp in
           followed (turn-keeps f b (g .good) t c .good) (turn-shared f b t c (g .good) e) (turn-threads f b t c (g .good) e) n
 
       there : Planned s m (owns th) t (th t .own) (l .operation t) p
@@ -146,12 +146,12 @@ module _ (f : Frame) (all : ℕ) (b : List ℕ) (l : Ledger) (g : Region f all b
 
     take-threads : threadIn f (setThreadIn f b t taker) ≡ upd th t taker
     take-threads =
-        threads-setThread f b (g .good .placed) t taker (take-least f b t p) (take-most f b t p)
+        threads-setThread f b (g .good .framed) t taker (take-least f b t p) (take-most f b t p)
         (thread-fit s (g .good .range) taker (taker-good f b t p (g .good)))
 
     take-next : Follow f all l (beginsTake t) (acceptedTake f b t)
     take-next =
-        followed (accepted-take-keeps f b t p (g .good) .good) (shared-setThread f b (g .good .placed) t taker) take-threads
+        followed (accepted-take-keeps f b t p (g .good) .good) (shared-setThread f b (g .good .framed) t taker) take-threads
         (take-begun s m th l (g .holds) t (take-least f b t p) (take-most f b t p) (is-idle (th t) (p .idle)) (may-take (th t) (p .permitted)))
 
   -- A put that is not refused.
@@ -181,20 +181,20 @@ module _ (f : Frame) (all : ℕ) (b : List ℕ) (l : Ledger) (g : Region f all b
     put-shared : sharedIn f (acceptedPut f b t i) ≡ begun
     unfolding acceptedPut begun
     put-shared =
-        shared-setThread f (setCellIn f (setWord b (f .free) next) c cell) (stored .good .placed) t _
-        ∙ shared-setCell f (setWord b (f .free) next) (moved .good .placed) c cell (omega (arith, put-free f b t i p)) (g .good .free-most)
+        shared-setThread f (setCellIn f (setWord b (f .free) next) c cell) (stored .good .framed) t _
+        ∙ shared-setCell f (setWord b (f .free) next) (moved .good .framed) c cell (omega (arith, put-free f b t i p)) (g .good .free-most)
         (cell-fit s (g .good .range) cell (mine-good f b t i p (g .good)))
         ∙ ap (λ y. putCell y c cell)
-        (shared-setFree f b (g .good .placed) next
+        (shared-setFree f b (g .good .framed) next
         (omega (arith, next-few f b t i p (g .good), few-cells s (g .good .range))))
 
     put-threads : threadIn f (acceptedPut f b t i) ≡ upd th t putter
     unfolding acceptedPut
     put-threads =
-        threads-setThread f (setCellIn f (setWord b (f .free) next) c cell) (stored .good .placed) t putter
+        threads-setThread f (setCellIn f (setWord b (f .free) next) c cell) (stored .good .framed) t putter
         (put-least f b t i p) (put-most f b t i p) (thread-fit s (g .good .range) putter (putter-good f b t i p (g .good)))
         ∙ ap (λ y. upd y t putter)
-        (threads-setCell f (setWord b (f .free) next) (moved .good .placed) c cell ∙ threads-setFree f b (g .good .placed) next)
+        (threads-setCell f (setWord b (f .free) next) (moved .good .framed) c cell ∙ threads-setFree f b (g .good .framed) next)
 
     put-next : Follow f all l (beginsPut t i) (acceptedPut f b t i)
     unfolding begun sharedIn

@@ -25,7 +25,7 @@ use Rattle.access.specs.Effect.{effectShared}
 use Rattle.access.specs.Order.{val, valueOf}
 use Rattle.access.specs.Read.{readNode, updated}
 use Rattle.access.proofs.ReadLaws.{updated-first}
-use Rattle.readable.specs.Readable.{readable, frameIn, shapeIn}
+use Rattle.readable.specs.Readable.{frameIn, readable}
 use Rattle.readable.proofs.Laws.{Good, good}
 use Rattle.readable.proofs.Stores.{thread-fit}
 use Rattle.begin.specs.Begin.{acceptedTake, takeBytes, takeRefusal}
@@ -37,7 +37,7 @@ use Rattle.cost.proofs.Laws.{cost-ceiling, cost-counted, cost-empty, cost-full,
 use Rattle.preserved.proofs.Proved.{TakePassed, accepted-take-keeps, take-least, take-most, take-passed, taker-good}
 use Rattle.mound.specs.Tree.{listFrom}
 use Rattle.mound.proofs.Chains.{list-behind, next-apart}
-use Rattle.mound.proofs.Effects.{Mound, PopAsks, in-tree, pop-others, root-there}
+use Rattle.mound.proofs.Effects.{Mound, PopAllowed, in-tree, pop-others, root-there}
 use Rattle.mound.proofs.Held.{few-cells, node-chain}
 use Rattle.bag.specs.Alone.{AllClean, EndsAt, NoOtherMoves, NoneSpent, Step, last, moved-then, stepOf, stepsOf, takeSteps}
 use Rattle.bag.specs.TakeCost.{LastAccess, TakesCost, TakesEnd, listOf, rootHead}
@@ -102,13 +102,13 @@ module _ (f : Frame) (b : List ℕ) (t : ℕ) (choices : List ℕ) (r : Good f b
   begun = acceptedTake f b t
 
   begun-shared : sharedIn f begun ≡ sharedIn f b
-  begun-shared = shared-setThread f b (r .placed) t (begunTake (threadIn f b t))
+  begun-shared = shared-setThread f b (r .framed) t (begunTake (threadIn f b t))
 
   begun-thread : threadIn f begun t ≡ begunTake (threadIn f b t)
   begun-thread =
       let u = begunTake (threadIn f b t) in
       ap (λ h. h t)
-      (threads-setThread f b (r .placed) t u t-least t-most (thread-fit (f .shape) (r .range) u (taker-good f b t passed r)))
+      (threads-setThread f b (r .framed) t u t-least t-most (thread-fit (f .shape) (r .range) u (taker-good f b t passed r)))
       ∙ upd-same (threadIn f b) t u
 
   module _ (clean : AllClean f b) where
@@ -147,7 +147,7 @@ module _ (f : Frame) (b : List ℕ) (t : ℕ) (choices : List ℕ) (r : Good f b
       some : 1 ≤ c
       some = omega (arith, full)
 
-      asks : PopAsks m (updated (m .node 1) second 1) c
+      asks : PopAllowed m (updated (m .node 1) second 1) c
       unfolding sharedIn
       asks = record { clean = clean-all 1; head = refl; cell = some; value = refl }
 

@@ -58,10 +58,10 @@ next-most cells c =
     (λ e. omega (arith, ltb-true c cells (and-right (leb 1 c) (ltb c cells) e))) (λ e. omega arith)
 
 -- a run of words that are all 0
-zero-run : (b : List ℕ) (n at : ℕ) → ((j : ℕ) → at ≤ j → j < at + n → word b j ≡ 0) → wordsAt b at n ≡ replicate n 0
-zero-run b zero at h = refl
-zero-run b (suc n) at h =
-    cc (h at (omega arith) (omega arith), zero-run b n (suc at) (λ j l u. h j (omega arith) (omega arith)))
+zero-words : (b : List ℕ) (n at : ℕ) → ((j : ℕ) → at ≤ j → j < at + n → word b j ≡ 0) → wordsAt b at n ≡ replicate n 0
+zero-words b zero at h = refl
+zero-words b (suc n) at h =
+    cc (h at (omega arith) (omega arith), zero-words b n (suc at) (λ j l u. h j (omega arith) (omega arith)))
 
 -- the words of cell c + 1
 module _ (cells c : ℕ) where
@@ -105,7 +105,7 @@ module _ (s : Shape) (ps b : List ℕ) (e : layoutRefusal s ps (length b) ≡ do
       (λ h. let l = between-least 1 n (nodeCount s) h in
       let u = between-most 1 n (nodeCount s) h in
       ap (λ ws. nodeOf ws 0)
-      (zero-run laid nodeSize (entry (nodesOf (frameOf s)) n) λ j lo hi. node-word s ps b e j (omega arith) (omega arith)))
+      (zero-words laid nodeSize (entry (nodesOf (frameOf s)) n) λ j lo hi. node-word s ps b e j (omega arith) (omega arith)))
       (λ h. refl)
 
   -- word j of cell i + 1, and of thread i + 1's record
@@ -143,7 +143,7 @@ module _ (s : Shape) (ps b : List ℕ) (e : layoutRefusal s ps (length b) ≡ do
       cc (
         thread-part i 0 at h (omega arith) (omega arith),
         permission-word ps i,
-        zero-run laid (threadSize - 1) (suc at) (λ j lo hi.
+        zero-words laid (threadSize - 1) (suc at) (λ j lo hi.
             thread-part i (j - at) j h (omega arith) (omega arith) ∙ threadWord-rest ps i (j - at) (omega arith) (omega arith)),
       )
 

@@ -146,8 +146,8 @@ fill-start s ps f n b a ef en =
     }
 
 module _ {s : Shape} {ps : List ℕ} {c t n : ℕ} {b₀ b : List ℕ} {k : ℕ} (e : Filled s ps c t n b₀ b k) where
-  pub fill-asks : k < n → Laying s ps k c t
-  fill-asks h =
+  pub fill-laying : k < n → Laying s ps k c t
+  fill-laying h =
       record {
         shape = e .call .shape;
         permissions = e .call .permissions;

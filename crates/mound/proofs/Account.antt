@@ -21,7 +21,7 @@ use Rattle.mound.specs.Tree.{inList, inNodes}
 use Rattle.mound.proofs.Cells.{starts}
 use Rattle.mound.proofs.Chains.{Chain, HasItems, among, items, only-items, walk-counts}
 use Rattle.mound.proofs.Counts.{inChain}
-use Rattle.mound.proofs.Facts.{inHand, in-hand}
+use Rattle.mound.proofs.Facts.{heldItems, held-items}
 use Rattle.mound.proofs.Held.{Held, counts, few-held, free-chain, thread-chain}
 use Rattle.mound.proofs.Holders.{free-holds, overAll}
 use Rattle.mound.proofs.Steps.{Invariant, owns}
@@ -44,9 +44,9 @@ cells-of : {cell : ℕ → Cell} {own rank : ℕ → ℕ} {o c : ℕ} {cs : List
 cells-of {cell = cell} {cs = cs} k is h = sym (length-items cell cs) ∙ ap length (only-items k is h)
 
 -- a thread holds one cell at I1 to I8, none elsewhere
-count-in-hand : (t : Thread) (p : Place) → length (inHand t p) ≡ pick (isPutPlace p) 1 0
-unfolding inHand pick
-count-in-hand t p = go (isPutPlace p)
+count-held-items : (t : Thread) (p : Place) → length (heldItems t p) ≡ pick (isPutPlace p) 1 0
+unfolding heldItems pick
+count-held-items t p = go (isPutPlace p)
   where
     go : (q : Bool) → length (pick q (t .item ∷ []) []) ≡ pick q 1 0
     go true = refl
@@ -64,15 +64,15 @@ module _ (s : Shape) (m : Shared) (th : ℕ → Thread) (l : Ledger) {all : ℕ}
       ∙ sum-same (λ n. length (h .list (2 * n))) (inChain (m .cell) (h .list) anyItem) (nodeCount s)
       (λ k l u. all-count (m .cell) (h .list (2 * k)))
 
-  cells-in-hand : (t : ℕ) → length (h .list (2 * t + 1)) ≡ pick (isPutPlace (th t .place)) 1 0
-  cells-in-hand t =
-      cells-of (thread-chain s m (owns th) h t) (inHand (th t) (th t .place)) (in-hand s m (th t) (l .operation t) (th t .place) (inv .at t))
-      ∙ count-in-hand (th t) (th t .place)
+  cells-held : (t : ℕ) → length (h .list (2 * t + 1)) ≡ pick (isPutPlace (th t .place)) 1 0
+  cells-held t =
+      cells-of (thread-chain s m (owns th) h t) (heldItems (th t) (th t .place)) (held-items s m (th t) (l .operation t) (th t .place) (inv .at t))
+      ∙ count-held-items (th t) (th t .place)
 
   puts-sum : (n : ℕ) → putsAmong th n ≡ sum (λ t. length (h .list (2 * t + 1))) n
   unfolding putsAmong sum
   puts-sum zero = refl
-  puts-sum (suc n) = cc (puts-sum n, cells-in-hand (suc n))
+  puts-sum (suc n) = cc (puts-sum n, cells-held (suc n))
 
   free-measured : inList m anyItem (s .cells) (m .free) ≡ length (h .list 0)
   free-measured =

@@ -188,49 +188,49 @@ module _ (cell : ℕ → Cell) (own rank head head′ : ℕ → ℕ) (list : ℕ
     (apart : o ≡ q → ⊥) (to-o : head′ o ≡ head q) (to-q : head′ q ≡ head o)
     (still : (x : ℕ) → (x ≡ o → ⊥) → (x ≡ q → ⊥) → head′ x ≡ head x) where
   -- the other of the two owners, and any third one itself
-  unfoldable turned : ℕ → ℕ
-  turned x = upd (upd (λ y. y) o q) q o x
+  unfoldable swapped : ℕ → ℕ
+  swapped x = upd (upd (λ y. y) o q) q o x
 
-  turned-o : turned o ≡ q
-  unfolding turned
-  turned-o = upd-other (upd (λ y. y) o q) q o o apart ∙ upd-same (λ y. y) o q
+  swapped-o : swapped o ≡ q
+  unfolding swapped
+  swapped-o = upd-other (upd (λ y. y) o q) q o o apart ∙ upd-same (λ y. y) o q
 
-  turned-q : turned q ≡ o
-  unfolding turned
-  turned-q = upd-same (upd (λ y. y) o q) q o
+  swapped-q : swapped q ≡ o
+  unfolding swapped
+  swapped-q = upd-same (upd (λ y. y) o q) q o
 
-  turned-other : (x : ℕ) → (x ≡ o → ⊥) → (x ≡ q → ⊥) → turned x ≡ x
-  unfolding turned
-  turned-other x m n = upd-other (upd (λ y. y) o q) q x o n ∙ upd-other (λ y. y) o x q m
+  swapped-other : (x : ℕ) → (x ≡ o → ⊥) → (x ≡ q → ⊥) → swapped x ≡ x
+  unfolding swapped
+  swapped-other x m n = upd-other (upd (λ y. y) o q) q x o n ∙ upd-other (λ y. y) o x q m
 
   -- a chain of owner x is one of the owner that x turns into
-  over : (x : ℕ) → Chain cell (λ d. turned (own d)) rank (turned x) (head x) (list x)
+  over : (x : ℕ) → Chain cell (λ d. swapped (own d)) rank (swapped x) (head x) (list x)
   over x =
-      chain-left cell cell own (λ d. turned (own d)) rank rank x (turned x) (head x) (list x)
-      (λ d e r. (refl, ap turned e, refl)) (chains x)
+      chain-left cell cell own (λ d. swapped (own d)) rank rank x (swapped x) (head x) (list x)
+      (λ d e r. (refl, ap swapped e, refl)) (chains x)
 
-  exchanged : Chains cell (λ d. turned (own d)) rank head′ (λ x. list (turned x))
+  exchanged : Chains cell (λ d. swapped (own d)) rank head′ (λ x. list (swapped x))
   exchanged x = go (ℕ-discrete x o) (ℕ-discrete x q)
     where
-      here : (y : ℕ) → turned y ≡ x → head′ x ≡ head y → turned x ≡ y
-          → Chain cell (λ d. turned (own d)) rank x (head′ x) (list (turned x))
+      here : (y : ℕ) → swapped y ≡ x → head′ x ≡ head y → swapped x ≡ y
+          → Chain cell (λ d. swapped (own d)) rank x (head′ x) (list (swapped x))
       here y ey eh ex =
-          subst₂ (λ h l. Chain cell (λ d. turned (own d)) rank x h l) (sym eh) (ap list (sym ex))
-          (subst (λ z. Chain cell (λ d. turned (own d)) rank z (head y) (list y)) ey (over y))
+          subst₂ (λ h l. Chain cell (λ d. swapped (own d)) rank x h l) (sym eh) (ap list (sym ex))
+          (subst (λ z. Chain cell (λ d. swapped (own d)) rank z (head y) (list y)) ey (over y))
 
-      go : Dec (x ≡ o) → Dec (x ≡ q) → Chain cell (λ d. turned (own d)) rank x (head′ x) (list (turned x))
-      go (yes e) d = here q (turned-q ∙ sym e) (ap head′ e ∙ to-o) (ap turned e ∙ turned-o)
-      go (no m) (yes e) = here o (turned-o ∙ sym e) (ap head′ e ∙ to-q) (ap turned e ∙ turned-q)
-      go (no m) (no n) = here x (turned-other x m n) (still x m n) (turned-other x m n)
+      go : Dec (x ≡ o) → Dec (x ≡ q) → Chain cell (λ d. swapped (own d)) rank x (head′ x) (list (swapped x))
+      go (yes e) d = here q (swapped-q ∙ sym e) (ap head′ e ∙ to-o) (ap swapped e ∙ swapped-o)
+      go (no m) (yes e) = here o (swapped-o ∙ sym e) (ap head′ e ∙ to-q) (ap swapped e ∙ swapped-q)
+      go (no m) (no n) = here x (swapped-other x m n) (still x m n) (swapped-other x m n)
 
   pub exchange : Exchanged cell head′ list o q
   exchange =
       record {
-        owners = λ d. turned (own d);
+        owners = λ d. swapped (own d);
         ranks = rank;
-        lists = λ x. list (turned x);
+        lists = λ x. list (swapped x);
         chained = exchanged;
-        list-o = ap list turned-o;
-        list-q = ap list turned-q;
-        list-x = λ x m n. ap list (turned-other x m n);
+        list-o = ap list swapped-o;
+        list-q = ap list swapped-q;
+        list-x = λ x m n. ap list (swapped-other x m n);
       }

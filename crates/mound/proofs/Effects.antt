@@ -23,7 +23,7 @@ use Rattle.access.proofs.OrderLaws.{item-refl, item-trans}
 use Rattle.access.proofs.ReadLaws.{updated-counter, updated-dirty, updated-first}
 use Rattle.mound.specs.Tree.{sameItem}
 use Rattle.mound.proofs.Chains.{ItemsStay}
-use Rattle.mound.proofs.Held.{Held, counted, first-owner, own-owner, free-owner, hand-stays, rest-stays, held-same, counted-same, held-begin, counted-begin, held-push, counted-push, held-pop, counted-pop, held-exchange, counted-exchange}
+use Rattle.mound.proofs.Held.{Held, counted, first-owner, own-owner, free-owner, thread-items-stay, rest-stays, held-same, counted-same, held-begin, counted-begin, held-push, counted-push, held-pop, counted-pop, held-exchange, counted-exchange}
 use Rattle.mound.proofs.Order.{Above, Ordered, above-le, push-ordered, pop-ordered, clean-ordered, exchange-ordered}
 use Rattle.mound.proofs.Sorted.{AtMost, Proper, valueAt}
 
@@ -117,7 +117,7 @@ rely-same m m′ d h =
     }
 
 -- What each effect asks.
-pub record PushAsks (m : Shared) (own : ℕ → ℕ) (t n : ℕ) (v : Node) (c x : ℕ) : Type 0 where
+pub record PushAllowed (m : Shared) (own : ℕ → ℕ) (t n : ℕ) (v : Node) (c x : ℕ) : Type 0 where
   pub some : 1 ≤ n
   pub few : n < 2 ^ m .depth
   pub mine : own t ≡ c
@@ -128,13 +128,13 @@ pub record PushAsks (m : Shared) (own : ℕ → ℕ) (t n : ℕ) (v : Node) (c x
   pub value : v ≡ updated (m .node n) c (m .node n .dirty)
   pub onto : x ≡ m .node n .first
 
-pub record PopAsks (m : Shared) (v : Node) (c : ℕ) : Type 0 where
+pub record PopAllowed (m : Shared) (v : Node) (c : ℕ) : Type 0 where
   pub clean : m .node 1 .dirty ≡ 0
   pub head : m .node 1 .first ≡ c
   pub cell : 1 ≤ c
   pub value : v ≡ updated (m .node 1) (m .cell c .next) 1
 
-pub record ExchangeAsks (m : Shared) (n : ℕ) (v : Node) (k : ℕ) (w : Node) (j : ℕ) : Type 0 where
+pub record ExchangeAllowed (m : Shared) (n : ℕ) (v : Node) (k : ℕ) (w : Node) (j : ℕ) : Type 0 where
   pub some : 1 ≤ n
   pub few : k < 2 ^ m .depth
   pub child : k / 2 ≡ n
@@ -148,7 +148,7 @@ pub record ExchangeAsks (m : Shared) (n : ℕ) (v : Node) (k : ℕ) (w : Node) (
   pub value : v ≡ updated (m .node n) (m .node k .first) 0
   pub value-child : w ≡ updated (m .node k) (m .node n .first) 1
 
-pub record CleanAsks (m : Shared) (n : ℕ) (v : Node) : Type 0 where
+pub record CleanAllowed (m : Shared) (n : ℕ) (v : Node) : Type 0 where
   pub some : 1 ≤ n
   pub few : n < 2 ^ m .depth
   pub dirty : 1 ≤ m .node n .dirty
@@ -196,7 +196,7 @@ module _ (s : Shape) (m : Shared) (own : ℕ → ℕ) {all : ℕ} (g : Mound s m
 
 -- Pushing.
 module _ (s : Shape) (m : Shared) (own own′ : ℕ → ℕ) {all : ℕ} (g : Mound s m own all) (t n : ℕ) (v : Node) (c x : ℕ) (lt : 1 ≤ t) (ut : t ≤ s .threads)
-    (a : PushAsks m own t n v c x) (left : own′ t ≡ m .cell c .next) (still : (u : ℕ) → (u ≡ t → ⊥) → own′ u ≡ own u) where
+    (a : PushAllowed m own t n v c x) (left : own′ t ≡ m .cell c .next) (still : (u : ℕ) → (u ≡ t → ⊥) → own′ u ≡ own u) where
   abbrev pushed : Shared
   pushed = effectShared m (Push n v c x)
 
@@ -301,11 +301,11 @@ module _ (s : Shape) (m : Shared) (own own′ : ℕ → ℕ) {all : ℕ} (g : Mo
       record {
         mound = push-mound;
         rely = push-relies;
-        kept = λ u ne. hand-stays s m own (g .held) (pushed .cell) c push-cells u (λ e. ne (omega (arith, e, push-owner)));
+        kept = λ u ne. thread-items-stay s m own (g .held) (pushed .cell) c push-cells u (λ e. ne (omega (arith, e, push-owner)));
       }
 
 -- Popping.
-module _ (s : Shape) (m : Shared) (own : ℕ → ℕ) {all : ℕ} (g : Mound s m own all) (v : Node) (c : ℕ) (a : PopAsks m v c) where
+module _ (s : Shape) (m : Shared) (own : ℕ → ℕ) {all : ℕ} (g : Mound s m own all) (v : Node) (c : ℕ) (a : PopAllowed m v c) where
   abbrev popped : Shared
   popped = effectShared m (Pop v c)
 
@@ -373,15 +373,15 @@ module _ (s : Shape) (m : Shared) (own : ℕ → ℕ) {all : ℕ} (g : Mound s m
       (λ y ne. ap (λ z. z .first) (upd-other (m .node) 1 y v ne)) i
 
   -- what any thread holds
-  pub pop-hands : (t : ℕ) → ItemsStay (m .cell) (popped .cell) (own t)
-  pop-hands t = hand-stays s m own (g .held) (popped .cell) c pop-cells t (λ e. omega (arith, e, pop-owner))
+  pub pop-items-stay : (t : ℕ) → ItemsStay (m .cell) (popped .cell) (own t)
+  pop-items-stay t = thread-items-stay s m own (g .held) (popped .cell) c pop-cells t (λ e. omega (arith, e, pop-owner))
 
   pub pop-keeps : (t : ℕ) → Keeps s m popped own own all t
-  pop-keeps t = record { mound = pop-mound; rely = pop-relies; kept = λ u n. pop-hands u }
+  pop-keeps t = record { mound = pop-mound; rely = pop-relies; kept = λ u n. pop-items-stay u }
 
 -- Exchanging the lists of node n and its child k, whose sibling is j.
 module _ (s : Shape) (m : Shared) (own : ℕ → ℕ) {all : ℕ} (g : Mound s m own all) (n : ℕ) (v : Node) (k : ℕ) (w : Node) (j : ℕ)
-    (a : ExchangeAsks m n v k w j) where
+    (a : ExchangeAllowed m n v k w j) where
   abbrev swapped : Shared
   swapped = effectShared m (Exchange n v k w)
 
@@ -459,7 +459,7 @@ module _ (s : Shape) (m : Shared) (own : ℕ → ℕ) {all : ℕ} (g : Mound s m
       (λ x p q. ap (λ z. z .first) (at-x x p q)) i
 
 -- Cleaning.
-module _ (s : Shape) (m : Shared) (own : ℕ → ℕ) {all : ℕ} (g : Mound s m own all) (n : ℕ) (v : Node) (a : CleanAsks m n v) where
+module _ (s : Shape) (m : Shared) (own : ℕ → ℕ) {all : ℕ} (g : Mound s m own all) (n : ℕ) (v : Node) (a : CleanAllowed m n v) where
   abbrev cleaned : Shared
   cleaned = effectShared m (Clean n v)
 
@@ -560,5 +560,5 @@ module _ (s : Shape) (m m′ : Shared) (own own′ : ℕ → ℕ) {all : ℕ} (g
       record {
         mound = begin-mound;
         rely = begin-relies;
-        kept = λ u n. hand-stays s m own (g .held) (m′ .cell) c others u (λ e. omega (arith, e, begin-owner));
+        kept = λ u n. thread-items-stay s m own (g .held) (m′ .cell) c others u (λ e. omega (arith, e, begin-owner));
       }

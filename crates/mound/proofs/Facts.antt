@@ -154,28 +154,28 @@ At s m t op (MendSwap w) = Mends m t op × Inner m (t .node) (t .copies .first) 
 At s m t op (MendClean w) = Mends m t op × Dirty m (t .node) (t .copies .first) × Mended m (t .node) (t .copies .first)
 
 -- what a thread holds, by the items of the chain from its own cell: its put's item at I1 to I8, nothing elsewhere
-unfoldable pub inHand : Thread → Place → List Item
-inHand t p = pick (isPutPlace p) (t .item ∷ []) []
+unfoldable pub heldItems : Thread → Place → List Item
+heldItems t p = pick (isPutPlace p) (t .item ∷ []) []
 
-pub in-hand : (s : Shape) (m : Shared) (t : Thread) (op : Operation) (p : Place) → At s m t op p → HasItems (m .cell) (t .own) (inHand t p)
-unfolding inHand isPutPlace between pick
-in-hand s m t op Idle h = h .1
-in-hand s m t op ReadDepth h = h .has
-in-hand s m t op ReadLeaf h = h .0 .has
-in-hand s m t op ReadAncestor h = h .0 .has
-in-hand s m t op GrowDepth h = h .0 .has
-in-hand s m t op ReadTarget h = h .0 .has
-in-hand s m t op InsertAtRoot h = h .0 .has
-in-hand s m t op ReadParent h = h .0 .has
-in-hand s m t op InsertBelow h = h .0 .has
-in-hand s m t op ReadRoot h = h .has
-in-hand s m t op RemoveHead h = h .0 .has
-in-hand s m t op (MendReadNode w) h = h .0 .has
-in-hand s m t op (MendReadDepth w) h = h .0 .0 .has
-in-hand s m t op (MendReadLeft w) h = h .0 .0 .has
-in-hand s m t op (MendReadRight w) h = h .0 .0 .has
-in-hand s m t op (MendSwap w) h = h .0 .0 .has
-in-hand s m t op (MendClean w) h = h .0 .0 .has
+pub held-items : (s : Shape) (m : Shared) (t : Thread) (op : Operation) (p : Place) → At s m t op p → HasItems (m .cell) (t .own) (heldItems t p)
+unfolding heldItems isPutPlace between pick
+held-items s m t op Idle h = h .1
+held-items s m t op ReadDepth h = h .has
+held-items s m t op ReadLeaf h = h .0 .has
+held-items s m t op ReadAncestor h = h .0 .has
+held-items s m t op GrowDepth h = h .0 .has
+held-items s m t op ReadTarget h = h .0 .has
+held-items s m t op InsertAtRoot h = h .0 .has
+held-items s m t op ReadParent h = h .0 .has
+held-items s m t op InsertBelow h = h .0 .has
+held-items s m t op ReadRoot h = h .has
+held-items s m t op RemoveHead h = h .0 .has
+held-items s m t op (MendReadNode w) h = h .0 .has
+held-items s m t op (MendReadDepth w) h = h .0 .0 .has
+held-items s m t op (MendReadLeft w) h = h .0 .0 .has
+held-items s m t op (MendReadRight w) h = h .0 .0 .has
+held-items s m t op (MendSwap w) h = h .0 .0 .has
+held-items s m t op (MendClean w) h = h .0 .0 .has
 
 pub sound-read : (m : Shared) (n : ℕ) → Sound m n (readNode m n)
 unfolding readNode

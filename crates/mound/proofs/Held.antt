@@ -112,9 +112,9 @@ module _ (s : Shape) (m : Shared) (own : ℕ → ℕ) {all : ℕ} (h : Held s m 
   free-owner l = first-owned free-chain l
 
   -- what thread t holds stays where a cell of another holder changes; and where its own head does, what lies behind that
-  pub hand-stays : (cell′ : ℕ → Cell) (c : ℕ) → ((d : ℕ) → (d ≡ c → ⊥) → cell′ d ≡ m .cell d) → (t : ℕ) → (h .owner c ≡ 2 * t + 1 → ⊥)
+  pub thread-items-stay : (cell′ : ℕ → Cell) (c : ℕ) → ((d : ℕ) → (d ≡ c → ⊥) → cell′ d ≡ m .cell d) → (t : ℕ) → (h .owner c ≡ 2 * t + 1 → ⊥)
       → ItemsStay (m .cell) cell′ (own t)
-  hand-stays cell′ c others t n =
+  thread-items-stay cell′ c others t n =
       items-stay cell′ (thread-chain t) (λ d e r. others d (λ z. n (ap (h .owner) (sym z) ∙ e)))
 
   pub rest-stays : (cell′ : ℕ → Cell) (t : ℕ) → 1 ≤ own t → ((d : ℕ) → (d ≡ own t → ⊥) → cell′ d ≡ m .cell d)

@@ -42,7 +42,7 @@ use Rattle.extract.specs.Extract.{rootRead, readRoot, headRemoved, removeHead}
 use Rattle.moundify.specs.Moundify.{returning, mendReadNode, depthRead, mendReadDepth, mendReadLeft, marked, lessBelow, childLess, childrenRead, mendReadRight, exchangeAt, nodeAndChildSame, exchangeWith, mendSwap, cleanAt, mendClean, returned, returnAnswer}
 use Rattle.machine.specs.Turn.{decide, decideAt, staysPut}
 use Rattle.mound.specs.Ledger.{Operation, none, putting, taking, holding}
-use Rattle.mound.proofs.Effects.{Mound, PushAsks, PopAsks, ExchangeAsks, CleanAsks, in-tree}
+use Rattle.mound.proofs.Effects.{Mound, PushAllowed, PopAllowed, ExchangeAllowed, CleanAllowed, in-tree}
 use Rattle.mound.proofs.Facts.{At, AnyValue, Child, ChildRead, Dirty, InTree, Inner, LevelRead, Mended, Mends, Parent, Puts, RootRead, Searching, Sound, Swappable, Takes, Target, mendingFor, sound-read}
 use Rattle.mound.proofs.Held.{val-top}
 use Rattle.mound.proofs.Order.{Above, below-children}
@@ -52,35 +52,35 @@ use Rattle.mound.proofs.Sorted.{AtMost, valueAt}
 abbrev pub Allowed : Shape → Shared → (ℕ → ℕ) → ℕ → Effect → Type 0
 Allowed s m own t Nothing = Unit
 Allowed s m own t (Grow d) = (d ≡ m .depth + 1) × (d ≤ s .depth)
-Allowed s m own t (Push n v c x) = PushAsks m own t n v c x
-Allowed s m own t (Pop v c) = PopAsks m v c
-Allowed s m own t (Exchange n v k w) = (j : ℕ) × ExchangeAsks m n v k w j
-Allowed s m own t (Clean n v) = CleanAsks m n v
+Allowed s m own t (Push n v c x) = PushAllowed m own t n v c x
+Allowed s m own t (Pop v c) = PopAllowed m v c
+Allowed s m own t (Exchange n v k w) = (j : ℕ) × ExchangeAllowed m n v k w j
+Allowed s m own t (Clean n v) = CleanAllowed m n v
 
 -- what the effect and the answer make of the thread's operation
-pub data Speaks (m : Shared) (op op′ : Operation) : Effect → Answer → Type 0 where
-  reads : op′ ≡ op → Speaks m op op′ Nothing Moved
-  grows : {d : ℕ} → op′ ≡ op → Speaks m op op′ (Grow d) Moved
-  swaps : {n k : ℕ} {v w : Node} → op′ ≡ op → Speaks m op op′ (Exchange n v k w) Moved
-  cleans : {n : ℕ} {v : Node} → op′ ≡ op → Speaks m op op′ (Clean n v) Moved
+pub data OperationAfter (m : Shared) (op op′ : Operation) : Effect → Answer → Type 0 where
+  reads : op′ ≡ op → OperationAfter m op op′ Nothing Moved
+  grows : {d : ℕ} → op′ ≡ op → OperationAfter m op op′ (Grow d) Moved
+  swaps : {n k : ℕ} {v w : Node} → op′ ≡ op → OperationAfter m op op′ (Exchange n v k w) Moved
+  cleans : {n : ℕ} {v : Node} → op′ ≡ op → OperationAfter m op op′ (Clean n v) Moved
   inserts : {n c x : ℕ} {v : Node} (i : Item) → op ≡ putting i → m .cell c .item ≡ i → op′ ≡ none
-      → Speaks m op op′ (Push n v c x) Inserted
-  removes : {v : Node} {c : ℕ} → op ≡ taking → op′ ≡ holding (m .cell c .item) → Speaks m op op′ (Pop v c) Moved
-  empties : op ≡ taking → op′ ≡ none → m .node 1 .dirty ≡ 0 → m .node 1 .first ≡ 0 → Speaks m op op′ Nothing Empty
-  answers : {i : Item} → op ≡ holding i → op′ ≡ none → Speaks m op op′ Nothing (Took i)
-  cleans-answers : {n : ℕ} {v : Node} {i : Item} → op ≡ holding i → op′ ≡ none → Speaks m op op′ (Clean n v) (Took i)
+      → OperationAfter m op op′ (Push n v c x) Inserted
+  removes : {v : Node} {c : ℕ} → op ≡ taking → op′ ≡ holding (m .cell c .item) → OperationAfter m op op′ (Pop v c) Moved
+  empties : op ≡ taking → op′ ≡ none → m .node 1 .dirty ≡ 0 → m .node 1 .first ≡ 0 → OperationAfter m op op′ Nothing Empty
+  answers : {i : Item} → op ≡ holding i → op′ ≡ none → OperationAfter m op op′ Nothing (Took i)
+  cleans-answers : {n : ℕ} {v : Node} {i : Item} → op ≡ holding i → op′ ≡ none → OperationAfter m op op′ (Clean n v) (Took i)
 
 -- an effect that speaks is carried out
-pub speaks-moves : {m : Shared} {op op′ : Operation} {e : Effect} {a : Answer} → Speaks m op op′ e a → staysPut a ≡ false
-speaks-moves (reads k) = refl
-speaks-moves (grows k) = refl
-speaks-moves (swaps k) = refl
-speaks-moves (cleans k) = refl
-speaks-moves (inserts i x y z) = refl
-speaks-moves (removes x y) = refl
-speaks-moves (empties x y z w) = refl
-speaks-moves (answers x y) = refl
-speaks-moves (cleans-answers x y) = refl
+pub operation-moves : {m : Shared} {op op′ : Operation} {e : Effect} {a : Answer} → OperationAfter m op op′ e a → staysPut a ≡ false
+operation-moves (reads k) = refl
+operation-moves (grows k) = refl
+operation-moves (swaps k) = refl
+operation-moves (cleans k) = refl
+operation-moves (inserts i x y z) = refl
+operation-moves (removes x y) = refl
+operation-moves (empties x y z w) = refl
+operation-moves (answers x y) = refl
+operation-moves (cleans-answers x y) = refl
 
 -- the own cell afterwards: a push takes it and leaves the one behind it, nothing else changes it
 abbrev pub OwnAfter : Shared → Effect → ℕ → ℕ → Type 0
@@ -94,7 +94,7 @@ OwnAfter m (Clean n v) o o′ = o′ ≡ o
 pub data Planned (s : Shape) (m : Shared) (own : ℕ → ℕ) (t : ℕ) (o : ℕ) (op : Operation) (p : Plan) : Type 0 where
   rests : p .effect ≡ Nothing → p .answer ≡ AnswersIdle → Planned s m own t o op p
   refuses : p .effect ≡ Nothing → p .answer ≡ Refused counterSpent → Planned s m own t o op p
-  moves : (op′ : Operation) → Allowed s m own t (p .effect) → Speaks m op op′ (p .effect) (p .answer)
+  moves : (op′ : Operation) → Allowed s m own t (p .effect) → OperationAfter m op op′ (p .effect) (p .answer)
       → OwnAfter m (p .effect) o (p .thread .own) → At s m (p .thread) op′ (p .thread .place) → Planned s m own t o op p
 
 -- Where nodes lie: ancestors and children.
@@ -389,8 +389,8 @@ module _ (s : Shape) (r : InRange s) (m : Shared) (own : ℕ → ℕ) {all : ℕ
   module _ (w : ℕ) where
     -- a return, after no effect or a cleaning
     return-planned : (e : Effect) (u : Thread) → u .own ≡ th .own → Mends m u op → Allowed s m own t e
-        → ((o : ℕ) → o ≡ th .own → OwnAfter m e (th .own) o) → ((o : Operation) → o ≡ op → Speaks m op o e Moved)
-        → ((i : Item) → op ≡ holding i → Speaks m op none e (Took i)) → Fits (returning e u w)
+        → ((o : ℕ) → o ≡ th .own → OwnAfter m e (th .own) o) → ((o : Operation) → o ≡ op → OperationAfter m op o e Moved)
+        → ((i : Item) → op ≡ holding i → OperationAfter m op none e (Took i)) → Fits (returning e u w)
     unfolding returning returned returnAnswer plan mending atPlace withNode goneIdle pick
     return-planned e u eo h al ow quiet tell = go (eqb w 0) refl (eqb (u .after) 1) refl
       where
@@ -624,13 +624,13 @@ module _ (s : Shape) (r : InRange s) (m : Shared) (own : ℕ → ℕ) {all : ℕ
         (λ e. exchange-planned h a (2 * n) (2 * n + 1) l k (omega arith) (omega arith) (omega arith)
         (λ x z. below-children n x z) (b .left) (b .right) (b .clean-left) (b .clean-right) (b .less-left e) e)
         (λ e. exchange-planned h a (2 * n + 1) (2 * n) k l (omega arith) (omega arith) (omega (arith, h .1 .0))
-        (λ x z. turned (below-children n x z)) (b .right) (b .left) (b .clean-right) (b .clean-left) (b .less-right e)
+        (λ x z. swapped (below-children n x z)) (b .right) (b .left) (b .clean-right) (b .clean-left) (b .less-right e)
         (item-total (valueOf l) (valueOf k) e))
       where
-        turned : {x y z : Type 0} → x ⊎ (y ⊎ z) → x ⊎ (z ⊎ y)
-        turned (inl p) = inl p
-        turned (inr (inl p)) = inr (inr p)
-        turned (inr (inr p)) = inr (inl p)
+        swapped : {x y z : Type 0} → x ⊎ (y ⊎ z) → x ⊎ (z ⊎ y)
+        swapped (inl p) = inl p
+        swapped (inr (inl p)) = inr (inr p)
+        swapped (inr (inr p)) = inr (inl p)
 
     -- M6
     clean-planned : Mends m th op → Dirty m (th .node) (th .copies .first) → Mended m (th .node) (th .copies .first)

@@ -26,11 +26,11 @@ use Rattle.mound.specs.Ledger.{Operation, none, putting, taking, holding
 use Rattle.mound.specs.Told.{Told, nothing, beginsPut, beginsTake, decidesPut, decidesTake, decidesEmpty, answersTook}
 use Rattle.mound.specs.Tree.{sameItem}
 use Rattle.mound.proofs.Chains.{ItemsStay}
-use Rattle.mound.proofs.Effects.{Keeps, Mound, in-tree, root-there, value-there, rely-same, begin-keeps, begin-counts, grow-keeps, grow-counts, push-keeps, push-counts, push-rest, pop-keeps, pop-counts, pop-hands, exchange-keeps, exchange-counts, clean-keeps, clean-counts}
+use Rattle.mound.proofs.Effects.{Keeps, Mound, in-tree, root-there, value-there, rely-same, begin-keeps, begin-counts, grow-keeps, grow-counts, push-keeps, push-counts, push-rest, pop-keeps, pop-counts, pop-items-stay, exchange-keeps, exchange-counts, clean-keeps, clean-counts}
 use Rattle.mound.proofs.Facts.{At, stays}
 use Rattle.mound.proofs.Held.{counted, held-by, head-held}
 use Rattle.mound.proofs.Order.{root-above}
-use Rattle.mound.proofs.Plans.{Allowed, OwnAfter, Speaks, reads, grows, swaps, cleans, inserts, removes, empties, answers, cleans-answers}
+use Rattle.mound.proofs.Plans.{Allowed, OwnAfter, OperationAfter, reads, grows, swaps, cleans, inserts, removes, empties, answers, cleans-answers}
 use Rattle.mound.proofs.Sorted.{AtMost, Proper, same-item, item-same, valueAt}
 
 -- each thread's own cell
@@ -177,7 +177,7 @@ module _ (s : Shape) (m : Shared) (own own′ : ℕ → ℕ) (l : Ledger) {all :
     at-rest : op′ ≡ op → l .operation t ≡ op′
     at-rest e = is ∙ sym e
 
-    pub step : (e : Effect) (a : Answer) → Allowed s m own t e → Speaks m op op′ e a → OwnAfter m e (own t) (own′ t) → Step e a op′
+    pub step : (e : Effect) (a : Answer) → Allowed s m own t e → OperationAfter m op op′ e a → OwnAfter m e (own t) (own′ t) → Step e a op′
     unfolding effectShared
     step Nothing Moved al (reads k) ow =
         record {
@@ -250,7 +250,7 @@ module _ (s : Shape) (m : Shared) (own own′ : ℕ → ℕ) (l : Ledger) {all :
                     let q = one-copy j (m .cell c .item) i ic in
                     omega (arith, one-less (l .bag) i j, bag j, p, q);
               };
-          mine = subst (ItemsStay (m .cell) (effectShared m (Pop v c) .cell)) (sym ow) (pop-hands s m own g v c al t);
+          mine = subst (ItemsStay (m .cell) (effectShared m (Pop v c) .cell)) (sym ow) (pop-items-stay s m own g v c al t);
         }
     step Nothing Empty al (empties eo en clean nobody) ow =
         record {
@@ -319,7 +319,7 @@ module _ (s : Shape) (m : Shared) (th : ℕ → Thread) (l : Ledger) {all : ℕ}
 
   -- a turn whose plan has an effect that the mound allows
   pub turn-moves : (p : Plan) (op′ : Operation) → Allowed s m (owns th) t (p .effect)
-      → Speaks m (l .operation t) op′ (p .effect) (p .answer) → OwnAfter m (p .effect) (th t .own) (p .thread .own)
+      → OperationAfter m (l .operation t) op′ (p .effect) (p .answer) → OwnAfter m (p .effect) (th t .own) (p .thread .own)
       → At s m (p .thread) op′ (p .thread .place)
       → NextState s l all (effectTells (headOfRoot m) t (p .answer) (p .effect)) (effectShared m (p .effect)) (upd th t (p .thread))
   turn-moves p op′ al sp ow at =

@@ -85,12 +85,12 @@ keeps-effect f b g e h =
     let long = length-effect f b e in
     record {
       good =
-          make-good f (effectBytes f b e) (g .range) (subst (Framed f) (sym long) (g .placed))
+          make-good f (effectBytes f b e) (g .range) (subst (Framed f) (sym long) (g .framed))
           (subst (SharedGood (f .shape))
-          (sym (effect-shared f b (g .placed) (few-cells (f .shape) (g .range)) e (fits-of f (g .range) b m e h)))
+          (sym (effect-shared f b (g .framed) (few-cells (f .shape) (g .range)) e (fits-of f (g .range) b m e h)))
           (effect-good (f .shape) (sharedIn f b) m e h))
           (threads-pass f b (effectBytes f b e) g λ j lo hi.
-          effect-word f j (threads-outside f (length b) (g .placed) j lo hi) b (g .placed) e);
+          effect-word f j (threads-outside f (length b) (g .framed) j lo hi) b (g .framed) e);
       long = long;
-      outside = λ j o. effect-word f j (o .shared) b (g .placed) e;
+      outside = λ j o. effect-word f j (o .shared) b (g .framed) e;
     }

@@ -177,11 +177,11 @@ module _ (f : Frame) (b : List ℕ) (g : Good f b) where
       let long = length-setWord b (f .free) v in
       record {
         good =
-            make-good f (setWord b (f .free) v) (g .range) (subst (Framed f) (sym long) (g .placed))
-            (subst (SharedGood s) (sym (shared-setFree f b (g .placed) v few))
+            make-good f (setWord b (f .free) v) (g .range) (subst (Framed f) (sym long) (g .framed))
+            (subst (SharedGood s) (sym (shared-setFree f b (g .framed) v few))
             (record { node = m .node; cell = m .cell; depth-least = m .depth-least; depth-most = m .depth-most; free = h }))
             (threads-pass f b (setWord b (f .free) v) g λ j lo hi.
-            word-other b (f .free) j v (outside-word (threads-outside f (length b) (g .placed) j lo hi .free)));
+            word-other b (f .free) j v (outside-word (threads-outside f (length b) (g .framed) j lo hi .free)));
         long = long;
         outside = λ j o. word-other b (f .free) j v (outside-word (o .shared .free));
       }
@@ -192,8 +192,8 @@ module _ (f : Frame) (b : List ℕ) (g : Good f b) where
       let long = length-setCellIn f b c v in
       record {
         good =
-            make-good f (setCellIn f b c v) (g .range) (subst (Framed f) (sym long) (g .placed))
-            (subst (SharedGood s) (sym (shared-setCell f b (g .placed) c v l u (cell-fit s (g .range) v h)))
+            make-good f (setCellIn f b c v) (g .range) (subst (Framed f) (sym long) (g .framed))
+            (subst (SharedGood s) (sym (shared-setCell f b (g .framed) c v l u (cell-fit s (g .range) v h)))
             (record {
               node = m .node;
               cell = put-cell s (sharedIn f b) m c v h;
@@ -202,9 +202,9 @@ module _ (f : Frame) (b : List ℕ) (g : Good f b) where
               free = m .free;
             }))
             (threads-pass f b (setCellIn f b c v) g λ j lo hi.
-            word-setCellIn f b (g .placed) c j v (threads-outside f (length b) (g .placed) j lo hi .cells));
+            word-setCellIn f b (g .framed) c j v (threads-outside f (length b) (g .framed) j lo hi .cells));
         long = long;
-        outside = λ j o. word-setCellIn f b (g .placed) c j v (o .shared .cells);
+        outside = λ j o. word-setCellIn f b (g .framed) c j v (o .shared .cells);
       }
 
 -- A put: what one that is not refused passed
@@ -313,13 +313,13 @@ put-keeps-shape b e t i = shape-kept b _ e (put-keeps-on b e t i)
 store-others : (f : Frame) (b : List ℕ) → Good f b → (t : ℕ) → 1 ≤ t → t ≤ f .shape .threads → (v : Thread) → ThreadGood (f .shape) v
     → (u : ℕ) → (u ≡ t → ⊥) → threadIn f (setThreadIn f b t v) u ≡ threadIn f b u
 store-others f b g t l m v gv u n =
-    ap (λ h. h u) (threads-setThread f b (g .placed) t v l m (thread-fit (f .shape) (g .range) v gv))
+    ap (λ h. h u) (threads-setThread f b (g .framed) t v l m (thread-fit (f .shape) (g .range) v gv))
     ∙ upd-other (threadIn f b) t u v n
 
 pub effect-threads : (f : Frame) (b : List ℕ) → Good f b → (e : Effect) → threadIn f (effectBytes f b e) ≡ threadIn f b
 effect-threads f b g e =
-    threads-kept f b (g .placed) (effectBytes f b e) λ j l u.
-    effect-word f j (threads-outside f (length b) (g .placed) j l u) b (g .placed) e
+    threads-kept f b (g .framed) (effectBytes f b e) λ j l u.
+    effect-word f j (threads-outside f (length b) (g .framed) j l u) b (g .framed) e
 
 module _ (f : Frame) (b : List ℕ) (g : Good f b) where
   module _ (t : ℕ) (l : 1 ≤ t) (r : t ≤ f .shape .threads) (p : Plan) (gp : PlanGood (f .shape) p) (u : ℕ) (n : u ≡ t → ⊥) where
@@ -364,8 +364,8 @@ accepted-put-others f b t i p g u n =
     let stored = stored-keeps f b t i p g .good in
     store-others f (ownStored f b t i p) stored t (put-least f b t i p) (put-most f b t i p) _ (putter-good f b t i p g) u n
     ∙ ap (λ h. h u)
-    (threads-setCell f (freeMoved f b t i p) (moved .placed) c (mine f b t i p)
-    ∙ threads-setFree f b (g .placed) (cellIn f b c .next))
+    (threads-setCell f (freeMoved f b t i p) (moved .framed) c (mine f b t i p)
+    ∙ threads-setFree f b (g .framed) (cellIn f b c .next))
 
 put-others : (f : Frame) (b : List ℕ) → Good f b → (t : ℕ) (i : Item) (u : ℕ) → (u ≡ t → ⊥)
     → threadIn f (putBytesIn f b t i) u ≡ threadIn f b u
@@ -382,32 +382,32 @@ put-leaves-others b e t i u n =
 -- an effect changes none but its own words
 module _ (f : Frame) (j : ℕ) where
   framed-node : (b : List ℕ) → Framed f (length b) → (n : ℕ) (v : Node) → Framed f (length (setNodeIn f b n v))
-  framed-node b placed n v = subst (Framed f) (sym (length-setNodeIn f b n v)) placed
+  framed-node b framed n v = subst (Framed f) (sym (length-setNodeIn f b n v)) framed
 
   effect-leaves : (b : List ℕ) → Framed f (length b) → (e : Effect) → OutsideEffect f e j → word (effectBytes f b e) j ≡ word b j
   unfolding effectBytes pushBytes freedBytes
-  effect-leaves b placed Nothing o = refl
-  effect-leaves b placed (Grow d) o = word-other b (f .depth) j d o
-  effect-leaves b placed (Push n v c x) o =
-      word-setCell f (setNodeIn f b n v) (framed-node b placed n v) c j _ (o .1) ∙ word-setNode f b placed n j v (o .0)
-  effect-leaves b placed (Pop v c) o =
+  effect-leaves b framed Nothing o = refl
+  effect-leaves b framed (Grow d) o = word-other b (f .depth) j d o
+  effect-leaves b framed (Push n v c x) o =
+      word-setCell f (setNodeIn f b n v) (framed-node b framed n v) c j _ (o .1) ∙ word-setNode f b framed n j v (o .0)
+  effect-leaves b framed (Pop v c) o =
       word-other _ (f .free) j c (o .2)
-      ∙ word-setCell f (setNodeIn f b 1 v) (framed-node b placed 1 v) c j _ (o .1)
-      ∙ word-setNode f b placed 1 j v (o .0)
-  effect-leaves b placed (Exchange n v k x) o =
-      word-setNode f (setNodeIn f b n v) (framed-node b placed n v) k j x (o .1) ∙ word-setNode f b placed n j v (o .0)
-  effect-leaves b placed (Clean n v) o = word-setNode f b placed n j v o
+      ∙ word-setCell f (setNodeIn f b 1 v) (framed-node b framed 1 v) c j _ (o .1)
+      ∙ word-setNode f b framed 1 j v (o .0)
+  effect-leaves b framed (Exchange n v k x) o =
+      word-setNode f (setNodeIn f b n v) (framed-node b framed n v) k j x (o .1) ∙ word-setNode f b framed n j v (o .0)
+  effect-leaves b framed (Clean n v) o = word-setNode f b framed n j v o
 
 pub turn-leaves-words : TurnLeavesWords
 unfolding turnBytes carriedOut
 turn-leaves-words b e t c j o a =
     let f = frameIn b in
     let p = turnPlan f b t c in
-    let placed = good b e .placed in
+    let framed = good b e .framed in
     pick-good (λ x. word x j ≡ word b j) (staysPut (p .answer)) (λ k. refl)
     (λ k. effect-leaves f j (setThreadIn f b t (p .thread))
-    (subst (Framed f) (sym (length-setThreadIn f b t (p .thread))) placed) (p .effect) o
-    ∙ word-setThread f b placed t j (p .thread) a)
+    (subst (Framed f) (sym (length-setThreadIn f b t (p .thread))) framed) (p .effect) o
+    ∙ word-setThread f b framed t j (p .thread) a)
 
 -- an item in range is less than the value of an empty node
 less-than-empty : (i : Item) → i .key < 2 ^ 32 → i .tag ≤ greatestTag → itemLt i topItem ≡ true

@@ -21,7 +21,7 @@ use Rattle.region.proofs.Shapes.{and-both}
 use Rattle.layout.specs.Layout.{layoutRefusal, layoutBytes}
 use Rattle.layout.proofs.Laws.{threadWord-most, threadWord-rest, laid-shape, laid-permissions, laid-length, header, thread-word}
 use Rattle.layout.proofs.LayoutReads.{laid-cell, laid-depth, laid-free, laid-node, next-most, thread-part}
-use Rattle.readable.specs.Readable.{threadMaxima, bounded, threadReadable, shapeIn, readable}
+use Rattle.readable.specs.Readable.{threadMaxima, threadReadable, shapeIn, readable}
 use Rattle.readable.proofs.Laws.{Good, bounded-all, readable-good}
 use Rattle.readable.proofs.Stores.{CellGood, NodeGood, SharedGood, empty-good, make-good}
 use Rattle.queue.specs.Theorems.{LaidOutIsReadable}

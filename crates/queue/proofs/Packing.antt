@@ -9,10 +9,10 @@ use Rattle.run.specs.Inner.{Ran}
 use Rattle.run.specs.declared.Outcome.{Outcome}
 use Rattle.run.proofs.Laws.{refusal-most, counts-most}
 use Rattle.queue.specs.Calls.{RunDone, packed, runAnswer}
-use Rattle.queue.specs.Inner.{PackAsked}
+use Rattle.queue.specs.Inner.{Packable}
 
 module _ (b s : List ℕ) (limit : ℕ) (a : List ℕ) where
-  pub answer-fits : PackAsked (runRefusal b s (length a)) (runResult b s limit a .turns) (runResult b s limit a .accesses)
+  pub answer-fits : Packable (runRefusal b s (length a)) (runResult b s limit a .turns) (runResult b s limit a .accesses)
   answer-fits =
       record {
         known = refusal-most b s (length a);
@@ -21,7 +21,7 @@ module _ (b s : List ℕ) (limit : ℕ) (a : List ℕ) where
       }
 
   module _ (b′ a′ : List ℕ) (o : Outcome) (h : Ran b b′ s limit a a′ o) where
-    pub fits-outcome : PackAsked (o .refusal) (o .counts .turns) (o .counts .accesses)
+    pub fits-outcome : Packable (o .refusal) (o .counts .turns) (o .counts .accesses)
     fits-outcome =
         record {
           known = omega (arith, h .refusal, answer-fits .known);

@@ -2,11 +2,11 @@
 use Prim.Native.Nat.{ℕ}
 use native.Mathlib.Omega.{arith}
 use Rattle.queue.specs.Calls.{packed, runAnswer}
-use Rattle.queue.specs.Inner.{PackAsked}
+use Rattle.queue.specs.Inner.{Packable}
 use Rattle.queue.specs.Theorems.{RunAnswerTellsAll, Tells}
 use Rattle.queue.proofs.Packing.{answer-fits}
 
-tells : (r k m : ℕ) → PackAsked r k m → Tells (packed r k m) r k m
+tells : (r k m : ℕ) → Packable r k m → Tells (packed r k m) r k m
 tells r k m h = record { refusal = omega arith; turns = omega arith; accesses = omega arith }
 
 pub run-answer-tells-all : RunAnswerTellsAll

@@ -6,7 +6,7 @@ ghost use Rattle.layout.specs.Layout.{LaidOut};
 ghost use Rattle.readable.specs.Readable.{checkAnswer};
 ghost use Rattle.begin.specs.Begin.{PutBegun, TakeBegun};
 ghost use Rattle.queue.specs.Calls.{RunDone, itemGiven, packed, shapeGiven};
-ghost use Rattle.queue.specs.Inner.{PackAsked};
+ghost use Rattle.queue.specs.Inner.{Packable};
 use region::Item;
 use region::Shape;
 
@@ -52,7 +52,7 @@ pub extern "C" fn mound_take(region: &mut [u8], thread: u32) -> u32
 
 // A run's three numbers in one.
 fn pack(refusal: u32, turns: u32, accesses: u32) -> u64
-    requires { ⌜ PackAsked refusal turns accesses ⌝ }
+    requires { ⌜ Packable refusal turns accesses ⌝ }
     ensures { λ r. ⌜ r ≡ packed refusal turns accesses ⌝ }
 {
     refusal as u64 + 65536 * (turns as u64) + 4294967296 * (accesses as u64)

@@ -66,7 +66,7 @@ pass-at test stride b at (suc n) (suc i) e l =
 -- field is in range.
 pub record Good (f : Frame) (b : List ℕ) : Type 0 where
   pub range : InRange (f .shape)
-  pub placed : Framed f (length b)
+  pub framed : Framed f (length b)
   pub depth-least : 1 ≤ word b (f .depth)
   pub depth-most : word b (f .depth) ≤ f .shape .depth
   pub free-most : word b (f .free) ≤ f .shape .cells
@@ -80,7 +80,7 @@ module _ (f : Frame) (b : List ℕ) where
 
   pub fields-good : InRange (f .shape) → Framed f (length b) → fieldsReadable f b ≡ true → Good f b
   unfolding fieldsReadable treeReadable
-  fields-good r placed e =
+  fields-good r framed e =
       let d = between 1 (word b (f .depth)) (s .depth) in
       let c = leb (word b (f .free)) (s .cells) in
       let ns = allRecords (nodeReadable (s .cells)) nodeSize b (f .nodes) (nodeCount s) in
@@ -91,7 +91,7 @@ module _ (f : Frame) (b : List ℕ) where
       let dc : d && c ≡ true = and-left (d && c) ns dcn in
       record {
         range = r;
-        placed = placed;
+        framed = framed;
         depth-least = between-least 1 (word b (f .depth)) (s .depth) (and-left d c dc);
         depth-most = between-most 1 (word b (f .depth)) (s .depth) (and-left d c dc);
         free-most = leb-true (word b (f .free)) (s .cells) (and-right d c dc);

@@ -24,8 +24,8 @@ use Rattle.region.specs.declared.shape.Shape.{Shape}
 use Rattle.region.proofs.Frames.{frame-within}
 use Rattle.region.proofs.Levels.{level-most}
 use Rattle.region.proofs.Shapes.{and-left, and-right, in-range, shifted}
-use Rattle.readable.specs.Readable.{threadMaxima, triesMost, waitingMost, bounded, nodeReadable, cellReadable, threadReadable, allRecords, treeReadable, fieldsReadable, shapeIn, frameIn, isWhole, readable, checkAnswer}
-use Rattle.readable.specs.Inner.{FieldsAsked, ThreadAsked, ThreadsAsked}
+use Rattle.readable.specs.Readable.{threadMaxima, greatestTries, greatestWaiting, bounded, nodeReadable, cellReadable, threadReadable, allRecords, treeReadable, fieldsReadable, shapeIn, frameIn, isWhole, readable, checkAnswer}
+use Rattle.readable.specs.Inner.{FrameWithin, ThreadWithin, ThreadsWithin}
 
 -- A record of three words.
 module _ (b : List ℕ) (at x y z : ℕ) (u : ℕ) (eu : u ≡ word b at) where
@@ -139,25 +139,25 @@ one-left e l z r er = scan-last e (omega arith) l r er
 
 -- The rules that go by the place.
 module _ (s : Shape) (place : ℕ) where
-  pub tries-leaf : place ≡ 2 → s .threshold - 1 ≡ triesMost s place
-  unfolding triesMost pick
+  pub tries-leaf : place ≡ 2 → s .threshold - 1 ≡ greatestTries s place
+  unfolding greatestTries pick
   tries-leaf e = rw (eq-eqb place 2 e) refl
 
-  pub tries-else : (place ≡ 2 → ⊥) → s .threshold ≡ triesMost s place
-  unfolding triesMost pick
+  pub tries-else : (place ≡ 2 → ⊥) → s .threshold ≡ greatestTries s place
+  unfolding greatestTries pick
   tries-else n = rw (ne-eqb place 2 n) refl
 
 module _ (place node : ℕ) where
-  pub not-mending : place < 11 → 0 ≡ waitingMost place node
-  unfolding waitingMost pick
+  pub not-mending : place < 11 → 0 ≡ greatestWaiting place node
+  unfolding greatestWaiting pick
   not-mending h = rw (lt-leb 11 place h) refl
 
   module _ (h : 11 ≤ place) (l : ℕ) (e : l ≡ level node) where
     few-levels : l ≤ 32
     few-levels = omega (arith, level-most node)
 
-    pub mending-none : l ≡ 0 → 0 ≡ waitingMost place node
-    unfolding waitingMost pick
+    pub mending-none : l ≡ 0 → 0 ≡ greatestWaiting place node
+    unfolding greatestWaiting pick
     mending-none z = rw (le-leb 11 place h, ← e, z) refl
 
     module _ (n : l ≡ 0 → ⊥) where
@@ -167,12 +167,12 @@ module _ (place node : ℕ) where
       pub mark-some : 1 ≤ (1 * 2 ^ (l - 1)) % 2 ^ 32
       mark-some = rw (shifted 32 (l - 1) mark-shift) (pow-pos (l - 1))
 
-      pub mending-marks : (1 * 2 ^ (l - 1)) % 2 ^ 32 - 1 ≡ waitingMost place node
-      unfolding waitingMost pick
+      pub mending-marks : (1 * 2 ^ (l - 1)) % 2 ^ 32 - 1 ≡ greatestWaiting place node
+      unfolding greatestWaiting pick
       mending-marks = rw (shifted 32 (l - 1) mark-shift, le-leb 11 place h, ← e) refl
 
 -- A thread's record: the first test that fails decides.
-module _ (s : Shape) (b : List ℕ) (at : ℕ) (q : Bool) (ms : List ℕ) (g : ThreadAsked s b at ms) (eq : q ≡ bounded b at ms) where
+module _ (s : Shape) (b : List ℕ) (at : ℕ) (q : Bool) (ms : List ℕ) (g : ThreadWithin s b at ms) (eq : q ≡ bounded b at ms) where
   words-test : q ≡ bounded b at (threadMaxima s)
   words-test = eq ∙ ap (bounded b at) (g .maxima)
 
@@ -180,19 +180,19 @@ module _ (s : Shape) (b : List ℕ) (at : ℕ) (q : Bool) (ms : List ℕ) (g : T
   unfolding threadReadable
   thread-bad n = rw (← words-test, not-true q n) refl
 
-  module _ (gq : not q ≡ false) (p : ℕ) (ep : p ≡ word b (at + placeWord)) (m : ℕ) (em : m ≡ triesMost s p) (t : ℕ)
+  module _ (gq : not q ≡ false) (p : ℕ) (ep : p ≡ word b (at + placeWord)) (m : ℕ) (em : m ≡ greatestTries s p) (t : ℕ)
       (et : t ≡ word b (at + triesWord)) where
     pub tries-bad : m < t → false ≡ threadReadable s b at
     unfolding threadReadable
     tries-bad h = rw (← words-test, not-false q gq, ← ep, ← em, ← et, lt-leb t m h) refl
 
-    pub thread-rest : t ≤ m → (w : ℕ) → w ≡ word b (at + waitingWord) → (n : ℕ) → n ≡ word b (at + nodeWord) → (x : ℕ) → x ≡ waitingMost p n
+    pub thread-rest : t ≤ m → (w : ℕ) → w ≡ word b (at + waitingWord) → (n : ℕ) → n ≡ word b (at + nodeWord) → (x : ℕ) → x ≡ greatestWaiting p n
         → leb w x ≡ threadReadable s b at
     unfolding threadReadable
     thread-rest h w ew n en x ex =
         rw (← words-test, not-false q gq, ← ep, ← em, ← et, le-leb t m h, ← ew, ← en, ← ex) refl
 
-pub maxima-long : (s : Shape) (b : List ℕ) (at : ℕ) (ms : List ℕ) → ThreadAsked s b at ms → 4 * (at + length ms) ≤ length b
+pub maxima-long : (s : Shape) (b : List ℕ) (at : ℕ) (ms : List ℕ) → ThreadWithin s b at ms → 4 * (at + length ms) ≤ length b
 maxima-long s b at ms g = omega (arith, ap length (g .maxima), g .within)
 
 -- The tree: the first test that fails decides.
@@ -227,19 +227,19 @@ module _ (f : Frame) (b : List ℕ) (d : ℕ) (ed : d ≡ word b (f .depth)) (q 
           rw (← depth-test, not-false q gq, ← ec, le-leb c (f .shape .cells) h, ← nodes-test, not-false n z) er
 
 -- The threads: the record at word k ends within the part.
-module _ {f : Frame} {b ms : List ℕ} (k m : ℕ) (g : ThreadsAsked f b ms)
+module _ {f : Frame} {b ms : List ℕ} (k m : ℕ) (g : ThreadsWithin f b ms)
     (e : Scanned (threadReadable (f .shape)) (f .stride) b (f .threads) (f .shape .threads) k m) (h : 0 < m) where
   pub stride-within : 4 * (k + f .stride) ≤ length b
   stride-within = omega (arith, e .within, g .within .threads, mul-le-mul-left (f .stride) h)
 
-  pub threads-ask : ThreadAsked (f .shape) b k ms
-  threads-ask =
+  pub thread-within : ThreadWithin (f .shape) b k ms
+  thread-within =
       record { shape = g .shape; within = omega (arith, stride-within, g .within .stride); maxima = g .maxima }
 
 -- Every field of the frame's parts.
 module _ (f : Frame) (b : List ℕ) where
-  pub threads-asked : FieldsAsked f (length b) → (ms : List ℕ) → ms ≡ threadMaxima (f .shape) → ThreadsAsked f b ms
-  threads-asked g ms em = record { shape = g .shape; within = g .within; maxima = em }
+  pub threads-within : FrameWithin f (length b) → (ms : List ℕ) → ms ≡ threadMaxima (f .shape) → ThreadsWithin f b ms
+  threads-within g ms em = record { shape = g .shape; within = g .within; maxima = em }
 
   module _ (t : Bool) (et : t ≡ treeReadable f b) where
     pub tree-bad : not t ≡ true → false ≡ fieldsReadable f b
@@ -295,8 +295,8 @@ module _ (b : List ℕ) (q : Bool) (eq : q ≡ isWhole b) where
     long-enough = omega (arith, exact-length)
 
     module _ (s : Shape) (es : s ≡ shapeIn b) where
-      pub shape-asked : InRange s
-      shape-asked =
+      pub shape-in-range : InRange s
+      shape-in-range =
           subst InRange (sym es)
           (in-range (shapeIn b) (and-left (shapeFits (shapeIn b)) (eqb (length b) (4 * regionWords (shapeIn b))) whole))
 
@@ -304,11 +304,11 @@ module _ (b : List ℕ) (q : Bool) (eq : q ≡ isWhole b) where
         frame-is : f ≡ frameIn b
         frame-is = ef ∙ ap frameOf es
 
-        pub fields-asked : FieldsAsked f (length b)
+        pub fields-within : FrameWithin f (length b)
         unfolding frameOf
-        fields-asked =
-            subst (λ x. FieldsAsked x (length b)) (sym frame-is)
-            (let r : InRange (shapeIn b) = subst InRange es shape-asked in
+        fields-within =
+            subst (λ x. FrameWithin x (length b)) (sym frame-is)
+            (let r : InRange (shapeIn b) = subst InRange es shape-in-range in
             record { shape = r; within = frame-within (shapeIn b) (length b) r exact-length })
 
         module _ (r : Bool) (er : r ≡ fieldsReadable f b) where

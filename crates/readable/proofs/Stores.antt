@@ -14,7 +14,7 @@ use lib.ListN.{length, getD}
 use lib.Pow.{pow-mono}
 use Rattle.words.specs.Word.{word, wordsAt}
 use Rattle.words.specs.Inner.{Fit}
-use Rattle.words.proofs.Laws.{word-in-run}
+use Rattle.words.proofs.Laws.{word-among}
 use Rattle.region.specs.Frame.{Part, frameOf, nodesOf, cellsOf, threadsOf}
 use Rattle.region.specs.Inner.{Framed, InRange}
 use Rattle.region.specs.Level.{level}
@@ -36,9 +36,9 @@ use Rattle.region.proofs.Entries.{record-within}
 use Rattle.region.proofs.Levels.{level-most}
 use Rattle.region.proofs.Picks.{pick-good}
 use Rattle.region.proofs.Shapes.{and-left, and-right, and-both, between-least, between-most, is-between, sizes}
-use Rattle.region.proofs.Threads.{copy-in-run, copy-parts}
+use Rattle.region.proofs.Threads.{copy-among, copy-parts}
 use Rattle.region.proofs.Views.{Kept, OutsideParts, length-setThreadIn, records-outside, shared-setThread, thread-stored-words, word-setThread, word-setThreadIn}
-use Rattle.readable.specs.Readable.{anyWord, greatestCopy, greatestThread, nodeMaxima, cellMaxima, threadMaxima, triesMost, waitingMost, bounded, nodeReadable, cellReadable, threadReadable, shapeIn, frameIn, readable}
+use Rattle.readable.specs.Readable.{anyWord, greatestCopy, greatestThread, nodeMaxima, cellMaxima, threadMaxima, greatestTries, greatestWaiting, bounded, nodeReadable, cellReadable, threadReadable, shapeIn, frameIn, readable}
 use Rattle.readable.proofs.Laws.{Good, bounded-all, bounded-at, readable-good, readable-length}
 
 -- Records in range.
@@ -157,8 +157,8 @@ number-most (MendClean w) = omega arith
 
 -- the two rules that go by the place
 tries-rule : (s : Shape) (t : Thread) (p : Place) → t .search .tries ≤ s .threshold → PlaceGood s t p
-    → t .search .tries ≤ triesMost s (placeNumber p)
-unfolding triesMost pick
+    → t .search .tries ≤ greatestTries s (placeNumber p)
+unfolding greatestTries pick
 tries-rule s t Idle h g = h
 tries-rule s t ReadDepth h g = h
 tries-rule s t ReadLeaf h g = omega arith
@@ -177,8 +177,8 @@ tries-rule s t (MendReadRight w) h g = h
 tries-rule s t (MendSwap w) h g = h
 tries-rule s t (MendClean w) h g = h
 
-waiting-rule : (s : Shape) (t : Thread) (p : Place) → PlaceGood s t p → waitingLevels p ≤ waitingMost (placeNumber p) (t .node)
-unfolding waitingMost pick
+waiting-rule : (s : Shape) (t : Thread) (p : Place) → PlaceGood s t p → waitingLevels p ≤ greatestWaiting (placeNumber p) (t .node)
+unfolding greatestWaiting pick
 waiting-rule s t Idle g = omega arith
 waiting-rule s t ReadDepth g = omega arith
 waiting-rule s t ReadLeaf g = omega arith
@@ -198,10 +198,10 @@ waiting-rule s t (MendSwap w) g = g
 waiting-rule s t (MendClean w) g = g
 
 waiting-few : (s : Shape) (t : Thread) (p : Place) → PlaceGood s t p → waitingLevels p ≤ anyWord
-unfolding waitingMost
+unfolding greatestWaiting
 waiting-few s t p g =
     let levels = pow-mono {i = level (t .node) - 1} {j = 31} (omega (arith, level-most (t .node))) in
-    let few : waitingMost (placeNumber p) (t .node) ≤ anyWord = pick-good (λ x. x ≤ anyWord) _ (λ e. omega arith) (λ e. omega arith) in
+    let few : greatestWaiting (placeNumber p) (t .node) ≤ anyWord = pick-good (λ x. x ≤ anyWord) _ (λ e. omega arith) (λ e. omega arith) in
     omega (arith, waiting-rule s t p g, few)
 
 module _ (s : Shape) (r : InRange s) where
@@ -329,11 +329,11 @@ good-shared f b g =
 pub make-good : (f : Frame) (b : List ℕ) → InRange (f .shape) → Framed f (length b) → SharedGood (f .shape) (sharedIn f b)
     → ((i : ℕ) → i < f .shape .threads → threadReadable (f .shape) b (f .threads + f .stride * i) ≡ true) → Good f b
 unfolding sharedIn nodeIn cellIn
-make-good f b r placed m ts =
+make-good f b r framed m ts =
     let cells = f .shape .cells in
     record {
       range = r;
-      placed = placed;
+      framed = framed;
       depth-least = m .depth-least;
       depth-most = m .depth-most;
       free-most = m .free;
@@ -343,9 +343,9 @@ make-good f b r placed m ts =
     }
 
 -- A thread's record: in range as words, in range as a record.
-place-good : (s : Shape) (t : Thread) → 1 ≤ s .threshold → (p w : ℕ) → p ≤ greatestPlace → t .search .tries ≤ triesMost s p
-    → w ≤ waitingMost p (t .node) → PlaceGood s t (placeOf p w)
-unfolding triesMost waitingMost pick
+place-good : (s : Shape) (t : Thread) → 1 ≤ s .threshold → (p w : ℕ) → p ≤ greatestPlace → t .search .tries ≤ greatestTries s p
+    → w ≤ greatestWaiting p (t .node) → PlaceGood s t (placeOf p w)
+unfolding greatestTries greatestWaiting pick
 place-good s t h zero w l gt gw = tt
 place-good s t h (suc zero) w l gt gw = tt
 place-good s t h (suc (suc zero)) w l gt gw = omega arith
@@ -374,21 +374,21 @@ module _ (s : Shape) (r : InRange s) (b : List ℕ) (at : ℕ) (e : threadReadab
   unfolding threadReadable
   words-pass = and-left (bounded b at (threadMaxima s)) _ (and-left (bounded b at (threadMaxima s) && _) _ e)
 
-  tries-pass : word b (at + triesWord) ≤ triesMost s (word b (at + placeWord))
+  tries-pass : word b (at + triesWord) ≤ greatestTries s (word b (at + placeWord))
   unfolding threadReadable
   tries-pass = leb-true _ _ (and-right (bounded b at (threadMaxima s)) _ (and-left (bounded b at (threadMaxima s) && _) _ e))
 
-  waiting-pass : word b (at + waitingWord) ≤ waitingMost (word b (at + placeWord)) (word b (at + nodeWord))
+  waiting-pass : word b (at + waitingWord) ≤ greatestWaiting (word b (at + placeWord)) (word b (at + nodeWord))
   unfolding threadReadable
   waiting-pass = leb-true _ _ (and-right (bounded b at (threadMaxima s) && _) _ e)
 
   le : (i : ℕ) → i < threadSize → getD (wordsAt b at threadSize) i 0 ≤ getD (threadMaxima s) i 0
   le i l =
-      subst (λ x. x ≤ getD (threadMaxima s) i 0) (sym (word-in-run b at threadSize i l))
+      subst (λ x. x ≤ getD (threadMaxima s) i 0) (sym (word-among b at threadSize i l))
       (bounded-at b (threadMaxima s) at i words-pass l)
 
   is : (i : ℕ) → i < threadSize → getD (wordsAt b at threadSize) i 0 ≡ word b (at + i)
-  is i l = word-in-run b at threadSize i l
+  is i l = word-among b at threadSize i l
 
   -- the copies stand one behind the other
   copies-pass : bounded b (at + firstCopyWord) (copyMaxima (s .cells))
@@ -408,7 +408,7 @@ module _ (s : Shape) (r : InRange s) (b : List ℕ) (at : ℕ) (e : threadReadab
 
   copy-at-good : (k : ℕ) → k + copySize ≤ threadSize → bounded b (at + k) (copyMaxima (s .cells)) ≡ true
       → CopyGood (s .cells) (copyOf (wordsAt b at threadSize) k)
-  copy-at-good k l h = subst (CopyGood (s .cells)) (copy-in-run b at threadSize k l) (copy-good (s .cells) b (at + k) h)
+  copy-at-good k l h = subst (CopyGood (s .cells)) (copy-among b at threadSize k l) (copy-good (s .cells) b (at + k) h)
 
   fields-good : FieldsGood s (threadAt b at)
   unfolding threadAt
@@ -442,8 +442,8 @@ module _ (s : Shape) (r : InRange s) (b : List ℕ) (at : ℕ) (e : threadReadab
   place-of-good =
       let place = is placeWord (omega arith) in
       place-good s (threadAt b at) (r .threshold-least) _ _ (le placeWord (omega arith))
-      (subst₂ (λ x y. x ≤ triesMost s y) (sym (is triesWord (omega arith))) (sym place) tries-pass)
-      (subst₃ (λ x y z. x ≤ waitingMost y z) (sym (is waitingWord (omega arith))) (sym place) (sym (is nodeWord (omega arith))) waiting-pass)
+      (subst₂ (λ x y. x ≤ greatestTries s y) (sym (is triesWord (omega arith))) (sym place) tries-pass)
+      (subst₃ (λ x y z. x ≤ greatestWaiting y z) (sym (is waitingWord (omega arith))) (sym place) (sym (is nodeWord (omega arith))) waiting-pass)
 
   thread-good : ThreadGood s (threadAt b at)
   thread-good = record { fields = fields-good; place = place-of-good }
@@ -522,7 +522,7 @@ pub threads-pass : (f : Frame) (b b′ : List ℕ) → Good f b → Kept (thread
 threads-pass f b b′ g h i l =
     let within = record-within (threadsOf f) i l in
     thread-reads (f .shape) b b′ (f .threads + f .stride * i)
-    (λ j lo hi. h j (omega (arith, lo)) (omega (arith, hi, within, g .placed .stride)))
+    (λ j lo hi. h j (omega (arith, lo)) (omega (arith, hi, within, g .framed .stride)))
     ∙ g .threads i l
 
 -- Storing a thread's record in range.
@@ -538,7 +538,7 @@ module _ (f : Frame) (b : List ℕ) (g : Good f b) (t : ℕ) (l : 1 ≤ t) (u : 
   after = setThreadIn f b t v
 
   stored-word : (i : ℕ) → i < threadSize → word after (at + i) ≡ getD (threadWords v) i 0
-  stored-word i h = thread-stored-words f b (g .placed) t i v l u (thread-fit s (g .range) v gv) h
+  stored-word i h = thread-stored-words f b (g .framed) t i v l u (thread-fit s (g .range) v gv) h
 
   stored-passes : threadReadable s after at ≡ true
   unfolding threadReadable
@@ -550,10 +550,10 @@ module _ (f : Frame) (b : List ℕ) (g : Good f b) (t : ℕ) (l : 1 ≤ t) (u : 
       subst (λ x. x ≤ getD (threadMaxima s) i 0) (sym (stored-word i h))
       (all-at (threadWords v) (threadMaxima s) i (thread-le s (g .range) v gv)))
       (le-leb _ _
-      (subst₂ (λ x y. x ≤ triesMost s y) (sym (stored-word triesWord (omega arith))) place
+      (subst₂ (λ x y. x ≤ greatestTries s y) (sym (stored-word triesWord (omega arith))) place
       (tries-rule s v (v .place) (gv .fields .tries) (gv .place)))))
       (le-leb _ _
-      (subst₃ (λ x y z. x ≤ waitingMost y z) (sym (stored-word waitingWord (omega arith))) place
+      (subst₃ (λ x y z. x ≤ greatestWaiting y z) (sym (stored-word waitingWord (omega arith))) place
       (sym (stored-word nodeWord (omega arith))) (waiting-rule s v (v .place) (gv .place))))
 
   other-passes : (i : ℕ) → (suc i ≡ t → ⊥)
@@ -561,8 +561,8 @@ module _ (f : Frame) (b : List ℕ) (g : Good f b) (t : ℕ) (l : 1 ≤ t) (u : 
   other-passes i n =
       let e : suc i - 1 ≡ i = omega arith in
       thread-reads s b after (f .threads + f .stride * i) λ j lo hi.
-      word-setThread f b (g .placed) t j v
-      (records-outside (threadsOf f) (suc i) t threadSize (omega arith) l n (g .placed .stride) j
+      word-setThread f b (g .framed) t j v
+      (records-outside (threadsOf f) (suc i) t threadSize (omega arith) l n (g .framed .stride) j
       (subst (λ k. f .threads + f .stride * k ≤ j) (sym e) lo) (subst (λ k. j < f .threads + f .stride * k + threadSize) (sym e) hi))
 
   all-pass : (i : ℕ) → i < s .threads → Dec (suc i ≡ t) → threadReadable s after (f .threads + f .stride * i) ≡ true
@@ -576,11 +576,11 @@ module _ (f : Frame) (b : List ℕ) (g : Good f b) (t : ℕ) (l : 1 ≤ t) (u : 
       let long = length-setThreadIn f b t v in
       record {
         good =
-            make-good f after (g .range) (subst (Framed f) (sym long) (g .placed))
-            (subst (SharedGood s) (sym (shared-setThread f b (g .placed) t v)) (good-shared f b g))
+            make-good f after (g .range) (subst (Framed f) (sym long) (g .framed))
+            (subst (SharedGood s) (sym (shared-setThread f b (g .framed) t v)) (good-shared f b g))
             (λ i h. all-pass i h (ℕ-discrete (suc i) t));
         long = long;
-        outside = λ j o. word-setThreadIn f b (g .placed) t j v (o .threads);
+        outside = λ j o. word-setThreadIn f b (g .framed) t j v (o .threads);
       }
 
 -- The readable region of one queue: its shape and length stay, since the first words lie outside the parts, and so it stays readable.

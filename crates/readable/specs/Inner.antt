@@ -9,18 +9,19 @@ use Rattle.region.specs.declared.frame.Frame.{Frame}
 use Rattle.region.specs.declared.shape.Shape.{Shape}
 use Rattle.readable.specs.Readable.{threadMaxima}
 
--- What the functions of the check ask: one record, or all records of the threads, within the bytes b, with the shape's maxima; and all
--- parts of a frame within l bytes.
-pub record ThreadAsked (s : Shape) (b : List ℕ) (at : ℕ) (ms : List ℕ) : Type 0 where
+-- a thread's record at word `at` lies within the bytes b; ms are its words' maxima by the shape, which is in range
+pub record ThreadWithin (s : Shape) (b : List ℕ) (at : ℕ) (ms : List ℕ) : Type 0 where
   pub shape : InRange s
   pub within : 4 * (at + threadSize) ≤ length b
   pub maxima : ms ≡ threadMaxima s
 
-pub record ThreadsAsked (f : Frame) (b ms : List ℕ) : Type 0 where
+-- the same of all threads' records of a frame
+pub record ThreadsWithin (f : Frame) (b ms : List ℕ) : Type 0 where
   pub shape : InRange (f .shape)
   pub within : Within f (length b)
   pub maxima : ms ≡ threadMaxima (f .shape)
 
-pub record FieldsAsked (f : Frame) (l : ℕ) : Type 0 where
+-- all parts of a frame lie within l bytes, and its shape is in range
+pub record FrameWithin (f : Frame) (l : ℕ) : Type 0 where
   pub shape : InRange (f .shape)
   pub within : Within f l

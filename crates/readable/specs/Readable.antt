@@ -73,12 +73,12 @@ abbrev pub threadMaxima : Shape → List ℕ
 threadMaxima s = threadWords (greatestThread s)
 
 -- "and below H at I2"
-unfoldable pub triesMost : Shape → ℕ → ℕ
-triesMost s place = pick (eqb place (placeNumber ReadLeaf)) (s .threshold - 1) (s .threshold)
+unfoldable pub greatestTries : Shape → ℕ → ℕ
+greatestTries s place = pick (eqb place (placeNumber ReadLeaf)) (s .threshold - 1) (s .threshold)
 
 -- "waiting marks only at M places and levels above the node's (none at node 0)": bit j − 1 for level j
-unfoldable pub waitingMost : ℕ → ℕ → ℕ
-waitingMost place node = pick (leb (placeNumber (MendReadNode 0)) place) (2 ^ (level node - 1) - 1) 0
+unfoldable pub greatestWaiting : ℕ → ℕ → ℕ
+greatestWaiting place node = pick (leb (placeNumber (MendReadNode 0)) place) (2 ^ (level node - 1) - 1) 0
 
 -- the words from word `at` on are at most their greatest values
 unfoldable pub bounded : List ℕ → ℕ → List ℕ → Bool
@@ -94,11 +94,11 @@ cellReadable cells b at = bounded b at (cellMaxima cells)
 
 -- the thread's record at word `at`: each word alone, then tries by the place, and waiting levels by place and node
 unfoldable pub threadReadable : Shape → List ℕ → ℕ → Bool
-unfolding bounded triesMost waitingMost
+unfolding bounded greatestTries greatestWaiting
 threadReadable s b at =
     bounded b at (threadMaxima s)
-    && leb (word b (at + triesWord)) (triesMost s (word b (at + placeWord)))
-    && leb (word b (at + waitingWord)) (waitingMost (word b (at + placeWord)) (word b (at + nodeWord)))
+    && leb (word b (at + triesWord)) (greatestTries s (word b (at + placeWord)))
+    && leb (word b (at + waitingWord)) (greatestWaiting (word b (at + placeWord)) (word b (at + nodeWord)))
 
 -- n records from word `at` on, `stride` words from one to the next, all pass the test
 unfoldable pub allRecords : (List ℕ → ℕ → Bool) → ℕ → List ℕ → ℕ → ℕ → Bool

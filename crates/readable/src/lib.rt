@@ -5,8 +5,8 @@ ghost use lib.ListN.{length};
 ghost use mathlib.Core.Bool.{true};
 ghost use mathlib.Core.List.{[], _∷_};
 ghost use Rattle.region.specs.Inner.{Within, InRange};
-ghost use Rattle.readable.specs.Readable.{bounded, threadMaxima, triesMost, waitingMost, threadReadable, allRecords, treeReadable, shapeIn, frameIn, fieldsReadable, isWhole, readable, checkAnswer};
-ghost use Rattle.readable.specs.Inner.{FieldsAsked, ThreadAsked, ThreadsAsked};
+ghost use Rattle.readable.specs.Readable.{bounded, threadMaxima, greatestTries, greatestWaiting, threadReadable, allRecords, treeReadable, shapeIn, frameIn, fieldsReadable, isWhole, readable, checkAnswer};
+ghost use Rattle.readable.specs.Inner.{FrameWithin, ThreadWithin, ThreadsWithin};
 use region::DONE;
 use region::Frame;
 use region::Shape;
@@ -71,10 +71,10 @@ fn words_bounded(b: &[u8], at: usize, maxima: &[u32]) -> bool
     true
 }
 
-// The most tries at this place.
-fn tries_most(shape: Shape, place: u32) -> u32
+// The greatest tries at this place.
+fn greatest_tries(shape: Shape, place: u32) -> u32
     requires { ⌜ InRange shape ⌝ }
-    ensures { λ r. ⌜ r ≡ triesMost shape place ⌝ }
+    ensures { λ r. ⌜ r ≡ greatestTries shape place ⌝ }
 {
     if place == 2 {
         shape.threshold - 1
@@ -84,8 +84,8 @@ fn tries_most(shape: Shape, place: u32) -> u32
 }
 
 // The greatest waiting levels at this place and node.
-fn waiting_most(place: u32, node: u32) -> u32
-    ensures { λ r. ⌜ r ≡ waitingMost place node ⌝ }
+fn greatest_waiting(place: u32, node: u32) -> u32
+    ensures { λ r. ⌜ r ≡ greatestWaiting place node ⌝ }
 {
     if place < 11 {
         return 0;
@@ -99,22 +99,22 @@ fn waiting_most(place: u32, node: u32) -> u32
 
 // The thread's record at word `at`, where maxima are those of the shape.
 fn thread_readable(b: &[u8], at: usize, shape: Shape, maxima: &[u32]) -> bool
-    requires { ⌜ ThreadAsked shape (now b) at (now maxima) ⌝ }
+    requires { ⌜ ThreadWithin shape (now b) at (now maxima) ⌝ }
     ensures { λ r. ⌜ r ≡ threadReadable shape (now (b .entry)) at ⌝ }
 {
     if !words_bounded(b, at, maxima) {
         return false;
     }
     let place = load_word(b, at + 1);
-    if tries_most(shape, place) < load_word(b, at + 7) {
+    if greatest_tries(shape, place) < load_word(b, at + 7) {
         return false;
     }
-    load_word(b, at + 11) <= waiting_most(place, load_word(b, at + 10))
+    load_word(b, at + 11) <= greatest_waiting(place, load_word(b, at + 10))
 }
 
 // The threads' records.
 fn threads_readable(b: &[u8], frame: Frame, maxima: &[u32]) -> bool
-    requires { ⌜ ThreadsAsked frame (now b) (now maxima) ⌝ }
+    requires { ⌜ ThreadsWithin frame (now b) (now maxima) ⌝ }
     ensures { λ r. ⌜ r ≡ allRecords (threadReadable (frame .shape)) (frame .stride) (now (b .entry)) (frame .threads) (frame .shape .threads) ⌝ }
 {
     let shape = frame.shape;
@@ -203,7 +203,7 @@ fn tree_readable(b: &[u8], frame: Frame) -> bool
 
 // Every field of the frame's parts.
 fn fields_readable(b: &[u8], frame: Frame) -> bool
-    requires { ⌜ FieldsAsked frame (length (now b)) ⌝ }
+    requires { ⌜ FrameWithin frame (length (now b)) ⌝ }
     ensures { λ r. ⌜ r ≡ fieldsReadable frame (now (b .entry)) ⌝ }
 {
     if !tree_readable(b, frame) {

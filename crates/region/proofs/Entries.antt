@@ -36,15 +36,15 @@ module _ {A : Type 0} (at : List ℕ → ℕ → A) (none : A) (p : Part) (b : L
   unfolding loadEntry pick
   load-there h l er = rw (is-between 1 k (p .count) (omega arith) l) er
 
-module _ {A : Type 0} (put : List ℕ → ℕ → A → List ℕ) (p : Part) (b : List ℕ) (k : ℕ) (v : A) where
-  pub store-zero : k ≡ 0 → b ≡ storeEntry put p b k v
+module _ {A : Type 0} (store : List ℕ → ℕ → A → List ℕ) (p : Part) (b : List ℕ) (k : ℕ) (v : A) where
+  pub store-zero : k ≡ 0 → b ≡ storeEntry store p b k v
   unfolding storeEntry pick
   store-zero e = rw (below 1 k (p .count) (omega arith)) refl
 
-  pub store-past : p .count < k → b ≡ storeEntry put p b k v
+  pub store-past : p .count < k → b ≡ storeEntry store p b k v
   unfolding storeEntry pick
   store-past h = rw (above 1 k (p .count) h) refl
 
-  pub store-there : (b′ : List ℕ) → (k ≡ 0 → ⊥) → k ≤ p .count → b′ ≡ put b (entry p k) v → b′ ≡ storeEntry put p b k v
+  pub store-there : (b′ : List ℕ) → (k ≡ 0 → ⊥) → k ≤ p .count → b′ ≡ store b (entry p k) v → b′ ≡ storeEntry store p b k v
   unfolding storeEntry pick
   store-there b′ h l e = rw (is-between 1 k (p .count) (omega arith) l) e

@@ -6,7 +6,7 @@ use mathlib.Core.Path.{_≡_, refl, sym, ap, _∙_}
 use mathlib.Core.List.{List, [], _∷_, _++_}
 use lib.ListN.{getD}
 use Rattle.words.specs.Word.{word, wordsAt, setWords}
-use Rattle.words.proofs.Laws.{word-in-run, setWords-behind}
+use Rattle.words.proofs.Laws.{word-among, setWords-behind}
 use Rattle.region.specs.Place.{placeOf, placeNumber, waitingLevels}
 use Rattle.region.specs.Record.{nodeSize, copySize, nodeAt, cellAt, itemOf, copyOf, copyWords, copyAt, setCopyAt}
 use Rattle.region.specs.Thread.{threadSize, placeWord, waitingWord, firstCopyWord, secondCopyWord, thirdCopyWord, searchOf, fieldWords, threadOf, threadWords, threadAt, setThreadAt}
@@ -39,9 +39,9 @@ copy-parts b at =
     λ i. record { node = nodeAt b at; head = cellAt b (behind i) }
 
 -- a node copy within a run of words is the copy at its place
-pub copy-in-run : (b : List ℕ) (at n k : ℕ) → k + copySize ≤ n → copyAt b (at + k) ≡ copyOf (wordsAt b at n) k
+pub copy-among : (b : List ℕ) (at n k : ℕ) → k + copySize ≤ n → copyAt b (at + k) ≡ copyOf (wordsAt b at n) k
 unfolding copyAt
-copy-in-run b at n k h =
+copy-among b at n k h =
     λ i. record {
       node = record { first = is 0 k (omega arith) (omega arith) i; dirty = is 1 (k + 1) refl (omega arith) i; counter = is 2 (k + 2) refl (omega arith) i };
       head =
@@ -54,7 +54,7 @@ copy-in-run b at n k h =
     is : (j x : ℕ) → x ≡ k + j → j < copySize → getD (wordsAt b (at + k) copySize) j 0 ≡ getD (wordsAt b at n) x 0
     is j x ex l =
         let e : at + k + j ≡ at + x = omega arith in
-        word-in-run b (at + k) copySize j l ∙ ap (word b) e ∙ sym (word-in-run b at n x (omega arith))
+        word-among b (at + k) copySize j l ∙ ap (word b) e ∙ sym (word-among b at n x (omega arith))
 
 pub thread-loaded : (b a : List ℕ) (at : ℕ) (p : Place) (q r s : NodeCopy) → a ≡ wordsAt b at firstCopyWord
     → p ≡ placeOf (getD a placeWord 0) (getD a waitingWord 0) → q ≡ copyAt b (at + firstCopyWord) → r ≡ copyAt b (at + secondCopyWord)
@@ -62,9 +62,9 @@ pub thread-loaded : (b a : List ℕ) (at : ℕ) (p : Place) (q r s : NodeCopy) �
 unfolding threadAt
 thread-loaded b a at p q r s ea ep eq er es =
     let copy : ℕ → NodeCopy = copyOf (wordsAt b at threadSize) in
-    let eq′ = eq ∙ copy-in-run b at threadSize firstCopyWord (omega arith) in
-    let er′ = er ∙ copy-in-run b at threadSize secondCopyWord (omega arith) in
-    let es′ = es ∙ copy-in-run b at threadSize thirdCopyWord (omega arith) in
+    let eq′ = eq ∙ copy-among b at threadSize firstCopyWord (omega arith) in
+    let er′ = er ∙ copy-among b at threadSize secondCopyWord (omega arith) in
+    let es′ = es ∙ copy-among b at threadSize thirdCopyWord (omega arith) in
     (λ i. loaded a (ep i) (eq′ i) (er′ i) (es′ i))
     ∙ (λ i. loaded (ea i) (placeOf (getD (ea i) placeWord 0) (getD (ea i) waitingWord 0))
     (copy firstCopyWord) (copy secondCopyWord) (copy thirdCopyWord))

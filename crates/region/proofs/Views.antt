@@ -34,9 +34,9 @@ abbrev pub Outside : ℕ → ℕ → ℕ → Type 0
 Outside k n j = (j < k) ⊎ (k + n ≤ j)
 
 -- A record of `size` words: what is stored is read back, only its words change, and it is read from them alone.
-record Codec {A : Type 0} (at : List ℕ → ℕ → A) (put : List ℕ → ℕ → A → List ℕ) (words : A → List ℕ) (size : ℕ) : Type 0 where
-  same : (b : List ℕ) (k : ℕ) (v : A) → 4 * (k + size) ≤ length b → Fit (words v) → at (put b k v) k ≡ v
-  only : (b : List ℕ) (k j : ℕ) (v : A) → Outside k size j → word (put b k v) j ≡ word b j
+record Codec {A : Type 0} (at : List ℕ → ℕ → A) (store : List ℕ → ℕ → A → List ℕ) (words : A → List ℕ) (size : ℕ) : Type 0 where
+  same : (b : List ℕ) (k : ℕ) (v : A) → 4 * (k + size) ≤ length b → Fit (words v) → at (store b k v) k ≡ v
+  only : (b : List ℕ) (k j : ℕ) (v : A) → Outside k size j → word (store b k v) j ≡ word b j
   reads : (b b′ : List ℕ) (k : ℕ) → ((j : ℕ) → k ≤ j → j < k + size → word b j ≡ word b′ j) → at b k ≡ at b′ k
 
 -- any record that is a run of `size` words, and is read back from its words
@@ -87,14 +87,14 @@ records-outside p k n size lk ln ne room j lo hi = go (decLt k n)
     go (yes h) = let s = entries-apart p k n lk h in inl (omega arith)
     go (no h) = let s = entries-apart p n k ln (omega arith) in inr (omega arith)
 
-module _ {A : Type 0} {at : List ℕ → ℕ → A} {put : List ℕ → ℕ → A → List ℕ} {words : A → List ℕ} {size : ℕ}
-    (cd : Codec at put words size) (none : A) (p : Part) (room : size ≤ p .stride) where
+module _ {A : Type 0} {at : List ℕ → ℕ → A} {store : List ℕ → ℕ → A → List ℕ} {words : A → List ℕ} {size : ℕ}
+    (cd : Codec at store words size) (none : A) (p : Part) (room : size ≤ p .stride) where
   -- a store leaves alone what lies outside its part
-  store-only : (b : List ℕ) (n j : ℕ) (v : A) → Outside (p .start) (partSize p) j → word (storeEntry put p b n v) j ≡ word b j
+  store-only : (b : List ℕ) (n j : ℕ) (v : A) → Outside (p .start) (partSize p) j → word (storeEntry store p b n v) j ≡ word b j
   unfolding storeEntry pick
   store-only b n j v o = go (between 1 n (p .count)) refl
     where
-      go : (q : Bool) → between 1 n (p .count) ≡ q → word (pick q (put b (entry p n) v) b) j ≡ word b j
+      go : (q : Bool) → between 1 n (p .count) ≡ q → word (pick q (store b (entry p n) v) b) j ≡ word b j
       go true e =
           let l = between-least 1 n (p .count) e in
           let u = between-most 1 n (p .count) e in
@@ -103,11 +103,11 @@ module _ {A : Type 0} {at : List ℕ → ℕ → A} {put : List ℕ → ℕ → 
       go false e = refl
 
   -- a store leaves alone what lies outside its record
-  record-only : (b : List ℕ) (n j : ℕ) (v : A) → Outside (entry p n) size j → word (storeEntry put p b n v) j ≡ word b j
+  record-only : (b : List ℕ) (n j : ℕ) (v : A) → Outside (entry p n) size j → word (storeEntry store p b n v) j ≡ word b j
   unfolding storeEntry pick
   record-only b n j v o = go (between 1 n (p .count))
     where
-      go : (q : Bool) → word (pick q (put b (entry p n) v) b) j ≡ word b j
+      go : (q : Bool) → word (pick q (store b (entry p n) v) b) j ≡ word b j
       go true = cd .only b (entry p n) j v o
       go false = refl
 
@@ -126,34 +126,34 @@ module _ {A : Type 0} {at : List ℕ → ℕ → A} {put : List ℕ → ℕ → 
 
   -- a load after a store within the part is the update
   module _ (b : List ℕ) (n : ℕ) (v : A) (l : 1 ≤ n) (u : n ≤ p .count) where
-    store-there : storeEntry put p b n v ≡ put b (entry p n) v
+    store-there : storeEntry store p b n v ≡ store b (entry p n) v
     unfolding storeEntry pick
     store-there = rw (is-between 1 n (p .count) l u) refl
 
-    load-same : 4 * (p .start + partSize p) ≤ length b → Fit (words v) → loadEntry at none p (put b (entry p n) v) n ≡ v
+    load-same : 4 * (p .start + partSize p) ≤ length b → Fit (words v) → loadEntry at none p (store b (entry p n) v) n ≡ v
     unfolding loadEntry pick
     load-same fits f =
         let s = entry-end p n (λ z. omega arith) u in
         rw (is-between 1 n (p .count) l u) (cd .same b (entry p n) v (omega arith) f)
 
-    load-other : (k : ℕ) → (k ≡ n → ⊥) → loadEntry at none p (put b (entry p n) v) k ≡ loadEntry at none p b k
+    load-other : (k : ℕ) → (k ≡ n → ⊥) → loadEntry at none p (store b (entry p n) v) k ≡ loadEntry at none p b k
     unfolding loadEntry pick
     load-other k ne = go (between 1 k (p .count)) refl
       where
         go : (q : Bool) → between 1 k (p .count) ≡ q
-            → pick q (at (put b (entry p n) v) (entry p k)) none ≡ pick q (at b (entry p k)) none
+            → pick q (at (store b (entry p n) v) (entry p k)) none ≡ pick q (at b (entry p k)) none
         go true e =
-            cd .reads (put b (entry p n) v) b (entry p k)
+            cd .reads (store b (entry p n) v) b (entry p k)
             (λ j lo hi. cd .only b (entry p n) j v (records-outside p k n size (between-least 1 k (p .count) e) l ne room j lo hi))
         go false e = refl
 
     load-stored : 4 * (p .start + partSize p) ≤ length b → Fit (words v)
-        → (k : ℕ) → loadEntry at none p (storeEntry put p b n v) k ≡ upd (loadEntry at none p b) n v k
+        → (k : ℕ) → loadEntry at none p (storeEntry store p b n v) k ≡ upd (loadEntry at none p b) n v k
     unfolding upd pick
     load-stored fits f k = ap (λ x. loadEntry at none p x k) store-there ∙ go (ℕ-discrete k n)
       where
-        go : Dec (k ≡ n) → loadEntry at none p (put b (entry p n) v) k ≡ pick (eqb k n) v (loadEntry at none p b k)
-        go (yes e) = ap (loadEntry at none p (put b (entry p n) v)) e ∙ load-same fits f ∙ rw (eq-eqb k n e) refl
+        go : Dec (k ≡ n) → loadEntry at none p (store b (entry p n) v) k ≡ pick (eqb k n) v (loadEntry at none p b k)
+        go (yes e) = ap (loadEntry at none p (store b (entry p n) v)) e ∙ load-same fits f ∙ rw (eq-eqb k n e) refl
         go (no e) = load-other k e ∙ rw (ne-eqb k n e) refl
 
 -- What one store of a frame leaves of a part that lies apart from its own.
@@ -182,12 +182,12 @@ pub record OutsideParts (f : Frame) (j : ℕ) : Type 0 where
 -- a thread's words lie outside shared memory
 pub threads-outside : (f : Frame) (l : ℕ) → Framed f l → (j : ℕ) → f .threads ≤ j → j < f .threads + partSize (threadsOf f)
     → OutsideShared f j
-threads-outside f l placed j lo hi =
+threads-outside f l framed j lo hi =
     record {
-      depth = outside (flip (placed .apart .depth-threads)) j lo hi;
-      free = outside (flip (placed .apart .free-threads)) j lo hi;
-      nodes = outside (flip (placed .apart .nodes-threads)) j lo hi;
-      cells = outside (flip (placed .apart .cells-threads)) j lo hi;
+      depth = outside (flip (framed .apart .depth-threads)) j lo hi;
+      free = outside (flip (framed .apart .free-threads)) j lo hi;
+      nodes = outside (flip (framed .apart .nodes-threads)) j lo hi;
+      cells = outside (flip (framed .apart .cells-threads)) j lo hi;
     }
 
 -- a single word
@@ -210,19 +210,19 @@ module _ (f : Frame) (b : List ℕ) where
   free-kept : (b′ : List ℕ) → Kept (freeOf f) b b′ → word b′ (f .free) ≡ word b (f .free)
   free-kept b′ h = h (f .free) (omega arith) (omega arith)
 
-  module _ (placed : Framed f (length b)) where
+  module _ (framed : Framed f (length b)) where
     pub threads-kept : (b′ : List ℕ) → Kept (threadsOf f) b b′ → threadIn f b′ ≡ threadIn f b
     unfolding threadIn
-    threads-kept b′ h = fun-ext (load-kept thread-codec (idleThread 0) (threadsOf f) (placed .stride) b b′ h)
+    threads-kept b′ h = fun-ext (load-kept thread-codec (idleThread 0) (threadsOf f) (framed .stride) b b′ h)
 
 -- Lengths and bytes stay, whatever the number.
-module _ {A : Type 0} (put : List ℕ → ℕ → A → List ℕ) (p : Part) (P : List ℕ → Type 0)
-    (h : (b : List ℕ) (k : ℕ) (v : A) → P b → P (put b k v)) where
-  stays : (b : List ℕ) (n : ℕ) (v : A) → P b → P (storeEntry put p b n v)
+module _ {A : Type 0} (store : List ℕ → ℕ → A → List ℕ) (p : Part) (P : List ℕ → Type 0)
+    (h : (b : List ℕ) (k : ℕ) (v : A) → P b → P (store b k v)) where
+  stays : (b : List ℕ) (n : ℕ) (v : A) → P b → P (storeEntry store p b n v)
   unfolding storeEntry pick
   stays b n v x = go (between 1 n (p .count))
     where
-      go : (q : Bool) → P (pick q (put b (entry p n) v) b)
+      go : (q : Bool) → P (pick q (store b (entry p n) v) b)
       go true = h b (entry p n) v x
       go false = x
 
@@ -242,7 +242,7 @@ length-setThreadIn f b t v =
     stays setThreadAt (threadsOf f) (λ l. length l ≡ length b) (λ l k u e. length-setWords (threadWords u) l k ∙ e) b t v refl
 
 -- What each store changes lies within its part.
-module _ (f : Frame) (b : List ℕ) (placed : Framed f (length b)) where
+module _ (f : Frame) (b : List ℕ) (framed : Framed f (length b)) where
   pub word-setNodeIn : (n j : ℕ) (v : Node) → Outside ((nodesOf f) .start) (partSize (nodesOf f)) j
       → word (setNodeIn f b n v) j ≡ word b j
   unfolding setNodeIn
@@ -256,7 +256,7 @@ module _ (f : Frame) (b : List ℕ) (placed : Framed f (length b)) where
   pub word-setThreadIn : (t j : ℕ) (v : Thread) → Outside ((threadsOf f) .start) (partSize (threadsOf f)) j
       → word (setThreadIn f b t v) j ≡ word b j
   unfolding setThreadIn
-  word-setThreadIn t j v o = store-only thread-codec (idleThread 0) (threadsOf f) (placed .stride) b t j v o
+  word-setThreadIn t j v o = store-only thread-codec (idleThread 0) (threadsOf f) (framed .stride) b t j v o
 
   -- a record is all that its store changes
   pub word-setNode : (n j : ℕ) (v : Node) → Outside (entry (nodesOf f) n) nodeSize j → word (setNodeIn f b n v) j ≡ word b j
@@ -269,15 +269,15 @@ module _ (f : Frame) (b : List ℕ) (placed : Framed f (length b)) where
 
   pub word-setThread : (t j : ℕ) (v : Thread) → Outside (entry (threadsOf f) t) threadSize j → word (setThreadIn f b t v) j ≡ word b j
   unfolding setThreadIn
-  word-setThread t j v o = record-only thread-codec (idleThread 0) (threadsOf f) (placed .stride) b t j v o
+  word-setThread t j v o = record-only thread-codec (idleThread 0) (threadsOf f) (framed .stride) b t j v o
 
   pub thread-stored-words : (t i : ℕ) (v : Thread) → 1 ≤ t → t ≤ f .shape .threads → Fit (threadWords v) → i < threadSize
       → word (setThreadIn f b t v) (entry (threadsOf f) t + i) ≡ getD (threadWords v) i 0
   unfolding setThreadIn setThreadAt
   thread-stored-words t i v l u g h =
       let s = entry-end (threadsOf f) t (λ z. omega arith) u in
-      ap (λ x. word x (entry (threadsOf f) t + i)) (store-there thread-codec (idleThread 0) (threadsOf f) (placed .stride) b t v l u)
-      ∙ word-stored (threadWords v) b (entry (threadsOf f) t) i (omega (arith, s, placed .threads, placed .stride)) g h
+      ap (λ x. word x (entry (threadsOf f) t + i)) (store-there thread-codec (idleThread 0) (threadsOf f) (framed .stride) b t v l u)
+      ∙ word-stored (threadWords v) b (entry (threadsOf f) t) i (omega (arith, s, framed .threads, framed .stride)) g h
 
   node-keeps : (n : ℕ) (v : Node) (p : Part) → Apart p (nodesOf f) → Kept p b (setNodeIn f b n v)
   node-keeps n v p a j l u = word-setNodeIn n j v (outside a j l u)
@@ -300,13 +300,13 @@ module _ (f : Frame) (b : List ℕ) (placed : Framed f (length b)) where
   unfolding sharedIn setNodeIn nodeIn
   shared-setNode n v l u g =
       let e : nodeIn f (setNodeIn f b n v) ≡ upd (nodeIn f b) n v =
-      fun-ext (load-stored node-codec emptyNode (nodesOf f) (omega arith) b n v l u (placed .nodes) g)
+      fun-ext (load-stored node-codec emptyNode (nodesOf f) (omega arith) b n v l u (framed .nodes) g)
       in
       λ i. record {
         node = e i;
-        cell = cells-kept f b (setNodeIn f b n v) (node-keeps n v (cellsOf f) (flip (placed .apart .nodes-cells))) i;
-        depth = depth-kept f b (setNodeIn f b n v) (node-keeps n v (depthOf f) (placed .apart .depth-nodes)) i;
-        free = free-kept f b (setNodeIn f b n v) (node-keeps n v (freeOf f) (placed .apart .free-nodes)) i;
+        cell = cells-kept f b (setNodeIn f b n v) (node-keeps n v (cellsOf f) (flip (framed .apart .nodes-cells))) i;
+        depth = depth-kept f b (setNodeIn f b n v) (node-keeps n v (depthOf f) (framed .apart .depth-nodes)) i;
+        free = free-kept f b (setNodeIn f b n v) (node-keeps n v (freeOf f) (framed .apart .free-nodes)) i;
       }
 
   pub shared-setCell : (c : ℕ) (v : Cell) → 1 ≤ c → c ≤ f .shape .cells → Fit (cellWords v)
@@ -314,53 +314,53 @@ module _ (f : Frame) (b : List ℕ) (placed : Framed f (length b)) where
   unfolding sharedIn setCellIn cellIn
   shared-setCell c v l u g =
       let e : cellIn f (setCellIn f b c v) ≡ upd (cellIn f b) c v =
-      fun-ext (load-stored cell-codec zeroCell (cellsOf f) (omega arith) b c v l u (placed .cells) g)
+      fun-ext (load-stored cell-codec zeroCell (cellsOf f) (omega arith) b c v l u (framed .cells) g)
       in
       λ i. record {
-        node = nodes-kept f b (setCellIn f b c v) (cell-keeps c v (nodesOf f) (placed .apart .nodes-cells)) i;
+        node = nodes-kept f b (setCellIn f b c v) (cell-keeps c v (nodesOf f) (framed .apart .nodes-cells)) i;
         cell = e i;
-        depth = depth-kept f b (setCellIn f b c v) (cell-keeps c v (depthOf f) (placed .apart .depth-cells)) i;
-        free = free-kept f b (setCellIn f b c v) (cell-keeps c v (freeOf f) (placed .apart .free-cells)) i;
+        depth = depth-kept f b (setCellIn f b c v) (cell-keeps c v (depthOf f) (framed .apart .depth-cells)) i;
+        free = free-kept f b (setCellIn f b c v) (cell-keeps c v (freeOf f) (framed .apart .free-cells)) i;
       }
 
   pub threads-setCell : (c : ℕ) (v : Cell) → threadIn f (setCellIn f b c v) ≡ threadIn f b
-  threads-setCell c v = threads-kept f b placed (setCellIn f b c v) (cell-keeps c v (threadsOf f) (flip (placed .apart .cells-threads)))
+  threads-setCell c v = threads-kept f b framed (setCellIn f b c v) (cell-keeps c v (threadsOf f) (flip (framed .apart .cells-threads)))
 
   pub shared-setDepth : (v : ℕ) → v < 2 ^ 32 → sharedIn f (setWord b (f .depth) v) ≡ putDepth (sharedIn f b) v
   unfolding sharedIn
   shared-setDepth v g =
       λ i. record {
-        node = nodes-kept f b (setWord b (f .depth) v) (depth-keeps v (nodesOf f) (flip (placed .apart .depth-nodes))) i;
-        cell = cells-kept f b (setWord b (f .depth) v) (depth-keeps v (cellsOf f) (flip (placed .apart .depth-cells))) i;
-        depth = word-same b (f .depth) v (omega (arith, placed .depth)) g i;
-        free = free-kept f b (setWord b (f .depth) v) (depth-keeps v (freeOf f) (flip (placed .apart .depth-free))) i;
+        node = nodes-kept f b (setWord b (f .depth) v) (depth-keeps v (nodesOf f) (flip (framed .apart .depth-nodes))) i;
+        cell = cells-kept f b (setWord b (f .depth) v) (depth-keeps v (cellsOf f) (flip (framed .apart .depth-cells))) i;
+        depth = word-same b (f .depth) v (omega (arith, framed .depth)) g i;
+        free = free-kept f b (setWord b (f .depth) v) (depth-keeps v (freeOf f) (flip (framed .apart .depth-free))) i;
       }
 
   pub shared-setFree : (v : ℕ) → v < 2 ^ 32 → sharedIn f (setWord b (f .free) v) ≡ putFree (sharedIn f b) v
   unfolding sharedIn
   shared-setFree v g =
       λ i. record {
-        node = nodes-kept f b (setWord b (f .free) v) (free-keeps v (nodesOf f) (flip (placed .apart .free-nodes))) i;
-        cell = cells-kept f b (setWord b (f .free) v) (free-keeps v (cellsOf f) (flip (placed .apart .free-cells))) i;
-        depth = depth-kept f b (setWord b (f .free) v) (free-keeps v (depthOf f) (placed .apart .depth-free)) i;
-        free = word-same b (f .free) v (omega (arith, placed .free)) g i;
+        node = nodes-kept f b (setWord b (f .free) v) (free-keeps v (nodesOf f) (flip (framed .apart .free-nodes))) i;
+        cell = cells-kept f b (setWord b (f .free) v) (free-keeps v (cellsOf f) (flip (framed .apart .free-cells))) i;
+        depth = depth-kept f b (setWord b (f .free) v) (free-keeps v (depthOf f) (framed .apart .depth-free)) i;
+        free = word-same b (f .free) v (omega (arith, framed .free)) g i;
       }
 
   pub threads-setFree : (v : ℕ) → threadIn f (setWord b (f .free) v) ≡ threadIn f b
-  threads-setFree v = threads-kept f b placed (setWord b (f .free) v) (free-keeps v (threadsOf f) (flip (placed .apart .free-threads)))
+  threads-setFree v = threads-kept f b framed (setWord b (f .free) v) (free-keeps v (threadsOf f) (flip (framed .apart .free-threads)))
 
   pub shared-setThread : (t : ℕ) (v : Thread) → sharedIn f (setThreadIn f b t v) ≡ sharedIn f b
   unfolding sharedIn
   shared-setThread t v =
       λ i. record {
-        node = nodes-kept f b (setThreadIn f b t v) (thread-keeps t v (nodesOf f) (placed .apart .nodes-threads)) i;
-        cell = cells-kept f b (setThreadIn f b t v) (thread-keeps t v (cellsOf f) (placed .apart .cells-threads)) i;
-        depth = depth-kept f b (setThreadIn f b t v) (thread-keeps t v (depthOf f) (placed .apart .depth-threads)) i;
-        free = free-kept f b (setThreadIn f b t v) (thread-keeps t v (freeOf f) (placed .apart .free-threads)) i;
+        node = nodes-kept f b (setThreadIn f b t v) (thread-keeps t v (nodesOf f) (framed .apart .nodes-threads)) i;
+        cell = cells-kept f b (setThreadIn f b t v) (thread-keeps t v (cellsOf f) (framed .apart .cells-threads)) i;
+        depth = depth-kept f b (setThreadIn f b t v) (thread-keeps t v (depthOf f) (framed .apart .depth-threads)) i;
+        free = free-kept f b (setThreadIn f b t v) (thread-keeps t v (freeOf f) (framed .apart .free-threads)) i;
       }
 
   pub threads-setThread : (t : ℕ) (v : Thread) → 1 ≤ t → t ≤ f .shape .threads → Fit (threadWords v)
       → threadIn f (setThreadIn f b t v) ≡ upd (threadIn f b) t v
   unfolding setThreadIn threadIn
   threads-setThread t v l u g =
-      fun-ext (load-stored thread-codec (idleThread 0) (threadsOf f) (placed .stride) b t v l u (placed .threads) g)
+      fun-ext (load-stored thread-codec (idleThread 0) (threadsOf f) (framed .stride) b t v l u (framed .threads) g)

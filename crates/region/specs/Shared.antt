@@ -22,7 +22,7 @@ unfoldable pub loadEntry : {A : Type 0} → (List ℕ → ℕ → A) → A → P
 loadEntry at none p b k = pick (between 1 k (p .count)) (at b (entry p k)) none
 
 unfoldable pub storeEntry : {A : Type 0} → (List ℕ → ℕ → A → List ℕ) → Part → List ℕ → ℕ → A → List ℕ
-storeEntry put p b k v = pick (between 1 k (p .count)) (put b (entry p k) v) b
+storeEntry store p b k v = pick (between 1 k (p .count)) (store b (entry p k) v) b
 
 unfoldable pub nodeIn : Frame → List ℕ → ℕ → Node
 unfolding loadEntry

@@ -19,7 +19,7 @@ use Rattle.readable.specs.Readable.{frameIn, readable}
 use Rattle.readable.proofs.Laws.{readable-within}
 use Rattle.run.specs.Run.{accessesOf, runRefusal, runResult, runResultIn, scheduleRefusal, serve, serveAll, soFar, turnAt, turnsFrom}
 use Rattle.machine.specs.Turn.{Turned, turnAnswer, turnBytes}
-use Rattle.run.specs.Inner.{Ran, RanIn, RunAsked, TurnAsked, refused}
+use Rattle.run.specs.Inner.{Ran, RanIn, RunWithin, TurnWithin, refused}
 use Rattle.run.specs.declared.Counts.{Counts}
 use Rattle.run.specs.declared.Outcome.{Outcome}
 use Rattle.run.proofs.Laws.{one-access, passed}
@@ -41,7 +41,7 @@ one-served f b b′ s a a′ k n t c r x et ec h ea er =
 
 -- The loop: serving the turns that are left, from here, gives the whole.
 pub record Serving (f : Frame) (limit count : ℕ) (s b₀ a₀ b a : List ℕ) (k n : ℕ) : Type 0 where
-  pub asked : RunAsked f (length b₀) (length s) (length a₀)
+  pub asked : RunWithin f (length b₀) (length s) (length a₀)
   pub total : count ≡ length s / 8
   pub within : k ≤ count
   pub made : n ≤ k
@@ -49,7 +49,7 @@ pub record Serving (f : Frame) (limit count : ℕ) (s b₀ a₀ b a : List ℕ) 
   pub answers-same : length a ≡ length a₀
   pub left : serveAll f limit (turnsFrom s k (count - k)) (soFar b a k n) ≡ serveAll f limit (turnsFrom s 0 count) (soFar b₀ a₀ 0 0)
 
-pub serve-start : (f : Frame) (limit : ℕ) (s b a : List ℕ) → RunAsked f (length b) (length s) (length a)
+pub serve-start : (f : Frame) (limit : ℕ) (s b a : List ℕ) → RunWithin f (length b) (length s) (length a)
     → Serving f limit (length s / 8) s b a b a 0 0
 serve-start f limit s b a h =
     record {
@@ -63,8 +63,8 @@ serve-start f limit s b a h =
     }
 
 module _ {f : Frame} {limit count : ℕ} {s b₀ a₀ b a : List ℕ} {k n : ℕ} (e : Serving f limit count s b₀ a₀ b a k n) where
-  pub serve-asks : k < count → TurnAsked f (length b) (length s) (length a) k n
-  serve-asks h =
+  pub turn-within : k < count → TurnWithin f (length b) (length s) (length a) k n
+  turn-within h =
       record {
         within = subst (Within f) (sym (e .region-same)) (e .asked .within);
         turn = omega arith;
@@ -147,8 +147,8 @@ module _ (f : Frame) (b s a : List ℕ) (limit r : ℕ) (e : r ≡ scheduleRefus
       subst (RanIn f b b s limit a a) (sym ex) (record { refusal = e; served = rw (← e, ne-eqb r done n) refl })
 
   module _ (d : r ≡ done) where
-    pub schedule-asks : Within f (length b) → RunAsked f (length b) (length s) (length a)
-    schedule-asks w =
+    pub schedule-within : Within f (length b) → RunWithin f (length b) (length s) (length a)
+    schedule-within w =
         let h = passed s (length a) (sym e ∙ d) in
         record { within = w; few = h .few; answers = h .room }
 

@@ -8,16 +8,16 @@ use Rattle.region.specs.declared.frame.Frame.{Frame}
 use Rattle.run.specs.Run.{runRefusal, runResult, runResultIn, scheduleRefusal, soFar}
 use Rattle.run.specs.declared.Outcome.{Outcome}
 
--- for one turn: the frame lies within b bytes, turn k within s bytes of schedule, its answer within a bytes; n accesses were made
-pub record TurnAsked (f : Frame) (b s a k n : ℕ) : Type 0 where
+-- one turn: the frame lies within b bytes, turn k within s bytes of schedule, its answer within a bytes; n accesses were made before it
+pub record TurnWithin (f : Frame) (b s a k n : ℕ) : Type 0 where
   pub within : Within f b
   pub turn : 8 * k + 8 ≤ s
   pub answer : 12 * k + 12 ≤ a
   pub few : k < 4096
   pub made : n ≤ k
 
--- for all turns: what a run that is not refused has
-pub record RunAsked (f : Frame) (b s a : ℕ) : Type 0 where
+-- all turns of a run that is not refused: the frame lies within b bytes, the answers of s bytes of schedule within a bytes
+pub record RunWithin (f : Frame) (b s a : ℕ) : Type 0 where
   pub within : Within f b
   pub few : s / 8 ≤ 4096
   pub answers : 12 * (s / 8) ≤ a

@@ -6,7 +6,7 @@ ghost use Rattle.words.specs.Word.{setWords};
 ghost use Rattle.region.specs.Answer.{answerWords};
 ghost use Rattle.region.specs.Inner.{Within};
 ghost use Rattle.run.specs.Run.{accessesOf, scheduleRefusal, serve, serveAll, soFar, turnAt, turnsFrom};
-ghost use Rattle.run.specs.Inner.{Ran, RanIn, RunAsked, TurnAsked, refused};
+ghost use Rattle.run.specs.Inner.{Ran, RanIn, RunWithin, TurnWithin, refused};
 use region::Answer;
 use region::BAD_SCHEDULE;
 use region::DONE;
@@ -58,7 +58,7 @@ fn serve(
     turns: u32,
     accesses: u32,
 ) -> u32
-    requires { ⌜ TurnAsked f (length (now b)) (length (now schedule)) (length (now answers)) turns accesses ⌝ }
+    requires { ⌜ TurnWithin f (length (now b)) (length (now schedule)) (length (now answers)) turns accesses ⌝ }
     ensures { λ r. ⌜ soFar (now (b .exit)) (now (answers .exit)) (turns + 1) r ≡ serve f (turnAt (now (schedule .entry)) turns) (soFar (now (b .entry)) (now (answers .entry)) turns accesses) ⌝ }
 {
     let k = turns as usize;
@@ -71,7 +71,7 @@ fn serve(
 
 // Serves the turns of the schedule until it ends or the limit is reached.
 fn serve_all(f: Frame, b: &mut [u8], schedule: &[u8], limit: u32, answers: &mut [u8]) -> Counts
-    requires { ⌜ RunAsked f (length (now b)) (length (now schedule)) (length (now answers)) ⌝ }
+    requires { ⌜ RunWithin f (length (now b)) (length (now schedule)) (length (now answers)) ⌝ }
     ensures { λ r. ⌜ soFar (now (b .exit)) (now (answers .exit)) (r .turns) (r .accesses) ≡ serveAll f limit (turnsFrom (now (schedule .entry)) 0 (length (now (schedule .entry)) / 8)) (soFar (now (b .entry)) (now (answers .entry)) 0 0) ⌝ }
 {
     let count = (schedule.len() / 8) as u32;

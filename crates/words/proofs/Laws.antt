@@ -147,10 +147,10 @@ word-stored (v ∷ vs) b at (suc i) h f l =
 word-stored [] b at i h f l = absurd (omega arith)
 
 -- A run is its words one by one, and two runs stored one behind the other are one.
-pub word-in-run : (b : List ℕ) (at n i : ℕ) → i < n → getD (wordsAt b at n) i 0 ≡ word b (at + i)
-word-in-run b at zero i l = absurd (omega arith)
-word-in-run b at (suc n) zero l = ap (word b) (sym (add-zero at))
-word-in-run b at (suc n) (suc i) l = word-in-run b (suc at) n i (omega arith) ∙ ap (word b) (suc-add at i ∙ sym (add-suc at i))
+pub word-among : (b : List ℕ) (at n i : ℕ) → i < n → getD (wordsAt b at n) i 0 ≡ word b (at + i)
+word-among b at zero i l = absurd (omega arith)
+word-among b at (suc n) zero l = ap (word b) (sym (add-zero at))
+word-among b at (suc n) (suc i) l = word-among b (suc at) n i (omega arith) ∙ ap (word b) (suc-add at i ∙ sym (add-suc at i))
 
 pub setWords-behind : (vs ws b : List ℕ) (at : ℕ) → setWords b at (vs ++ ws) ≡ setWords (setWords b at vs) (at + length vs) ws
 setWords-behind [] ws b at = ap (λ k. setWords b k ws) (sym (add-zero at))

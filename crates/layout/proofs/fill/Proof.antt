@@ -3,7 +3,7 @@ use borrow.Author.Needs.{needs}
 use native.Mathlib.Omega.{arith}
 use Rattle.layout.proofs.fill.Statement.{statement}
 use Prim.Native.Nat.{_-_}
-use Rattle.layout.proofs.Loops.{Filled, fill-start, fill-asks, fill-more, fill-end}
+use Rattle.layout.proofs.Loops.{Filled, fill-start, fill-laying, fill-more, fill-end}
 use Rattle.layout.proofs.fill.Tie as tie
 
 abbrev Inv-loop : tie.InvT-loop
@@ -22,7 +22,7 @@ loop-holds : tie.Need-loop-holds Inv-loop μ-loop
 loop-holds c = search fill-start
 
 laid-word-requires : tie.Need-laid-word-requires Inv-loop μ-loop
-laid-word-requires c κs = search fill-asks
+laid-word-requires c κs = search fill-laying
 
 store-word-requires : tie.Need-store-word-requires Inv-loop μ-loop
 store-word-requires c κs = omega (arith, c .before .before .before .loop .inv)

@@ -1,7 +1,7 @@
 -- `readable::check_region` meets its contract: as `is_readable`, in numbers. Assumes nothing.
 use borrow.Author.Needs.{needs}
 use Rattle.readable.proofs.check_region.Statement.{statement}
-use Rattle.readable.proofs.Loops.{check-not-whole, long-enough, shape-asked, fields-asked, check-yes, check-no}
+use Rattle.readable.proofs.Loops.{check-not-whole, long-enough, shape-in-range, fields-within, check-yes, check-no}
 use Rattle.readable.proofs.check_region.Tie as tie
 
 is-whole-requires : tie.Need-is-whole-requires
@@ -14,10 +14,10 @@ load-shape-requires : tie.Need-load-shape-requires
 load-shape-requires c κs = search long-enough
 
 of-requires : tie.Need-of-requires
-of-requires c κs = search shape-asked
+of-requires c κs = search shape-in-range
 
 fields-readable-requires : tie.Need-fields-readable-requires
-fields-readable-requires c κs = search fields-asked
+fields-readable-requires c κs = search fields-within
 
 returns-2 : tie.Need-returns-2
 returns-2 c = search check-yes

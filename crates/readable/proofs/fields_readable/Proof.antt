@@ -1,7 +1,7 @@
 -- `readable::fields_readable` meets its contract. Assumes nothing.
 use borrow.Author.Needs.{needs}
 use Rattle.readable.proofs.fields_readable.Statement.{statement}
-use Rattle.readable.proofs.Loops.{threads-asked, tree-bad, fields-rest}
+use Rattle.readable.proofs.Loops.{threads-within, tree-bad, fields-rest}
 use Rattle.readable.proofs.fields_readable.Tie as tie
 
 tree-readable-requires : tie.Need-tree-readable-requires
@@ -17,7 +17,7 @@ slice-aggregate-threads-readable : tie.Need-slice-aggregate-threads-readable
 slice-aggregate-threads-readable c = search needs
 
 threads-readable-requires : tie.Need-threads-readable-requires
-threads-readable-requires c κs = search threads-asked
+threads-readable-requires c κs = search threads-within
 
 returns-2 : tie.Need-returns-2
 returns-2 c = search fields-rest

@@ -1,7 +1,7 @@
 -- `readable::is_readable` meets its contract: a region that is not whole is not readable, else the fields decide. Assumes nothing.
 use borrow.Author.Needs.{needs}
 use Rattle.readable.proofs.is_readable.Statement.{statement}
-use Rattle.readable.proofs.Loops.{not-whole, long-enough, shape-asked, fields-asked, readable-rest}
+use Rattle.readable.proofs.Loops.{not-whole, long-enough, shape-in-range, fields-within, readable-rest}
 use Rattle.readable.proofs.is_readable.Tie as tie
 
 is-whole-requires : tie.Need-is-whole-requires
@@ -14,10 +14,10 @@ load-shape-requires : tie.Need-load-shape-requires
 load-shape-requires c κs = search long-enough
 
 of-requires : tie.Need-of-requires
-of-requires c κs = search shape-asked
+of-requires c κs = search shape-in-range
 
 fields-readable-requires : tie.Need-fields-readable-requires
-fields-readable-requires c κs = search fields-asked
+fields-readable-requires c κs = search fields-within
 
 returns-2 : tie.Need-returns-2
 returns-2 c = search readable-rest

@@ -16,8 +16,8 @@ add-load-word c = search needs
 load-word-requires : tie.Need-load-word-requires
 load-word-requires c κs = search needs
 
-tries-most-requires : tie.Need-tries-most-requires
-tries-most-requires c κs = search needs
+greatest-tries-requires : tie.Need-greatest-tries-requires
+greatest-tries-requires c κs = search needs
 
 add-load-word-2 : tie.Need-add-load-word-2
 add-load-word-2 c = search needs
@@ -40,8 +40,8 @@ add-load-word-4 c = search needs
 load-word-requires-4 : tie.Need-load-word-requires-4
 load-word-requires-4 c κs = search needs
 
-waiting-most-requires : tie.Need-waiting-most-requires
-waiting-most-requires c κs = search needs
+greatest-waiting-requires : tie.Need-greatest-waiting-requires
+greatest-waiting-requires c κs = search needs
 
 returns-3 : tie.Need-returns-3
 returns-3 c = search thread-rest
@@ -54,7 +54,7 @@ thread-readable-spec =
     returns
     add-load-word
     load-word-requires
-    tries-most-requires
+    greatest-tries-requires
     add-load-word-2
     load-word-requires-2
     returns-2
@@ -62,5 +62,5 @@ thread-readable-spec =
     load-word-requires-3
     add-load-word-4
     load-word-requires-4
-    waiting-most-requires
+    greatest-waiting-requires
     returns-3)

@@ -2,7 +2,7 @@
 use native.Mathlib.Omega.{arith}
 use Rattle.readable.proofs.threads_readable.Statement.{statement}
 use Rattle.readable.specs.Readable.{threadReadable}
-use Rattle.readable.proofs.Loops.{Scanned, scan-start, scan-more, scan-bad, scan-end, stride-within, threads-ask}
+use Rattle.readable.proofs.Loops.{Scanned, scan-start, scan-more, scan-bad, scan-end, stride-within, thread-within}
 use Rattle.readable.proofs.threads_readable.Tie as tie
 
 abbrev Inv-loop : tie.InvT-loop
@@ -19,7 +19,7 @@ loop-holds : tie.Need-loop-holds Inv-loop μ-loop
 loop-holds c = search scan-start
 
 thread-readable-requires : tie.Need-thread-readable-requires Inv-loop μ-loop
-thread-readable-requires c κs = search threads-ask
+thread-readable-requires c κs = search thread-within
 
 returns : tie.Need-returns Inv-loop μ-loop
 returns c = search scan-bad

@@ -2,7 +2,7 @@
 use Rattle.run.proofs.serve_all.Statement.{statement}
 use native.Mathlib.Omega.{arith}
 use Prim.Native.Nat.{_-_}
-use Rattle.run.proofs.Turns.{Serving, serve-start, serve-asks, serve-more, serve-stop, serve-end}
+use Rattle.run.proofs.Turns.{Serving, serve-start, turn-within, serve-more, serve-stop, serve-end}
 use Rattle.run.proofs.serve_all.Tie as tie
 
 abbrev Inv-loop : tie.InvT-loop
@@ -28,7 +28,7 @@ returns : tie.Need-returns Inv-loop μ-loop
 returns c = search serve-stop
 
 serve-requires : tie.Need-serve-requires Inv-loop μ-loop
-serve-requires c κs = search serve-asks
+serve-requires c κs = search turn-within
 
 add-turns : tie.Need-add-turns Inv-loop μ-loop
 add-turns c = omega arith

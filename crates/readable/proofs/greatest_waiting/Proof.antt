@@ -1,8 +1,8 @@
--- `readable::waiting_most` meets its contract. Assumes nothing.
+-- `readable::greatest_waiting` meets its contract. Assumes nothing.
 use borrow.Author.Needs.{needs}
-use Rattle.readable.proofs.waiting_most.Statement.{statement}
+use Rattle.readable.proofs.greatest_waiting.Statement.{statement}
 use Rattle.readable.proofs.Loops.{not-mending, mending-none, mark-shift, mark-some, mending-marks}
-use Rattle.readable.proofs.waiting_most.Tie as tie
+use Rattle.readable.proofs.greatest_waiting.Tie as tie
 
 returns : tie.Need-returns
 returns c = search not-mending
@@ -25,7 +25,7 @@ sub-result-2 c = search mark-some
 returns-3 : tie.Need-returns-3
 returns-3 c = search mending-marks
 
-pub waiting-most-spec : {M : Type 1} → statement M
-waiting-most-spec =
+pub greatest-waiting-spec : {M : Type 1} → statement M
+greatest-waiting-spec =
     tie.close
     (tie.spec returns level-of-requires returns-2 sub-result shl-result sub-result-2 returns-3)
