@@ -57,7 +57,7 @@ framed-after f b b′ e placed = subst (Framed f) (sym e) placed
 framed-node : (f : Frame) (b : List ℕ) (n : ℕ) (v : Node) → Framed f (length b) → Framed f (length (setNodeIn f b n v))
 framed-node f b n v = framed-after f b (setNodeIn f b n v) (length-setNodeIn f b n v)
 
--- The two sayings of an effect agree.
+-- An effect means the same on the bytes and on shared memory as functions.
 module _ (f : Frame) where
   freed-shared : (b : List ℕ) (c : ℕ) → Framed f (length b) → IsCell f c → word b (f .free) < 2 ^ 32 → c < 2 ^ 32
       → sharedIn f (freedBytes f b c) ≡ freed (sharedIn f b) c

@@ -16,7 +16,7 @@ data UpTo (a b : Item) : Type 0 where
   by-key : a .key < b .key → UpTo a b
   by-tag : a .key ≡ b .key → a .tag ≤ b .tag → UpTo a b
 
--- the test and the numbers
+-- the test holds exactly where the numbers say so
 module _ (a b : Item) where
   holds : UpTo a b → itemLe a b ≡ true
   unfolding itemLe pick
@@ -41,7 +41,7 @@ module _ (a b : Item) where
           let n : a .key ≡ b .key → ⊥ = eqb-false (a .key) (b .key) e in
           by-key (omega (arith, n, ltb-false (a .key) (b .key) h))
 
-  -- what does not hold fails
+  -- and fails elsewhere
   fails : (UpTo a b → ⊥) → itemLe a b ≡ false
   fails n = go (itemLe a b) refl
     where

@@ -85,7 +85,7 @@ module _ (s : Shape) (n : ℕ) where
   unfolding isNode
   some-node h k e = ap (leb n) e ∙ from-least 1 n (nodeCount s) h
 
--- the kinds but k
+-- every kind but k
 abbrev also : Bool → ℕ → List ℕ → List ℕ
 also true x xs = x ∷ xs
 also false x xs = xs

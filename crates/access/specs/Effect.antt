@@ -1,4 +1,4 @@
--- What a turn does to shared memory, said of shared memory as functions, for the theory, and of the bytes, for the code.
+-- What a turn does to shared memory: as functions, which the theory reads, and as bytes, which the code changes.
 use Prim.Native.Nat.{ℕ}
 use mathlib.Core.List.{List}
 use Rattle.words.specs.Word.{word, setWord}

@@ -18,7 +18,7 @@ unfoldable pub moved : Thread → Plan
 unfolding plan
 moved t = plan Nothing t Moved
 
--- on to a place
+-- the thread goes on to a place
 unfoldable pub onTo : Thread → Place → Plan
 unfolding moved
 onTo t p = moved (atPlace t p)
@@ -28,14 +28,14 @@ unfoldable pub refused : Thread → ℕ → Plan
 unfolding plan
 refused t n = plan Nothing t (Refused n)
 
--- a turn that leaves the region alone: idle or refused
-abbrev pub staysPut : Answer → Bool
-staysPut Moved = false
-staysPut Idle = true
-staysPut Inserted = false
-staysPut (Took i) = false
-staysPut Empty = false
-staysPut (Refused n) = true
+-- a turn that changes no byte: idle or refused
+abbrev pub changesNothing : Answer → Bool
+changesNothing Moved = false
+changesNothing Idle = true
+changesNothing Inserted = false
+changesNothing (Took i) = false
+changesNothing Empty = false
+changesNothing (Refused n) = true
 
 -- the answers with which an operation ends: "inserted, took or empty"
 abbrev pub ends : Answer → Bool

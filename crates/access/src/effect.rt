@@ -9,7 +9,7 @@ use region::Frame;
 use region::Item;
 use region::Node;
 
-// The values of nodes are whole: their counters were counted up where refusal 11 was tested.
+// Each node value is complete: its counter was counted up where refusal 11 was tested.
 pub enum Effect {
     Nothing,
     // the present depth grows to this
@@ -40,7 +40,7 @@ pub enum Effect {
     },
 }
 
-// Frees a cell: zero, and at the front of the chain.
+// Frees a cell: its key and tag become 0, and it becomes the first of the chain.
 fn free_cell(f: Frame, b: &mut [u8], cell: u32)
     requires { ⌜ Within f (length (now b)) ⌝ }
     ensures { λ r. ⌜ now (b .exit) ≡ freedBytes f (now (b .entry)) cell ⌝ }
@@ -61,8 +61,8 @@ fn push(f: Frame, b: &mut [u8], node: u32, value: Node, cell: u32, next: u32)
     f.store_cell(b, cell, Cell { next, ..held });
 }
 
-// Carrying an effect out, one function for each kind, which is short enough for the compiler to copy into each place. An
-// effect of another kind is left out; no place decides one.
+// Carrying an effect out, one function for each kind, short enough for the compiler to copy into each place. An effect of
+// another kind is not carried out; no place decides one.
 
 // The present depth grows (I4).
 pub fn carry_growth(f: Frame, b: &mut [u8], effect: Effect)

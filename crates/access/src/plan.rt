@@ -30,7 +30,7 @@ pub fn moved(thread: Thread) -> Plan
     plan_of(Effect::Nothing, thread, Answer::Moved)
 }
 
-// On to a place.
+// The thread goes on to a place, and nothing else changes.
 pub fn on_to(thread: Thread, place: Place) -> Plan
     ensures { λ r. ⌜ r ≡ onTo thread place ⌝ }
 {

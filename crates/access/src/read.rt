@@ -41,14 +41,14 @@ pub fn is_dirty(n: Node) -> bool
     n.dirty != 0
 }
 
-// Whether the counter has no next value.
+// Whether the counter has its last value.
 pub fn is_spent(n: Node) -> bool
     ensures { λ r. ⌜ r ≡ isSpent n ⌝ }
 {
     n.counter == GREATEST_COUNTER
 }
 
-// The node with another list and mark, and its counter one up.
+// The node with another list and mark, and its counter one more.
 pub fn updated_node(n: Node, first: u32, dirty: u32) -> Node
     requires { ⌜ isSpent n ≡ false ⌝ }
     ensures { λ r. ⌜ r ≡ updated n first dirty ⌝ }

@@ -38,9 +38,9 @@ use Rattle.access.specs.declared.effect.Effect.the-variants.{Nothing, Pop, Exch
 use Rattle.access.specs.declared.plan.Plan.{Plan}
 use Rattle.access.proofs.ReadLaws.{same-itself, updated-dirty, updated-first}
 use Rattle.readable.proofs.Laws.{Good}
-use Rattle.extract.specs.Extract.{rootRead, readRoot, headRemoved, removeHead}
-use Rattle.moundify.specs.Moundify.{returning, mendReadNode, depthRead, mendReadDepth, mendReadLeft, lessBelow, childLess, childrenRead, mendReadRight, exchangeAt, nodeAndChildSame, exchangeWith, cleanAt, mendClean, returnAnswer}
-use Rattle.machine.specs.Turn.{decide, decideAt, staysPut, turnAnswer, turnBytes, turnPlan}
+use Rattle.extract.specs.Extract.{afterRootRead, readRoot, afterRemoval, removeHead}
+use Rattle.moundify.specs.Moundify.{returning, mendReadNode, afterDepthRead, mendReadDepth, mendReadLeft, lessBelow, childLess, afterChildrenRead, mendReadRight, exchangeAt, nodeAndChildSame, exchangeWith, cleanAt, mendClean, returnAnswer}
+use Rattle.machine.specs.Turn.{decide, decideAt, changesNothing, turnAnswer, turnBytes, turnPlan}
 use Rattle.cost.specs.Cost.{lesserChild, levelsDown, withoutHead}
 use Rattle.cost.proofs.Laws.{goes-down, lesser-is-child, levels-same, rests-deepest, rests-there, swaps-as-placed, tests-as-placed}
 use Rattle.preserved.proofs.Proved.{turn-keeps}
@@ -94,7 +94,7 @@ module _ (f : Frame) (t : ℕ) (t-least : 1 ≤ t) (t-most : t ≤ f .shape .thr
   pub empty-ends : (m : Shared) (u : Thread) → u .place ≡ ReadRoot → m .node 1 .first ≡ 0 → m .node 1 .dirty ≡ 0 → (b cs : List ℕ)
       → sharedIn f b ≡ m → threadIn f b t ≡ u → 1 ≤ length cs
       → EndsAt (λ x. x .answer ≡ Empty) 1 (alone f b t cs)
-  unfolding alone turnAnswer decide readRoot rootRead plan pick readNode
+  unfolding alone turnAnswer decide readRoot afterRootRead plan pick readNode
   empty-ends m u place none clean b [] em eu long = absurd (omega arith)
   empty-ends m u place none clean b (c ∷ cs) em eu long =
       let e : decide s m u c ≡ plan Nothing (goneIdle u) Empty =
@@ -150,7 +150,7 @@ module _ (f : Frame) (t : ℕ) (t-least : 1 ≤ t) (t-most : t ≤ f .shape .thr
       moves a next up after b (c ∷ cs) g em eu long none =
           let e = planned b c cs em eu none in
           let answered : turnPlan f b t c .answer ≡ Moved = ap (λ x. x .answer) e ∙ a in
-          let goes : staysPut (turnPlan f b t c .answer) ≡ false = ap staysPut answered in
+          let goes : changesNothing (turnPlan f b t c .answer) ≡ false = ap changesNothing answered in
           let r = after (turnBytes f b t c) cs (turn-keeps f b g t c .good)
           (turn-shared f b t c g goes ∙ (λ i. effectShared (em i) (e i .effect)))
           (ap (λ h. h t) (turn-threads f b t c g goes) ∙ upd-same (threadIn f b) t (turnPlan f b t c .thread)
@@ -228,7 +228,7 @@ module _ (f : Frame) (t : ℕ) (t-least : 1 ≤ t) (t-most : t ≤ f .shape .thr
         ap (λ x. x .answer) e ∙ rw (eq-eqb (u .after) 1 (h .after)) refl
         in
         let after : sharedIn f (turnBytes f b t c) ≡ effectShared m (Clean (u .node) v) =
-        turn-shared f b t c g (ap staysPut answered) ∙ (λ i. effectShared (em i) (e i .effect))
+        turn-shared f b t c g (ap changesNothing answered) ∙ (λ i. effectShared (em i) (e i .effect))
         in
         let begins : upd (m .node) (u .node) v (u .node) .first ≡ first =
         ap (λ x. x .first) (upd-same (m .node) (u .node) v) ∙ updated-first n (n .first) 0 ∙ ap (λ x. x .first) same ∙ h .list
@@ -337,7 +337,7 @@ module _ (f : Frame) (t : ℕ) (t-least : 1 ≤ t) (t-most : t ≤ f .shape .thr
       -- M4, M3, M2 and M1
       right-rests : (m : Shared) (u : Thread) → Mending l m u (MendReadRight 0) → u .copies .first ≡ readNode m (u .node)
           → u .copies .second ≡ readNode m (2 * u .node) → l < d → RestsFrom (5 * l + 3) m u
-      unfolding decide mendReadRight childrenRead isNode onTo pick atPlace withThird withCopies readNode
+      unfolding decide mendReadRight afterChildrenRead isNode onTo pick atPlace withThird withCopies readNode
       right-rests m u h copied second higher = go (childLess v) decides (sym less)
         where
           v : Thread
@@ -393,7 +393,7 @@ module _ (f : Frame) (t : ℕ) (t-least : 1 ≤ t) (t-most : t ≤ f .shape .thr
 
       depth-rests : (m : Shared) (u : Thread) → Mending l m u (MendReadDepth 0) → u .copies .first ≡ readNode m (u .node)
           → RestsFrom (5 * l + 1) m u
-      unfolding decide mendReadDepth depthRead onTo pick atPlace withDepth readNode
+      unfolding decide mendReadDepth afterDepthRead onTo pick atPlace withDepth readNode
       depth-rests m u h copied = go (ℕ-discrete l d)
         where
           v : Place → Thread
@@ -442,7 +442,7 @@ module _ (f : Frame) (t : ℕ) (t-least : 1 ≤ t) (t-most : t ≤ f .shape .thr
         (taken : m .cell (m .node 1 .first) .item ≡ rootItem f b₀) (begins : m .cell (m .node 1 .first) .next ≡ first)
         (cells : popped m .cell ≡ cell) (goes : 1 + levelsDown (val (popped m)) (val (popped m) 1) (d - 1) 1 ≡ j) where
       head-rests : (u : Thread) → u .place ≡ RemoveHead → u .copies .first ≡ readNode m 1 → RestsFrom 4 m u
-      unfolding decide removeHead headRemoved effectShared plan pick mending atPlace withNode withAfter withResult level digits readNode popped withoutHead
+      unfolding decide removeHead afterRemoval effectShared plan pick mending atPlace withNode withAfter withResult level digits readNode popped withoutHead
       head-rests u place copied =
           let q = u .copies .first in
           let v = updated (q .node) (q .head .next) 1 in
@@ -477,7 +477,7 @@ module _ (f : Frame) (t : ℕ) (t-least : 1 ≤ t) (t-most : t ≤ f .shape .thr
           })))
 
       pub root-rests : (u : Thread) → u .place ≡ ReadRoot → RestsFrom 3 m u
-      unfolding decide readRoot rootRead onTo pick atPlace withFirst withCopies readNode
+      unfolding decide readRoot afterRootRead onTo pick atPlace withFirst withCopies readNode
       root-rests u place =
           let v = atPlace (withFirst u (readNode m 1)) RemoveHead in
           goes-on 3 4 refl m u v (omega (arith, goes))

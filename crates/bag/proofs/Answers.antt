@@ -26,7 +26,7 @@ use Rattle.extract.specs.Extract.{readRoot, removeHead}
 use Rattle.moundify.specs.Moundify.{returning, mendReadNode, mendReadDepth, mendReadLeft, mendReadRight, exchangeWith, mendSwap, mendClean, returned, returnAnswer}
 use Rattle.readable.proofs.Laws.{Good}
 use Rattle.run.specs.Run.{Turn}
-use Rattle.machine.specs.Turn.{decide, decideAt, staysPut, turnAnswer, turnPlan}
+use Rattle.machine.specs.Turn.{decide, decideAt, changesNothing, turnAnswer, turnPlan}
 use Rattle.mound.specs.Told.{nothing, decidesPut}
 use Rattle.mound.proofs.Steps.{effectTells, quietTells}
 use Rattle.bag.specs.Demand3.{Says, moved as says-moved, idle, refused as says-refused, inserted, empty, took, removed}
@@ -171,7 +171,7 @@ module _ (f : Frame) (b : List ℕ) (g : Good f b) (x : Turn) where
       let t = x .thread in
       let c = x .choice in
       place-after (rootItem f b) t _ _ (p .thread .place) (p .answer) (λ e.
-      let moved-on = ap (λ h. h t) (turn-threads f b t c g (ap staysPut e)) ∙ upd-same (threadIn f b) t (p .thread) in
+      let moved-on = ap (λ h. h t) (turn-threads f b t c g (ap changesNothing e)) ∙ upd-same (threadIn f b) t (p .thread) in
       ap (λ y. y .place) moved-on)
       ∙ plan-spoken f b t c .tells-so
 

@@ -18,19 +18,19 @@ use Rattle.access.specs.declared.plan.Plan.{Plan}
 use Rattle.access.proofs.EffectLaws.{effect-shared}
 use Rattle.readable.proofs.Laws.{Good}
 use Rattle.readable.proofs.Stores.{good-shared, thread-fit}
-use Rattle.machine.specs.Turn.{carriedOut, decide, staysPut, turnBytes, turnPlan}
+use Rattle.machine.specs.Turn.{carriedOut, decide, changesNothing, turnBytes, turnPlan}
 use Rattle.preserved.proofs.EffectsGood.{few-cells, fits-of}
 use Rattle.preserved.proofs.PlansGood.{PlanGood}
 use Rattle.preserved.proofs.Proved.{effect-threads, plan-in-range, record-keeps}
 
 -- a plan whose answer is idle or refused changes no byte
-carried-stays : (f : Frame) (b : List ℕ) (t : ℕ) (p : Plan) → staysPut (p .answer) ≡ true → carriedOut f b t p ≡ b
+carried-stays : (f : Frame) (b : List ℕ) (t : ℕ) (p : Plan) → changesNothing (p .answer) ≡ true → carriedOut f b t p ≡ b
 unfolding carriedOut pick
 carried-stays f b t p e = rw e refl
 
 -- any other, in range
 module _ (f : Frame) (b : List ℕ) (g : Good f b) (t : ℕ) (l : 1 ≤ t) (u : t ≤ f .shape .threads) (p : Plan)
-    (gp : PlanGood (f .shape) p) (e : staysPut (p .answer) ≡ false) where
+    (gp : PlanGood (f .shape) p) (e : changesNothing (p .answer) ≡ false) where
   stored : List ℕ
   stored = setThreadIn f b t (p .thread)
 
@@ -62,23 +62,23 @@ module _ (f : Frame) (b : List ℕ) (t c : ℕ) where
   turn-decides l u = rw (is-between 1 t (f .shape .threads) l u) refl
 
   -- no other thread's turn changes anything
-  thread-exists : staysPut (turnPlan f b t c .answer) ≡ false → between 1 t (f .shape .threads) ≡ true
+  thread-exists : changesNothing (turnPlan f b t c .answer) ≡ false → between 1 t (f .shape .threads) ≡ true
   unfolding turnPlan pick refused
   thread-exists e = go (between 1 t (f .shape .threads)) e
     where
       go : (q : Bool)
-          → staysPut (pick q (decide (f .shape) (sharedIn f b) (threadIn f b t) c) (refused (idleThread 0) badThread) .answer) ≡ false
+          → changesNothing (pick q (decide (f .shape) (sharedIn f b) (threadIn f b t) c) (refused (idleThread 0) badThread) .answer) ≡ false
           → q ≡ true
       go true h = refl
       go false h = absurd (true≢false h)
 
   -- idle or refused
-  pub turn-stays : staysPut (turnPlan f b t c .answer) ≡ true → turnBytes f b t c ≡ b
+  pub turn-stays : changesNothing (turnPlan f b t c .answer) ≡ true → turnBytes f b t c ≡ b
   unfolding turnBytes
   turn-stays e = carried-stays f b t (turnPlan f b t c) e
 
   -- any other, on bytes in range
-  module _ (g : Good f b) (e : staysPut (turnPlan f b t c .answer) ≡ false) where
+  module _ (g : Good f b) (e : changesNothing (turnPlan f b t c .answer) ≡ false) where
     pub turn-least : 1 ≤ t
     turn-least = between-least 1 t (f .shape .threads) (thread-exists e)
 

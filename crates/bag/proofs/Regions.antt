@@ -29,7 +29,7 @@ use Rattle.readable.proofs.Laws.{Good}
 use Rattle.readable.proofs.Stores.{Keeps, thread-fit}
 use Rattle.begin.specs.Begin.{acceptedPut, acceptedTake, putBytesIn, putRefusalIn, takeBytesIn, takeRefusalIn}
 use Rattle.run.specs.Run.{Turn}
-use Rattle.machine.specs.Turn.{staysPut, turnBytes, turnPlan}
+use Rattle.machine.specs.Turn.{changesNothing, turnBytes, turnPlan}
 use Rattle.begin.proofs.Laws.{is-idle, may-put, may-take}
 use Rattle.preserved.proofs.EffectsGood.{cell-fit, few-cells}
 use Rattle.preserved.proofs.Proved.{PutPassed, TakePassed, accepted-put-keeps, accepted-take-keeps, mine-good, moved-keeps, next-few, put-free, put-key, put-least, put-most, put-passed, put-tag, putter-good, stored-keeps, take-least, take-most, take-passed, taker-good, turn-keeps}
@@ -88,7 +88,7 @@ module _ (f : Frame) (all : ℕ) (b : List ℕ) (l : Ledger) (g : Region f all b
     p : Plan
     p = turnPlan f b t c
 
-    quiet-turn : (a : Answer) → staysPut a ≡ true → quietTells t a ≡ nothing → p .effect ≡ Nothing → p .answer ≡ a
+    quiet-turn : (a : Answer) → changesNothing a ≡ true → quietTells t a ≡ nothing → p .effect ≡ Nothing → p .answer ≡ a
         → Follow f all l (effectTells (rootItem f b) t (p .answer) (p .effect)) (turnBytes f b t c)
     unfolding p
     quiet-turn a st tells ee ea =
@@ -98,7 +98,7 @@ module _ (f : Frame) (all : ℕ) (b : List ℕ) (l : Ledger) (g : Region f all b
         record {
           next = l;
           follows = subst (λ x. Follows x l l) (sym e) still;
-          region = subst (λ x. Region f all x l) (sym (turn-stays f b t c (ap staysPut ea ∙ st))) g;
+          region = subst (λ x. Region f all x l) (sym (turn-stays f b t c (ap changesNothing ea ∙ st))) g;
         }
 
     module _ (lt : 1 ≤ t) (ut : t ≤ f .shape .threads) where

@@ -31,7 +31,7 @@ use Rattle.readable.proofs.Stores.{thread-fit}
 use Rattle.begin.specs.Begin.{acceptedTake, takeBytes, takeRefusal}
 use Rattle.begin.proofs.Laws.{take-refusal-in}
 use Rattle.run.specs.Run.{Turn, accessesOf}
-use Rattle.machine.specs.Turn.{staysPut, turnAnswer, turnBytes}
+use Rattle.machine.specs.Turn.{changesNothing, turnAnswer, turnBytes}
 use Rattle.cost.specs.Cost.{levelsDown, restLevel, takeCost, withoutHead}
 use Rattle.cost.proofs.Laws.{cost-ceiling, cost-counted, cost-empty, cost-full, levels-same, rest-most}
 use Rattle.preserved.proofs.Proved.{TakePassed, accepted-take-keeps, take-least, take-most, take-passed, taker-good}
@@ -54,7 +54,7 @@ choicesOf : ℕ → List Turn → List ℕ
 choicesOf t [] = []
 choicesOf t (u ∷ us) = pick (eqb (u .thread) t) (u .choice ∷ choicesOf t us) (choicesOf t us)
 
-no-access : (a : Answer) → accessesOf a ≡ 0 → staysPut a ≡ true
+no-access : (a : Answer) → accessesOf a ≡ 0 → changesNothing a ≡ true
 no-access Moved h = absurd (omega arith)
 no-access Idle h = refl
 no-access Inserted h = absurd (omega arith)

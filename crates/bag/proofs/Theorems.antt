@@ -16,7 +16,7 @@ use Rattle.access.specs.Plan.{plan, refused}
 use Rattle.layout.specs.Layout.{layoutBytes}
 use Rattle.readable.specs.Readable.{frameIn, shapeIn}
 use Rattle.readable.proofs.Laws.{good}
-use Rattle.machine.specs.Turn.{staysPut, turnAnswer, turnPlan}
+use Rattle.machine.specs.Turn.{changesNothing, turnAnswer, turnPlan}
 use Rattle.mound.specs.Ledger.{Ledger, Operation, emptyLedger}
 use Rattle.mound.proofs.Plans.{Planned, moves, refuses, rests, operation-moves}
 use Rattle.mound.proofs.Steps.{owns}
@@ -66,7 +66,7 @@ module _ (f : Frame) (all : ℕ) (b : List ℕ) (l : Ledger) (g : Region f all b
   unfolding refusal
   planned-answer (rests x y) = other Idle y (λ z. omega arith)
   planned-answer (refuses x y) = other (Refused counterSpent) y (λ z. omega arith)
-  planned-answer (moves op′ al sp ow at) = λ e. true≢false (sym (ap staysPut e) ∙ operation-moves sp)
+  planned-answer (moves op′ al sp ow at) = λ e. true≢false (sym (ap changesNothing e) ∙ operation-moves sp)
 
   never-unreadable : turnAnswer f b t c ≡ Refused unreadable → ⊥
   unfolding turnAnswer refusal refused plan

@@ -18,39 +18,39 @@ use Rattle.access.specs.Plan.{plan, moved, onTo, refused}
 use Rattle.access.specs.Read.{isDirty, isSpent, readNode, sameNode, updated}
 use Rattle.access.specs.declared.effect.Effect.the-variants.{Nothing, Pop}
 use Rattle.access.specs.declared.plan.Plan.{Plan}
-use Rattle.extract.specs.Extract.{headRemoved, readRoot, removeHead, rootRead}
+use Rattle.extract.specs.Extract.{afterRemoval, readRoot, removeHead, afterRootRead}
 
 -- E1.
 module _ (t : Thread) (q : NodeCopy) (d : Bool) (ed : d ≡ isDirty (q .node)) (r : Plan) where
   pub root-dirty : d ≡ true → (u v x : Thread) → u ≡ withFirst t q → v ≡ withAfter u 0 → x ≡ mending v 1 0 → r ≡ moved x
-      → r ≡ rootRead t q
-  unfolding rootRead pick
+      → r ≡ afterRootRead t q
+  unfolding afterRootRead pick
   root-dirty h u v x eu ev ex er =
       rw
       (← ed, h)
       (er ∙ ap moved (ex ∙ ap (λ y. mending y 1 0) (ev ∙ ap (λ y. withAfter y 0) eu)))
 
   module _ (h : d ≡ false) where
-    pub root-empty : q .node .first ≡ 0 → (u : Thread) → u ≡ goneIdle t → r ≡ plan Nothing u Empty → r ≡ rootRead t q
-    unfolding rootRead pick
+    pub root-empty : q .node .first ≡ 0 → (u : Thread) → u ≡ goneIdle t → r ≡ plan Nothing u Empty → r ≡ afterRootRead t q
+    unfolding afterRootRead pick
     root-empty z u eu er =
         rw (← ed, h, eq-eqb (q .node .first) 0 z) (er ∙ ap (λ y. plan Nothing y Empty) eu)
 
-    pub root-full : (q .node .first ≡ 0 → ⊥) → (u : Thread) → u ≡ withFirst t q → r ≡ onTo u RemoveHead → r ≡ rootRead t q
-    unfolding rootRead pick
+    pub root-full : (q .node .first ≡ 0 → ⊥) → (u : Thread) → u ≡ withFirst t q → r ≡ onTo u RemoveHead → r ≡ afterRootRead t q
+    unfolding afterRootRead pick
     root-full n u eu er =
         rw (← ed, h, ne-eqb (q .node .first) 0 n) (er ∙ ap (λ y. onTo y RemoveHead) eu)
 
-pub root-reads : (f : Frame) (b : List ℕ) (t : Thread) (q : NodeCopy) (r : Plan) → q ≡ readNode (sharedIn f b) 1 → r ≡ rootRead t q
+pub root-reads : (f : Frame) (b : List ℕ) (t : Thread) (q : NodeCopy) (r : Plan) → q ≡ readNode (sharedIn f b) 1 → r ≡ afterRootRead t q
     → r ≡ readRoot (sharedIn f b) t
 unfolding readRoot
-root-reads f b t q r eq er = er ∙ ap (rootRead t) eq
+root-reads f b t q r eq er = er ∙ ap (afterRootRead t) eq
 
 -- E2.
 pub head-leaves : (t : Thread) (q : NodeCopy) (n : Node) (u v x : Thread) (r : Plan) → n ≡ updated (q .node) (q .head .next) 1
     → u ≡ withResult t (q .head .item) → v ≡ withAfter u 1 → x ≡ mending v 1 0 → r ≡ plan (Pop n (q .node .first)) x Moved
-    → r ≡ headRemoved t q
-unfolding headRemoved
+    → r ≡ afterRemoval t q
+unfolding afterRemoval
 head-leaves t q n u v x r en eu ev ex er =
     er
     ∙ (λ i. plan (Pop (en i) (q .node .first)) ((ex ∙ ap (λ y. mending y 1 0) (ev ∙ ap (λ y. withAfter y 1) eu)) i) Moved)
@@ -76,7 +76,7 @@ module _ (f : Frame) (b : List ℕ) (t : Thread) (r : Plan) (x : Node) (ex : x �
       root-spent g er =
           rw (← root-test, not-false s h, ne-eqb (t .copies .first .node .first) 0 nz, ← ep, g) er
 
-      pub head-removes : p ≡ false → r ≡ headRemoved t (t .copies .first) → r ≡ removeHead (sharedIn f b) t
+      pub head-removes : p ≡ false → r ≡ afterRemoval t (t .copies .first) → r ≡ removeHead (sharedIn f b) t
       unfolding removeHead pick
       head-removes g er =
           rw (← root-test, not-false s h, ne-eqb (t .copies .first .node .first) 0 nz, ← ep, g) er

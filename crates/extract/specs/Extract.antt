@@ -14,8 +14,8 @@ use Rattle.access.specs.declared.effect.Effect.the-variants.{Nothing, Pop}
 use Rattle.access.specs.declared.plan.Plan.{Plan}
 
 -- "Dirty: mend node 1 with after 0. Empty: answer empty. Else E2." (lines 23 to 26)
-unfoldable pub rootRead : Thread → NodeCopy → Plan
-rootRead t q =
+unfoldable pub afterRootRead : Thread → NodeCopy → Plan
+afterRootRead t q =
     pick
     (isDirty (q .node))
     (moved (mending (withAfter (withFirst t q) 0) 1 0))
@@ -23,12 +23,12 @@ rootRead t q =
 
 -- E1 "READ root." (line 22)
 unfoldable pub readRoot : Shared → Thread → Plan
-unfolding rootRead
-readRoot m t = rootRead t (readNode m 1)
+unfolding afterRootRead
+readRoot m t = afterRootRead t (readNode m 1)
 
 -- "Success: head is the result, its cell is freed, mend node 1 with after 1." (lines 27 to 30)
-unfoldable pub headRemoved : Thread → NodeCopy → Plan
-headRemoved t q =
+unfoldable pub afterRemoval : Thread → NodeCopy → Plan
+afterRemoval t q =
     plan
     (Pop (updated (q .node) (q .head .next) 1) (q .node .first))
     (mending (withAfter (withResult t (q .head .item)) 1) 1 0)
@@ -37,12 +37,12 @@ headRemoved t q =
 -- E2 "CAS root to the copied next cell, dirty. .. Failure: E1." (line 27). The copied first cell is named by a success alone, which frees
 -- it; so cell 0 is refused 7 only where the comparison holds
 unfoldable pub removeHead : Shared → Thread → Plan
-unfolding headRemoved
+unfolding afterRemoval
 removeHead m t =
     pick
     (sameNode (m .node 1) (t .copies .first .node))
     (pick
     (eqb (t .copies .first .node .first) 0)
     (refused t unreadable)
-    (pick (isSpent (t .copies .first .node)) (refused t counterSpent) (headRemoved t (t .copies .first))))
+    (pick (isSpent (t .copies .first .node)) (refused t counterSpent) (afterRemoval t (t .copies .first))))
     (onTo t ReadRoot)

@@ -5,7 +5,7 @@ ghost use lib.ListN.{length};
 ghost use Rattle.region.specs.Inner.{Within};
 ghost use Rattle.region.specs.Shared.{sharedIn};
 ghost use Rattle.access.specs.Read.{isSpent};
-ghost use Rattle.extract.specs.Extract.{headRemoved, readRoot, removeHead, rootRead};
+ghost use Rattle.extract.specs.Extract.{afterRemoval, readRoot, removeHead, afterRootRead};
 use access::Effect;
 use access::Plan;
 use region::Answer;
@@ -17,8 +17,8 @@ use region::Thread;
 use region::UNREADABLE;
 
 // The root was read: it is dirty, empty, or has a head to remove.
-fn root_read(t: Thread, q: NodeCopy) -> Plan
-    ensures { λ r. ⌜ r ≡ rootRead t q ⌝ }
+fn after_root_read(t: Thread, q: NodeCopy) -> Plan
+    ensures { λ r. ⌜ r ≡ afterRootRead t q ⌝ }
 {
     if access::is_dirty(q.node) {
         return access::moved(t.with_first(q).with_after(0).mending(1, 0));
@@ -34,13 +34,13 @@ pub fn read_root(f: Frame, b: &[u8], t: Thread) -> Plan
     requires { ⌜ Within f (length (now b)) ⌝ }
     ensures { λ r. ⌜ r ≡ readRoot (sharedIn f (now (b .entry))) t ⌝ }
 {
-    root_read(t, access::read_node(f, b, 1))
+    after_root_read(t, access::read_node(f, b, 1))
 }
 
 // The head leaves the root's list.
-fn head_removed(t: Thread, q: NodeCopy) -> Plan
+fn after_removal(t: Thread, q: NodeCopy) -> Plan
     requires { ⌜ isSpent (q .node) ≡ false ⌝ }
-    ensures { λ r. ⌜ r ≡ headRemoved t q ⌝ }
+    ensures { λ r. ⌜ r ≡ afterRemoval t q ⌝ }
 {
     let effect = Effect::Pop {
         value: access::updated_node(q.node, q.head.next, 1),
@@ -69,5 +69,5 @@ pub fn remove_head(f: Frame, b: &[u8], t: Thread) -> Plan
     if access::is_spent(q.node) {
         return access::refused(t, COUNTER_SPENT);
     }
-    head_removed(t, q)
+    after_removal(t, q)
 }

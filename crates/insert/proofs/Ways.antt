@@ -31,7 +31,7 @@ use Rattle.access.specs.Plan.{plan, onTo, refused}
 use Rattle.access.specs.Read.{isLevel, isSpent, readNode, sameNode, updated}
 use Rattle.access.specs.declared.effect.Effect.the-variants.{Grow, Push}
 use Rattle.access.specs.declared.plan.Plan.{Plan}
-use Rattle.insert.specs.Insert.{searching, ancestorRead, nodeAndParentSame, failedPlace, growDepth, hasMiddle, insertAt, insertAtRoot, insertBelow, leafFailed, leafOf, leafRead, middleLevel, nextTries, readAncestor, readDepth, readLeaf, readParent, readTarget, searchOn, targetPlace}
+use Rattle.insert.specs.Insert.{searching, afterAncestorRead, nodeAndParentSame, failedPlace, growDepth, hasMiddle, insertAt, insertAtRoot, insertBelow, afterFailedTry, leafOf, afterLeafRead, middleLevel, nextTries, readAncestor, readDepth, readLeaf, readParent, readTarget, searchOn, targetPlace}
 
 -- I1, and the search.
 pub depth-read : (f : Frame) (b : List ℕ) (t t₁ t₂ : Thread) (d : ℕ) (r : Plan) → d ≡ word b (f .depth) → t₁ ≡ withDepth t d
@@ -105,21 +105,21 @@ module _ (s : Shape) (t : Thread) where
   module _ (leaf : ℕ) (q : NodeCopy) (r : Plan) where
     pub try-failed : (n : ℕ) (t₁ t₂ : Thread) (p : Place) → n ≡ nextTries s t
         → t₁ ≡ withSearch t (searching leaf n (t .search .lo) (t .search .hi)) → t₂ ≡ withFirst t₁ q → p ≡ failedPlace s t
-        → r ≡ onTo t₂ p → r ≡ leafFailed s t leaf q
-    unfolding leafFailed
+        → r ≡ onTo t₂ p → r ≡ afterFailedTry s t leaf q
+    unfolding afterFailedTry
     try-failed n t₁ t₂ p en e₁ e₂ ep e = cc
 
     module _ (v : Item) (ev : v ≡ valueOf q) (b : Bool) (eb : b ≡ itemLe (t .item) v) where
       leaf-test : b ≡ itemLe (t .item) (valueOf q)
       leaf-test = eb ∙ ap (itemLe (t .item)) ev
 
-      pub leaf-below : not b ≡ true → r ≡ leafFailed s t leaf q → r ≡ leafRead s t leaf q
-      unfolding leafRead pick
+      pub leaf-below : not b ≡ true → r ≡ afterFailedTry s t leaf q → r ≡ afterLeafRead s t leaf q
+      unfolding afterLeafRead pick
       leaf-below n e = rw (← leaf-test, not-true b n) e
 
       pub search-begins : not b ≡ false → (t₁ t₂ : Thread) → t₁ ≡ withSearch t (searching leaf (t .search .tries) 1 (t .depth))
-          → t₂ ≡ withFirst t₁ q → r ≡ searchOn t₂ → r ≡ leafRead s t leaf q
-      unfolding leafRead pick
+          → t₂ ≡ withFirst t₁ q → r ≡ searchOn t₂ → r ≡ afterLeafRead s t leaf q
+      unfolding afterLeafRead pick
       search-begins n t₁ t₂ e₁ e₂ e =
           rw (← leaf-test, not-false b n) (e ∙ ap searchOn (e₂ ∙ ap (λ x. withFirst x q) e₁))
 
@@ -140,11 +140,11 @@ module _ (s : Shape) (m : Shared) (t : Thread) (choice : ℕ) (r : Plan) (q : Bo
   unfolding readLeaf pick
   no-leaves n e = rw (← eq, not-true q n) e
 
-  pub leaf-reached : not q ≡ false → (l : ℕ) (x : NodeCopy) → l ≡ leafOf (t .depth) choice → x ≡ readNode m l → r ≡ leafRead s t l x
+  pub leaf-reached : not q ≡ false → (l : ℕ) (x : NodeCopy) → l ≡ leafOf (t .depth) choice → x ≡ readNode m l → r ≡ afterLeafRead s t l x
       → r ≡ readLeaf s m t choice
   unfolding readLeaf pick
   leaf-reached n l x el ex e =
-      rw (← eq, not-false q n) (e ∙ (λ i. leafRead s t (el i) ((ex ∙ ap (readNode m) el) i)))
+      rw (← eq, not-false q n) (e ∙ (λ i. afterLeafRead s t (el i) ((ex ∙ ap (readNode m) el) i)))
 
 -- I3.
 module _ (t : Thread) (middle : ℕ) (q : NodeCopy) (r : Plan) (v : Item) (ev : v ≡ valueOf q) (b : Bool) (eb : b ≡ itemLe (t .item) v)
@@ -153,13 +153,13 @@ module _ (t : Thread) (middle : ℕ) (q : NodeCopy) (r : Plan) (v : Item) (ev : 
   ancestor-test = eb ∙ ap (itemLe (t .item)) ev
 
   pub hi-moves : b ≡ true → t₁ ≡ withSearch t (searching (t .search .leaf) (t .search .tries) (t .search .lo) middle)
-      → r ≡ ancestorRead t middle q
-  unfolding ancestorRead pick
+      → r ≡ afterAncestorRead t middle q
+  unfolding afterAncestorRead pick
   hi-moves g e₁ = rw (← ancestor-test, g) (e ∙ ap searchOn (e₂ ∙ ap (λ x. withFirst x q) e₁))
 
   pub lo-moves : b ≡ false → t₁ ≡ withSearch t (searching (t .search .leaf) (t .search .tries) (middle + 1) (t .search .hi))
-      → r ≡ ancestorRead t middle q
-  unfolding ancestorRead pick
+      → r ≡ afterAncestorRead t middle q
+  unfolding afterAncestorRead pick
   lo-moves g e₁ = rw (← ancestor-test, g) (e ∙ ap searchOn (e₂ ∙ ap (λ x. withFirst x q) e₁))
 
 pub middle-halves : (t : Thread) → (t .search .lo + t .search .hi) / 2 ≡ middleLevel t
@@ -197,10 +197,10 @@ module _ (t : Thread) (h : Bool) (eh : h ≡ hasMiddle t) where
         omega (arith, between-most 1 k (level (t .search .leaf)) middle-between, level-most (t .search .leaf))
 
     pub middle-read : (m : Shared) (r : Plan) (a : ℕ) (q : NodeCopy) → a ≡ ancestor (t .search .leaf) k → q ≡ readNode m a
-        → r ≡ ancestorRead t k q → r ≡ readAncestor m t
+        → r ≡ afterAncestorRead t k q → r ≡ readAncestor m t
     unfolding readAncestor pick
     middle-read m r a q ea eq e =
-        rw (← eh, not-false h n, ← ek) (e ∙ ap (ancestorRead t k) (eq ∙ ap (readNode m) ea))
+        rw (← eh, not-false h n, ← ek) (e ∙ ap (afterAncestorRead t k) (eq ∙ ap (readNode m) ea))
 
 -- I4.
 module _ (f : Frame) (b : List ℕ) (t : Thread) (r : Plan) (p : Bool) (ep : p ≡ isLevel (f .shape) (t .depth)) where

@@ -30,7 +30,7 @@ unfoldable pub readDepth : Shared → Thread → Plan
 readDepth m t =
     onTo (withSearch (withDepth t (m .depth)) (searching (t .search .leaf) 0 (t .search .lo) (t .search .hi))) ReadLeaf
 
--- "Search: while lo < hi, I3 .. Then node = ancestor at hi; to I5." t has lo and hi put anew; a level that the leaf does not have is
+-- "Search: while lo < hi, I3 .. Then node = ancestor at hi; to I5." t has its new lo and hi; a level that the leaf does not have is
 -- refused 7 (line 18)
 unfoldable pub searchOn : Thread → Plan
 searchOn t =
@@ -55,33 +55,33 @@ unfoldable pub failedPlace : Shape → Thread → Place
 unfolding nextTries
 failedPlace s t = pick (ltb (nextTries s t) (s .threshold)) ReadLeaf (pick (ltb (t .depth) (s .depth)) GrowDepth ReadDepth)
 
-unfoldable pub leafFailed : Shape → Thread → ℕ → NodeCopy → Plan
+unfoldable pub afterFailedTry : Shape → Thread → ℕ → NodeCopy → Plan
 unfolding nextTries failedPlace
-leafFailed s t leaf q =
+afterFailedTry s t leaf q =
     onTo (withFirst (withSearch t (searching leaf (nextTries s t) (t .search .lo) (t .search .hi))) q) (failedPlace s t)
 
 -- "If val ≥ v: lo 1, hi d, search."
-unfoldable pub leafRead : Shape → Thread → ℕ → NodeCopy → Plan
-unfolding searchOn leafFailed
-leafRead s t leaf q =
+unfoldable pub afterLeafRead : Shape → Thread → ℕ → NodeCopy → Plan
+unfolding searchOn afterFailedTry
+afterLeafRead s t leaf q =
     pick
     (itemLe (t .item) (valueOf q))
     (searchOn (withFirst (withSearch t (searching leaf (t .search .tries) 1 (t .depth))) q))
-    (leafFailed s t leaf q)
+    (afterFailedTry s t leaf q)
 
 -- I2 (lines 16 to 20); d outside 1..D is refused 7
 unfoldable pub readLeaf : Shape → Shared → Thread → ℕ → Plan
-unfolding leafOf leafRead
+unfolding leafOf afterLeafRead
 readLeaf s m t choice =
     pick
     (isLevel s (t .depth))
-    (leafRead s t (leafOf (t .depth) choice) (readNode m (leafOf (t .depth) choice)))
+    (afterLeafRead s t (leafOf (t .depth) choice) (readNode m (leafOf (t .depth) choice)))
     (refused t unreadable)
 
 -- "val ≥ v sets hi to it, else lo to it + 1."
-unfoldable pub ancestorRead : Thread → ℕ → NodeCopy → Plan
+unfoldable pub afterAncestorRead : Thread → ℕ → NodeCopy → Plan
 unfolding searchOn
-ancestorRead t middle q =
+afterAncestorRead t middle q =
     searchOn
     (withFirst
     (withSearch t
@@ -95,21 +95,21 @@ ancestorRead t middle q =
 unfoldable pub middleLevel : Thread → ℕ
 middleLevel t = (t .search .lo + t .search .hi) / 2
 
--- lo is below hi, and the level in their middle is one of the leaf's, 1 to its own; a leaf 0 has none
+-- lo is below hi, and the level halfway is one that the leaf has, 1 to its own level; leaf 0 has none
 unfoldable pub hasMiddle : Thread → Bool
 unfolding middleLevel
 hasMiddle t = ltb (t .search .lo) (t .search .hi) && between 1 (middleLevel t) (level (t .search .leaf))
 
 -- I3 "READs the leaf's ancestor at level floor((lo+hi)/2)" (line 18); lo not below hi, no leaf, or no such level is refused 7
 unfoldable pub readAncestor : Shared → Thread → Plan
-unfolding middleLevel hasMiddle ancestorRead
+unfolding middleLevel hasMiddle afterAncestorRead
 readAncestor m t =
     pick
     (hasMiddle t)
-    (ancestorRead t (middleLevel t) (readNode m (ancestor (t .search .leaf) (middleLevel t))))
+    (afterAncestorRead t (middleLevel t) (readNode m (ancestor (t .search .leaf) (middleLevel t))))
     (refused t unreadable)
 
--- I4 "CAS depth from d to d + 1; to I1 either way." (line 19); d or d + 1 no level is refused 7
+-- I4 "CAS depth from d to d + 1; to I1 either way." (line 19); refused 7 where d or d + 1 is no level
 unfoldable pub growDepth : Shape → Shared → Thread → Plan
 growDepth s m t =
     pick
@@ -131,7 +131,7 @@ readTarget m t =
     (refused t unreadable)
     (onTo (withFirst t (readNode m (t .node))) (targetPlace t (readNode m (t .node))))
 
--- the update of I6 and I8 at node n, where its comparison came out so: "own cell as new head. Failure: I1.", "A put keeps the dirty bit
+-- the update of I6 and I8 at node n; `holds` says whether its comparison held: "own cell as new head. Failure: I1.", "A put keeps the dirty bit
 -- it found." (lines 6, 8 and 12)
 unfoldable pub insertAt : Thread → ℕ → Bool → Plan
 insertAt t n holds =

@@ -4,7 +4,7 @@ ghost use Prim.Native.Nat.{_≤_};
 ghost use lib.ListN.{length};
 ghost use Rattle.region.specs.Inner.{Within};
 ghost use Rattle.region.specs.Shared.{sharedIn};
-ghost use Rattle.insert.specs.Insert.{ancestorRead, nodeAndParentSame, failedPlace, growDepth, hasMiddle, insertAt, insertAtRoot, insertBelow, leafFailed, leafOf, leafRead, middleLevel, nextTries, readAncestor, readDepth, readLeaf, readParent, readTarget, searchOn, targetPlace};
+ghost use Rattle.insert.specs.Insert.{afterAncestorRead, nodeAndParentSame, failedPlace, growDepth, hasMiddle, insertAt, insertAtRoot, insertBelow, afterFailedTry, leafOf, afterLeafRead, middleLevel, nextTries, readAncestor, readDepth, readLeaf, readParent, readTarget, searchOn, targetPlace};
 use access::Effect;
 use access::Plan;
 use region::Answer;
@@ -80,8 +80,8 @@ fn failed_place(shape: Shape, t: Thread) -> Place
 }
 
 // The leaf's value is below the item.
-fn leaf_failed(shape: Shape, t: Thread, leaf: u32, q: NodeCopy) -> Plan
-    ensures { λ r. ⌜ r ≡ leafFailed shape t leaf q ⌝ }
+fn after_failed_try(shape: Shape, t: Thread, leaf: u32, q: NodeCopy) -> Plan
+    ensures { λ r. ⌜ r ≡ afterFailedTry shape t leaf q ⌝ }
 {
     let old = t.search;
     let search = Search {
@@ -94,11 +94,11 @@ fn leaf_failed(shape: Shape, t: Thread, leaf: u32, q: NodeCopy) -> Plan
 }
 
 // The leaf was read: the search begins, or the try failed.
-fn leaf_read(shape: Shape, t: Thread, leaf: u32, q: NodeCopy) -> Plan
-    ensures { λ r. ⌜ r ≡ leafRead shape t leaf q ⌝ }
+fn after_leaf_read(shape: Shape, t: Thread, leaf: u32, q: NodeCopy) -> Plan
+    ensures { λ r. ⌜ r ≡ afterLeafRead shape t leaf q ⌝ }
 {
     if !access::item_le(t.item, access::value_of(q)) {
-        return leaf_failed(shape, t, leaf, q);
+        return after_failed_try(shape, t, leaf, q);
     }
     let search = Search {
         leaf,
@@ -119,13 +119,13 @@ pub fn read_leaf(f: Frame, b: &[u8], t: Thread, choice: u32) -> Plan
         return access::refused(t, UNREADABLE);
     }
     let leaf = leaf_of(t.depth, choice);
-    leaf_read(shape, t, leaf, access::read_node(f, b, leaf))
+    after_leaf_read(shape, t, leaf, access::read_node(f, b, leaf))
 }
 
 // The ancestor at this level was read: one of the levels between which the search looks moves.
-fn ancestor_read(t: Thread, middle: u32, q: NodeCopy) -> Plan
+fn after_ancestor_read(t: Thread, middle: u32, q: NodeCopy) -> Plan
     requires { ⌜ middle ≤ 32 ⌝ }
-    ensures { λ r. ⌜ r ≡ ancestorRead t middle q ⌝ }
+    ensures { λ r. ⌜ r ≡ afterAncestorRead t middle q ⌝ }
 {
     let old = t.search;
     if access::item_le(t.item, access::value_of(q)) {
@@ -139,7 +139,7 @@ fn ancestor_read(t: Thread, middle: u32, q: NodeCopy) -> Plan
     search_on(t.with_search(search).with_first(q))
 }
 
-// The level in the middle of the search.
+// The level halfway between those of the search.
 fn middle_level(t: Thread) -> u32
     ensures { λ r. ⌜ r ≡ middleLevel t ⌝ }
 {
@@ -149,7 +149,7 @@ fn middle_level(t: Thread) -> u32
     middle as u32
 }
 
-// Whether the search goes on, with a level in its middle that the leaf has.
+// Whether the search goes on, and the level halfway is one that the leaf has.
 fn has_middle(t: Thread) -> bool
     ensures { λ r. ⌜ r ≡ hasMiddle t ⌝ }
 {
@@ -169,7 +169,7 @@ pub fn read_ancestor(f: Frame, b: &[u8], t: Thread) -> Plan
     }
     let middle = middle_level(t);
     let node = region::ancestor_at(t.search.leaf, middle);
-    ancestor_read(t, middle, access::read_node(f, b, node))
+    after_ancestor_read(t, middle, access::read_node(f, b, node))
 }
 
 // I4
@@ -220,7 +220,7 @@ pub fn read_target(f: Frame, b: &[u8], t: Thread) -> Plan
     access::on_to(t.with_first(q), target_place(t, q))
 }
 
-// The update of I6 and I8 at node n, where its comparison came out so.
+// The update of I6 and I8 at node n; `holds` says whether its comparison held.
 fn insert_at(t: Thread, n: u32, holds: bool) -> Plan
     ensures { λ r. ⌜ r ≡ insertAt t n holds ⌝ }
 {

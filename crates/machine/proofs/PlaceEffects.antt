@@ -18,13 +18,13 @@ use Rattle.region.specs.declared.shape.Shape.{Shape}
 use Rattle.region.specs.declared.thread.Thread.{Thread}
 use Rattle.access.specs.Effect.{effectBytes}
 use Rattle.access.specs.Inner.{cleaning, exchanging, growing, kindOf, ofKind, popping, pushing, reading}
-use Rattle.access.specs.Plan.{plan, moved, onTo, refused, ends, staysPut}
+use Rattle.access.specs.Plan.{plan, moved, onTo, refused, ends, changesNothing}
 use Rattle.access.specs.declared.effect.Effect.{Effect}
 use Rattle.access.specs.declared.effect.Effect.the-variants.{Nothing, Grow, Push, Pop, Exchange, Clean}
 use Rattle.access.specs.declared.plan.Plan.{Plan}
-use Rattle.insert.specs.Insert.{ancestorRead, growDepth, insertAt, insertAtRoot, insertBelow, leafFailed, leafRead, readAncestor, readDepth, readLeaf, readParent, readTarget, searchOn}
-use Rattle.extract.specs.Extract.{headRemoved, readRoot, removeHead, rootRead}
-use Rattle.moundify.specs.Moundify.{childrenRead, cleanAt, depthRead, exchangeAt, exchangeWith, mendClean, mendSwap, mendReadDepth, mendReadLeft, mendReadNode, mendReadRight, returning, returned, returnAnswer}
+use Rattle.insert.specs.Insert.{afterAncestorRead, growDepth, insertAt, insertAtRoot, insertBelow, afterFailedTry, afterLeafRead, readAncestor, readDepth, readLeaf, readParent, readTarget, searchOn}
+use Rattle.extract.specs.Extract.{afterRemoval, readRoot, removeHead, afterRootRead}
+use Rattle.moundify.specs.Moundify.{afterChildrenRead, cleanAt, afterDepthRead, exchangeAt, exchangeWith, mendClean, mendSwap, mendReadDepth, mendReadLeft, mendReadNode, mendReadRight, returning, returned, returnAnswer}
 use Rattle.turns.specs.Inner.{recordBytes}
 use Rattle.machine.specs.Turn.{carriedOut, decideAt}
 
@@ -82,11 +82,11 @@ module _ {k : ℕ} {t : Thread} where
   goes : Fits k (record { effect = Nothing; thread = t; answer = Moved })
   goes = on none
 
-  stops : {a : Answer} → staysPut a ≡ true → Fits k (record { effect = Nothing; thread = t; answer = a })
+  stops : {a : Answer} → changesNothing a ≡ true → Fits k (record { effect = Nothing; thread = t; answer = a })
   unfolding effectBytes recordBytes carriedOut pick
   stops g = let h : OfKind k Nothing = none in record { carried = λ f b n. rw (h .same, g) refl }
 
-rests : {k : ℕ} {e : Effect} (t : Thread) {a : Answer} → OfKind k e → staysPut a ≡ false → ends a ≡ true
+rests : {k : ℕ} {e : Effect} (t : Thread) {a : Answer} → OfKind k e → changesNothing a ≡ false → ends a ≡ true
     → Fits k (record { effect = e; thread = goneIdle t; answer = a })
 unfolding recordBytes carriedOut goneIdle pick
 rests t h g e = record { carried = λ f b n. rw (h .same, g, e) refl }
@@ -112,7 +112,7 @@ exchanged s m t w c k = or _ (or _ (or _ (stops refl) (on (itself (Exchange _ _ 
 
 -- The plan of every place.
 pub plan-fits : (s : Shape) (m : Shared) (t : Thread) (c : ℕ) (z : Place) → Fits (kindAt z) (decideAt s m t c z)
-unfolding plan moved onTo refused readDepth readLeaf leafRead leafFailed searchOn readAncestor ancestorRead growDepth readTarget insertAtRoot insertAt readParent insertBelow readRoot rootRead removeHead headRemoved mendReadNode mendReadDepth depthRead mendReadLeft mendReadRight childrenRead mendSwap exchangeWith exchangeAt mendClean cleanAt
+unfolding plan moved onTo refused readDepth readLeaf afterLeafRead afterFailedTry searchOn readAncestor afterAncestorRead growDepth readTarget insertAtRoot insertAt readParent insertBelow readRoot afterRootRead removeHead afterRemoval mendReadNode mendReadDepth afterDepthRead mendReadLeft mendReadRight afterChildrenRead mendSwap exchangeWith exchangeAt mendClean cleanAt
 plan-fits s m t c Idle = stops refl
 plan-fits s m t c ReadDepth = goes
 plan-fits s m t c ReadLeaf =

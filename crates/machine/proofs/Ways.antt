@@ -27,7 +27,7 @@ use Rattle.turns.specs.Inner.{Ended}
 use Rattle.machine.specs.Turn.{Turned, TurnedOn, carriedOut, decide, decideAt, turnAnswer, turnBytes, turnOnAnswer, turnOnBytes, turnPlan}
 use Rattle.machine.proofs.PlaceEffects.{kindAt, plan-fits}
 
--- A turn: refused for want of a thread, idle, or the plan that the thread's place decides is carried out.
+-- A turn: refused where there is no such thread, idle, or the plan that the thread's place decides is carried out.
 module _ (f : Frame) (b : List ℕ) (t c : ℕ) where
   -- a thread that does not exist stands nowhere
   nobody : between 1 t (f .shape .threads) ≡ false → threadIn f b t ≡ idleThread 0

@@ -16,7 +16,7 @@ use Rattle.region.specs.declared.shape.Shape.{Shape}
 use Rattle.region.specs.declared.thread.Thread.{Thread}
 use Rattle.access.specs.Effect.{effectBytes}
 use Rattle.access.specs.Plan.{plan, refused}
-pub use Rattle.access.specs.Plan.{ends, staysPut}
+pub use Rattle.access.specs.Plan.{ends, changesNothing}
 use Rattle.access.specs.declared.effect.Effect.the-variants.{Nothing}
 use Rattle.access.specs.declared.plan.Plan.{Plan}
 use Rattle.readable.specs.Readable.{frameIn, readable}
@@ -63,7 +63,7 @@ turnAnswer f b t c = turnPlan f b t c .answer
 
 -- the region afterwards: the thread's record is stored and the effect carried out, or no byte changes
 unfoldable pub carriedOut : Frame → List ℕ → ℕ → Plan → List ℕ
-carriedOut f b t p = pick (staysPut (p .answer)) b (effectBytes f (setThreadIn f b t (p .thread)) (p .effect))
+carriedOut f b t p = pick (changesNothing (p .answer)) b (effectBytes f (setThreadIn f b t (p .thread)) (p .effect))
 
 unfoldable pub turnBytes : Frame → List ℕ → ℕ → ℕ → List ℕ
 unfolding turnPlan carriedOut

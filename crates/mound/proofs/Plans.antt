@@ -36,11 +36,11 @@ use Rattle.access.specs.declared.effect.Effect.the-variants.{Nothing, Grow, Pus
 use Rattle.access.specs.declared.plan.Plan.{Plan}
 use Rattle.access.proofs.OrderLaws.{item-not-less, item-refl, item-total, item-trans}
 use Rattle.access.proofs.ReadLaws.{is-clean, is-dirty, same-node}
-use Rattle.insert.specs.Insert.{searching, readDepth, searchOn, leafOf, nextTries, failedPlace, leafFailed, leafRead, readLeaf, ancestorRead, middleLevel, hasMiddle, readAncestor, growDepth, targetPlace, readTarget, insertAt, insertAtRoot, readParent, nodeAndParentSame, insertBelow}
+use Rattle.insert.specs.Insert.{searching, readDepth, searchOn, leafOf, nextTries, failedPlace, afterFailedTry, afterLeafRead, readLeaf, afterAncestorRead, middleLevel, hasMiddle, readAncestor, growDepth, targetPlace, readTarget, insertAt, insertAtRoot, readParent, nodeAndParentSame, insertBelow}
 use Rattle.insert.proofs.Laws.{node-same, parent-same}
-use Rattle.extract.specs.Extract.{rootRead, readRoot, headRemoved, removeHead}
-use Rattle.moundify.specs.Moundify.{returning, mendReadNode, depthRead, mendReadDepth, mendReadLeft, marked, lessBelow, childLess, childrenRead, mendReadRight, exchangeAt, nodeAndChildSame, exchangeWith, mendSwap, cleanAt, mendClean, returned, returnAnswer}
-use Rattle.machine.specs.Turn.{decide, decideAt, staysPut}
+use Rattle.extract.specs.Extract.{afterRootRead, readRoot, afterRemoval, removeHead}
+use Rattle.moundify.specs.Moundify.{returning, mendReadNode, afterDepthRead, mendReadDepth, mendReadLeft, marked, lessBelow, childLess, afterChildrenRead, mendReadRight, exchangeAt, nodeAndChildSame, exchangeWith, mendSwap, cleanAt, mendClean, returned, returnAnswer}
+use Rattle.machine.specs.Turn.{decide, decideAt, changesNothing}
 use Rattle.mound.specs.Ledger.{Operation, none, putting, taking, holding}
 use Rattle.mound.proofs.Effects.{Mound, PushAllowed, PopAllowed, ExchangeAllowed, CleanAllowed, in-tree}
 use Rattle.mound.proofs.Facts.{At, AnyValue, Child, ChildRead, Dirty, InTree, Inner, LevelRead, Mended, Mends, Parent, Puts, RootRead, Searching, Sound, Swappable, Takes, Target, mendingFor, sound-read}
@@ -71,7 +71,7 @@ pub data OperationAfter (m : Shared) (op op′ : Operation) : Effect → Answer 
   cleans-answers : {n : ℕ} {v : Node} {i : Item} → op ≡ holding i → op′ ≡ none → OperationAfter m op op′ (Clean n v) (Took i)
 
 -- an effect that speaks is carried out
-pub operation-moves : {m : Shared} {op op′ : Operation} {e : Effect} {a : Answer} → OperationAfter m op op′ e a → staysPut a ≡ false
+pub operation-moves : {m : Shared} {op op′ : Operation} {e : Effect} {a : Answer} → OperationAfter m op op′ e a → changesNothing a ≡ false
 operation-moves (reads k) = refl
 operation-moves (grows k) = refl
 operation-moves (swaps k) = refl
@@ -225,7 +225,7 @@ module _ (s : Shape) (r : InRange s) (m : Shared) (own : ℕ → ℕ) {all : ℕ
           level-at-least leaf (th .depth) (leaf-in-tree .0) (few-nodes leaf (leaf-in-tree .1)) (omega arith)
 
       leaf-planned : Fits (readLeaf s m th choice)
-      unfolding readLeaf leafRead leafFailed failedPlace withFirst withCopies withSearch
+      unfolding readLeaf afterLeafRead afterFailedTry failedPlace withFirst withCopies withSearch
       leaf-planned =
           let leaf = leafOf (th .depth) choice in
           let q = readNode m leaf in
@@ -258,7 +258,7 @@ module _ (s : Shape) (r : InRange s) (m : Shared) (own : ℕ → ℕ) {all : ℕ
         (is-between 1 (middleLevel th) (level (th .search .leaf)) (omega (arith, x .lo, x .below)) (omega (arith, x .below, x .hi)))
 
     ancestor-planned : Fits (readAncestor m th)
-    unfolding readAncestor ancestorRead middleLevel withFirst withCopies withSearch
+    unfolding readAncestor afterAncestorRead middleLevel withFirst withCopies withSearch
     ancestor-planned =
         pick-good Fits (hasMiddle th)
         (λ e. let q = readNode m (ancestor (th .search .leaf) (middleLevel th)) in
@@ -352,7 +352,7 @@ module _ (s : Shape) (r : InRange s) (m : Shared) (own : ℕ → ℕ) {all : ℕ
 
   -- E1
   root-planned : Takes m th taking op → Fits (readRoot m th)
-  unfolding readRoot rootRead withFirst withCopies withAfter plan goneIdle readNode pick
+  unfolding readRoot afterRootRead withFirst withCopies withAfter plan goneIdle readNode pick
   root-planned h =
       let q = readNode m 1 in
       pick-good Fits (isDirty (q .node))
@@ -365,7 +365,7 @@ module _ (s : Shape) (r : InRange s) (m : Shared) (own : ℕ → ℕ) {all : ℕ
 
   -- E2
   head-planned : Takes m th taking op → RootRead m (th .copies .first) → Fits (removeHead m th)
-  unfolding removeHead headRemoved plan mending atPlace withNode withAfter withResult pick
+  unfolding removeHead afterRemoval plan mending atPlace withNode withAfter withResult pick
   head-planned h a =
       let q = th .copies .first in
       pick-good Fits (sameNode (m .node 1) (q .node))
@@ -437,7 +437,7 @@ module _ (s : Shape) (r : InRange s) (m : Shared) (own : ℕ → ℕ) {all : ℕ
         )
 
     mend-depth-planned : Mends m th op → Sound m (th .node) (th .copies .first) → Fits (mendReadDepth m th w)
-    unfolding mendReadDepth depthRead withDepth
+    unfolding mendReadDepth afterDepthRead withDepth
     mend-depth-planned h a =
         let n = th .node in
         let q = th .copies .first in
@@ -533,8 +533,8 @@ module _ (s : Shape) (r : InRange s) (m : Shared) (own : ℕ → ℕ) {all : ℕ
           let same : val m (u .node) ≡ x₁ = ap valueOf (a .0 .sound .same e) in
           (now .0, λ v any lv. now .1 v (item-trans v x₁ (valueOf k) (subst (AtMost v) same lv) l) lv)
 
-      children-planned : Fits (childrenRead u w)
-      unfolding childrenRead
+      children-planned : Fits (afterChildrenRead u w)
+      unfolding afterChildrenRead
       children-planned =
           let n = u .node in
           pick-good Fits (isDirty (u .copies .second .node))

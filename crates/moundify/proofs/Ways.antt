@@ -31,7 +31,7 @@ use Rattle.access.specs.Read.{isDirty, isNode, isSpent, readNode, sameNode, upd
 use Rattle.access.specs.declared.effect.Effect.{Effect}
 use Rattle.access.specs.declared.effect.Effect.the-variants.{Nothing, Exchange, Clean}
 use Rattle.access.specs.declared.plan.Plan.{Plan}
-use Rattle.moundify.specs.Moundify.{nodeAndChildSame, childLess, childrenRead, cleanAt, depthRead, exchangeAt, exchangeWith, lessBelow, marked, mendClean, mendReadDepth, mendReadLeft, mendReadNode, mendReadRight, mendSwap, returning, returned, returnAnswer}
+use Rattle.moundify.specs.Moundify.{nodeAndChildSame, childLess, afterChildrenRead, cleanAt, afterDepthRead, exchangeAt, exchangeWith, lessBelow, marked, mendClean, mendReadDepth, mendReadLeft, mendReadNode, mendReadRight, mendSwap, returning, returned, returnAnswer}
 use Rattle.moundify.specs.Inner.{ChildrenAsked}
 
 -- The return.
@@ -54,34 +54,34 @@ module _ (m : Shared) (t : Thread) (w : ℕ) (r : Plan) where
 
 -- M2.
 module _ (t u : Thread) (d w : ℕ) (eu : u ≡ withDepth t d) (q : Bool) (eq : q ≡ isDirty (t .copies .first .node)) (r : Plan) where
-  pub clean-already : not q ≡ true → r ≡ returning Nothing u w → r ≡ depthRead t d w
-  unfolding depthRead pick
+  pub clean-already : not q ≡ true → r ≡ returning Nothing u w → r ≡ afterDepthRead t d w
+  unfolding afterDepthRead pick
   clean-already h er = rw (← eq, not-true q h) (er ∙ ap (λ y. returning Nothing y w) eu)
 
   module _ (h : not q ≡ false) where
-    pub dirty-without-node : t .node ≡ 0 → r ≡ refused t unreadable → r ≡ depthRead t d w
-    unfolding depthRead pick
+    pub dirty-without-node : t .node ≡ 0 → r ≡ refused t unreadable → r ≡ afterDepthRead t d w
+    unfolding afterDepthRead pick
     dirty-without-node z er = rw (← eq, not-false q h, eq-eqb (t .node) 0 z) er
 
     module _ (nz : t .node ≡ 0 → ⊥) (l : ℕ) (el : l ≡ level (t .node)) where
-      pub at-last-level : l ≡ d → r ≡ onTo u (MendClean w) → r ≡ depthRead t d w
-      unfolding depthRead pick
+      pub at-last-level : l ≡ d → r ≡ onTo u (MendClean w) → r ≡ afterDepthRead t d w
+      unfolding afterDepthRead pick
       at-last-level e er =
           rw
           (← eq, not-false q h, ne-eqb (t .node) 0 nz, ← el, eq-eqb l d e)
           (er ∙ ap (λ y. onTo y (MendClean w)) eu)
 
-      pub above-last-level : (l ≡ d → ⊥) → r ≡ onTo u (MendReadLeft w) → r ≡ depthRead t d w
-      unfolding depthRead pick
+      pub above-last-level : (l ≡ d → ⊥) → r ≡ onTo u (MendReadLeft w) → r ≡ afterDepthRead t d w
+      unfolding afterDepthRead pick
       above-last-level n er =
           rw
           (← eq, not-false q h, ne-eqb (t .node) 0 nz, ← el, ne-eqb l d n)
           (er ∙ ap (λ y. onTo y (MendReadLeft w)) eu)
 
-pub depth-seen : (f : Frame) (b : List ℕ) (t : Thread) (w : ℕ) (r : Plan) (d : ℕ) → d ≡ word b (f .depth) → r ≡ depthRead t d w
+pub depth-seen : (f : Frame) (b : List ℕ) (t : Thread) (w : ℕ) (r : Plan) (d : ℕ) → d ≡ word b (f .depth) → r ≡ afterDepthRead t d w
     → r ≡ mendReadDepth (sharedIn f b) t w
 unfolding mendReadDepth sharedIn
-depth-seen f b t w r d ed er = er ∙ ap (λ x. depthRead t x w) ed
+depth-seen f b t w r d ed er = er ∙ ap (λ x. afterDepthRead t x w) ed
 
 -- M3.
 pub node-fits : (f : Frame) (l : ℕ) → Within f l → (n : ℕ) (q : Bool) → q ≡ isNode (f .shape) n → not q ≡ false → n < 2 ^ 32
@@ -150,25 +150,25 @@ module _ (t : Thread) (l : ℕ) (el : l ≡ level (t .node)) where
 
 module _ (t : Thread) (w : ℕ) (q : Bool) (eq : q ≡ isDirty (t .copies .second .node)) (r : Plan) where
   pub left-first : q ≡ true → (l x : ℕ) (u : Thread) → l ≡ level (t .node) → x ≡ marked w l → u ≡ mending t (2 * t .node) x
-      → r ≡ moved u → r ≡ childrenRead t w
-  unfolding childrenRead pick
+      → r ≡ moved u → r ≡ afterChildrenRead t w
+  unfolding afterChildrenRead pick
   left-first h l x u el ex eu er =
       rw (← eq, h) (er ∙ ap moved (eu ∙ ap (mending t (2 * t .node)) (ex ∙ ap (marked w) el)))
 
   module _ (h : q ≡ false) (k : Bool) (ek : k ≡ isDirty (t .copies .third .node)) where
     pub right-first : k ≡ true → (l x : ℕ) (u : Thread) → l ≡ level (t .node) → x ≡ marked w l
-        → u ≡ mending t (2 * t .node + 1) x → r ≡ moved u → r ≡ childrenRead t w
-    unfolding childrenRead pick
+        → u ≡ mending t (2 * t .node + 1) x → r ≡ moved u → r ≡ afterChildrenRead t w
+    unfolding afterChildrenRead pick
     right-first g l x u el ex eu er =
         rw (← eq, h, ← ek, g) (er ∙ ap moved (eu ∙ ap (mending t (2 * t .node + 1)) (ex ∙ ap (marked w) el)))
 
     module _ (g : k ≡ false) (c : Bool) (ec : c ≡ childLess t) where
-      pub to-swap : c ≡ true → r ≡ onTo t (MendSwap w) → r ≡ childrenRead t w
-      unfolding childrenRead pick
+      pub to-swap : c ≡ true → r ≡ onTo t (MendSwap w) → r ≡ afterChildrenRead t w
+      unfolding afterChildrenRead pick
       to-swap p er = rw (← eq, h, ← ek, g, ← ec, p) er
 
-      pub to-clean : c ≡ false → r ≡ onTo t (MendClean w) → r ≡ childrenRead t w
-      unfolding childrenRead pick
+      pub to-clean : c ≡ false → r ≡ onTo t (MendClean w) → r ≡ afterChildrenRead t w
+      unfolding afterChildrenRead pick
       to-clean p er = rw (← eq, h, ← ek, g, ← ec, p) er
 
 pub children-asked : (f : Frame) (l : ℕ) → Within f l → (t u : Thread) (k : NodeCopy) → (t .node ≡ 0 → ⊥) → (q : Bool)
@@ -190,12 +190,12 @@ module _ (s : Shape) (m : Shared) (t : Thread) (w : ℕ) (r : Plan) where
     no-right h er = rw (ne-eqb (t .node) 0 n, ← eq, not-true q h) er
 
     pub right-read : not q ≡ false → (k : NodeCopy) (u : Thread) → k ≡ readNode m (2 * t .node + 1) → u ≡ withThird t k
-        → r ≡ childrenRead u w → r ≡ mendReadRight s m t w
+        → r ≡ afterChildrenRead u w → r ≡ mendReadRight s m t w
     unfolding mendReadRight pick
     right-read h k u ek eu er =
         rw
         (ne-eqb (t .node) 0 n, ← eq, not-false q h)
-        (er ∙ ap (λ y. childrenRead y w) (eu ∙ ap (withThird t) ek))
+        (er ∙ ap (λ y. afterChildrenRead y w) (eu ∙ ap (withThird t) ek))
 
 -- M5.
 module _ (t : Thread) (w c : ℕ) (below : Node) (holds : Bool) (r : Plan) where

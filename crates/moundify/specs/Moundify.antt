@@ -47,9 +47,9 @@ mendReadNode m t w =
 
 -- "clean returns; level d goes to M6; else M3" (lines 35 and 36). A clean copy returns whatever the node; only a dirty one asks for the
 -- node's level, and node 0 has none: refused 7
-unfoldable pub depthRead : Thread → ℕ → ℕ → Plan
+unfoldable pub afterDepthRead : Thread → ℕ → ℕ → Plan
 unfolding returning
-depthRead t d w =
+afterDepthRead t d w =
     pick
     (isDirty (t .copies .first .node))
     (pick
@@ -60,8 +60,8 @@ depthRead t d w =
 
 -- M2 "READ depth into d" (line 34): its access names no node
 unfoldable pub mendReadDepth : Shared → Thread → ℕ → Plan
-unfolding depthRead
-mendReadDepth m t w = depthRead t (m .depth) w
+unfolding afterDepthRead
+mendReadDepth m t w = afterDepthRead t (m .depth) w
 
 -- M3 "READ 2n." (line 37); node 0 and a child not in the tree are refused 7, here and below
 unfoldable pub mendReadLeft : Shape → Shared → Thread → ℕ → Plan
@@ -85,9 +85,9 @@ unfolding lessBelow
 childLess t = lessBelow (valueOf (t .copies .first)) (valueOf (t .copies .second)) (valueOf (t .copies .third))
 
 -- "left dirty, n's level waits, mend 2n; else right dirty likewise; else .. M5; else M6" (lines 39 to 56)
-unfoldable pub childrenRead : Thread → ℕ → Plan
+unfoldable pub afterChildrenRead : Thread → ℕ → Plan
 unfolding marked childLess
-childrenRead t w =
+afterChildrenRead t w =
     pick
     (isDirty (t .copies .second .node))
     (moved (mending t (2 * t .node) (marked w (level (t .node)))))
@@ -98,15 +98,15 @@ childrenRead t w =
 
 -- M4 "READ 2n + 1" (line 38)
 unfoldable pub mendReadRight : Shape → Shared → Thread → ℕ → Plan
-unfolding childrenRead
+unfolding afterChildrenRead
 mendReadRight s m t w =
     pick
     (not (eqb (t .node) 0) && isNode s (2 * t .node + 1))
-    (childrenRead (withThird t (readNode m (2 * t .node + 1))) w)
+    (afterChildrenRead (withThird t (readNode m (2 * t .node + 1))) w)
     (refused t unreadable)
 
 -- "n gets the child's list, clean; the child gets n's list, dirty. Success: mend the child. Failure: M1." c is the child, k its copied
--- node; where its comparison came out so (lines 46 to 54)
+-- node; `holds` says whether the comparison held (lines 46 to 54)
 unfoldable pub exchangeAt : Thread → ℕ → ℕ → Node → Bool → Plan
 exchangeAt t w c k holds =
     pick

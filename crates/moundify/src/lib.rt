@@ -5,7 +5,7 @@ ghost use lib.ListN.{length};
 ghost use Rattle.region.specs.Inner.{Within};
 ghost use Rattle.region.specs.Pick.{pick};
 ghost use Rattle.region.specs.Shared.{sharedIn};
-ghost use Rattle.moundify.specs.Moundify.{nodeAndChildSame, childLess, childrenRead, cleanAt, depthRead, exchangeAt, exchangeWith, marked, mendClean, mendReadDepth, mendReadLeft, mendReadNode, mendReadRight, mendSwap, returnAnswer, returned, returning};
+ghost use Rattle.moundify.specs.Moundify.{nodeAndChildSame, childLess, afterChildrenRead, cleanAt, afterDepthRead, exchangeAt, exchangeWith, marked, mendClean, mendReadDepth, mendReadLeft, mendReadNode, mendReadRight, mendSwap, returnAnswer, returned, returning};
 ghost use Rattle.moundify.specs.Inner.{ChildrenAsked};
 use access::Effect;
 use access::Plan;
@@ -65,9 +65,9 @@ pub fn mend_read_node(f: Frame, b: &[u8], t: Thread, w: u32) -> Plan
     access::on_to(t.with_first(q), Place::MendReadDepth(w))
 }
 
-// The depth was read: the copy is clean, whatever the node, or its node is at the tree's last level, or above it.
-fn depth_read(t: Thread, d: u32, w: u32) -> Plan
-    ensures { λ r. ⌜ r ≡ depthRead t d w ⌝ }
+// The depth was read: a clean copy returns, whatever the node; a node at the last level goes on to M6, any other to M3.
+fn after_depth_read(t: Thread, d: u32, w: u32) -> Plan
+    ensures { λ r. ⌜ r ≡ afterDepthRead t d w ⌝ }
 {
     let kept = t.with_depth(d);
     if !access::is_dirty(t.copies.first.node) {
@@ -87,7 +87,7 @@ pub fn mend_read_depth(f: Frame, b: &[u8], t: Thread, w: u32) -> Plan
     requires { ⌜ Within f (length (now b)) ⌝ }
     ensures { λ r. ⌜ r ≡ mendReadDepth (sharedIn f (now (b .entry))) t w ⌝ }
 {
-    depth_read(t, f.load_depth(b), w)
+    after_depth_read(t, f.load_depth(b), w)
 }
 
 // M3
@@ -129,9 +129,9 @@ fn child_less(t: Thread) -> bool
 }
 
 // The children were read: one is dirty and is mended first, or one is less, or the node may be cleaned.
-fn children_read(t: Thread, w: u32) -> Plan
+fn after_children_read(t: Thread, w: u32) -> Plan
     requires { ⌜ ChildrenAsked t ⌝ }
-    ensures { λ r. ⌜ r ≡ childrenRead t w ⌝ }
+    ensures { λ r. ⌜ r ≡ afterChildrenRead t w ⌝ }
 {
     if access::is_dirty(t.copies.second.node) {
         let waiting = marked(w, region::level_of(t.node));
@@ -160,10 +160,10 @@ pub fn mend_read_right(f: Frame, b: &[u8], t: Thread, w: u32) -> Plan
         return access::refused(t, UNREADABLE);
     }
     let q = access::read_node(f, b, right as u32);
-    children_read(t.with_third(q), w)
+    after_children_read(t.with_third(q), w)
 }
 
-// The exchange of the node's list and its child's, where the comparison came out so.
+// The exchange of the node's list and its child's; `holds` says whether the comparison held.
 fn exchange_at(t: Thread, w: u32, c: u32, k: Node, holds: bool) -> Plan
     ensures { λ r. ⌜ r ≡ exchangeAt t w c k holds ⌝ }
 {

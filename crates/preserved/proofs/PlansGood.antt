@@ -34,9 +34,9 @@ use Rattle.access.specs.Read.{isDirty, isLevel, isNode, isSpent, readNode, same
 use Rattle.access.specs.declared.effect.Effect.{Effect}
 use Rattle.access.specs.declared.effect.Effect.the-variants.{Nothing, Grow, Push, Pop, Exchange, Clean}
 use Rattle.access.specs.declared.plan.Plan.{Plan}
-use Rattle.insert.specs.Insert.{searching, readDepth, searchOn, leafOf, nextTries, failedPlace, leafFailed, leafRead, readLeaf, ancestorRead, middleLevel, hasMiddle, readAncestor, growDepth, targetPlace, readTarget, insertAt, insertAtRoot, readParent, insertBelow}
-use Rattle.extract.specs.Extract.{rootRead, readRoot, headRemoved, removeHead}
-use Rattle.moundify.specs.Moundify.{returning, mendReadNode, depthRead, mendReadDepth, mendReadLeft, marked, childLess, childrenRead, mendReadRight, exchangeAt, nodeAndChildSame, exchangeWith, mendSwap, cleanAt, mendClean, returned, returnAnswer}
+use Rattle.insert.specs.Insert.{searching, readDepth, searchOn, leafOf, nextTries, failedPlace, afterFailedTry, afterLeafRead, readLeaf, afterAncestorRead, middleLevel, hasMiddle, readAncestor, growDepth, targetPlace, readTarget, insertAt, insertAtRoot, readParent, insertBelow}
+use Rattle.extract.specs.Extract.{afterRootRead, readRoot, afterRemoval, removeHead}
+use Rattle.moundify.specs.Moundify.{returning, mendReadNode, afterDepthRead, mendReadDepth, mendReadLeft, marked, childLess, afterChildrenRead, mendReadRight, exchangeAt, nodeAndChildSame, exchangeWith, mendSwap, cleanAt, mendClean, returned, returnAnswer}
 use Rattle.readable.proofs.Stores.{NodeGood, CopyGood, FieldsGood, WaitsAbove, PlaceGood, ThreadGood, SharedGood, idle-good}
 use Rattle.preserved.proofs.TreeLevels.{waits-at-child, waits-marked, waits-returned}
 
@@ -228,9 +228,9 @@ module _ (s : Shape) (r : InRange s) (m : Shared) (sm : SharedGood s m) where
         let u = between-most 1 d (s .depth) e in
         omega (arith, mod-lt c (pow-pos (d - 1)), power-doubles d l, pow-mono {i = d} {j = s .depth} u)
 
-    pub leafFailed-good : (leaf : ℕ) → leaf ≤ nodeCount s → (q : NodeCopy) → CopyGood (s .cells) q → PlanGood s (leafFailed s t leaf q)
-    unfolding leafFailed failedPlace nextTries withFirst withSearch
-    leafFailed-good leaf hl q hq =
+    pub afterFailedTry-good : (leaf : ℕ) → leaf ≤ nodeCount s → (q : NodeCopy) → CopyGood (s .cells) q → PlanGood s (afterFailedTry s t leaf q)
+    unfolding afterFailedTry failedPlace nextTries withFirst withSearch
+    afterFailedTry-good leaf hl q hq =
         let x = searching leaf (nextTries s t) (t .search .lo) (t .search .hi) in
         let u = withFirst (withSearch t x) q in
         onTo-good s u
@@ -239,18 +239,18 @@ module _ (s : Shape) (r : InRange s) (m : Shared) (sm : SharedGood s m) where
         (pick-good (PlaceGood s u) (ltb (nextTries s t) (s .threshold)) (λ h. ltb-true (nextTries s t) (s .threshold) h)
         (λ h. pick-good (PlaceGood s u) (ltb (t .depth) (s .depth)) (λ k. tt) (λ k. tt)))
 
-    pub leafRead-good : (leaf : ℕ) → leaf ≤ nodeCount s → (q : NodeCopy) → CopyGood (s .cells) q → PlanGood s (leafRead s t leaf q)
-    unfolding leafRead
-    leafRead-good leaf hl q hq =
+    pub afterLeafRead-good : (leaf : ℕ) → leaf ≤ nodeCount s → (q : NodeCopy) → CopyGood (s .cells) q → PlanGood s (afterLeafRead s t leaf q)
+    unfolding afterLeafRead
+    afterLeafRead-good leaf hl q hq =
         pick-good (PlanGood s) (itemLe (t .item) (valueOf q))
         (λ h. searchOn-good _ (searched-good leaf 1 (t .depth) hl (r .depth-least) (g .depth) q hq))
-        (λ h. leafFailed-good leaf hl q hq)
+        (λ h. afterFailedTry-good leaf hl q hq)
 
     pub readLeaf-good : (c : ℕ) → PlanGood s (readLeaf s m t c)
     unfolding readLeaf
     readLeaf-good c =
         pick-good (PlanGood s) (isLevel s (t .depth))
-        (λ h. leafRead-good (leafOf (t .depth) c) (leaf-few (t .depth) c h) _ (read-good (leafOf (t .depth) c)))
+        (λ h. afterLeafRead-good (leafOf (t .depth) c) (leaf-few (t .depth) c h) _ (read-good (leafOf (t .depth) c)))
         (λ h. refused-good s t gt unreadable)
 
     -- I3: the middle lies below hi
@@ -260,9 +260,9 @@ module _ (s : Shape) (r : InRange s) (m : Shared) (sm : SharedGood s m) where
         let below = ltb-true (t .search .lo) (t .search .hi) (and-left (ltb (t .search .lo) (t .search .hi)) _ h) in
         omega (arith, below, g .hi)
 
-    pub ancestorRead-good : (j : ℕ) → j + 1 ≤ s .depth → (q : NodeCopy) → CopyGood (s .cells) q → PlanGood s (ancestorRead t j q)
-    unfolding ancestorRead
-    ancestorRead-good j hj q hq =
+    pub afterAncestorRead-good : (j : ℕ) → j + 1 ≤ s .depth → (q : NodeCopy) → CopyGood (s .cells) q → PlanGood s (afterAncestorRead t j q)
+    unfolding afterAncestorRead
+    afterAncestorRead-good j hj q hq =
         searchOn-good _
         (pick-good (λ z. ThreadGood s (withFirst (withSearch t z) q)) (itemLe (t .item) (valueOf q))
         (λ h. searched-good (t .search .leaf) (t .search .lo) j (g .leaf) (g .lo) (omega arith) q hq)
@@ -271,7 +271,7 @@ module _ (s : Shape) (r : InRange s) (m : Shared) (sm : SharedGood s m) where
     pub readAncestor-good : PlanGood s (readAncestor m t)
     unfolding readAncestor
     readAncestor-good =
-        pick-good (PlanGood s) (hasMiddle t) (λ h. ancestorRead-good (middleLevel t) (middle-few h) _ (read-good _))
+        pick-good (PlanGood s) (hasMiddle t) (λ h. afterAncestorRead-good (middleLevel t) (middle-few h) _ (read-good _))
         (λ h. refused-good s t gt unreadable)
 
     -- I4
@@ -338,7 +338,7 @@ module _ (s : Shape) (r : InRange s) (m : Shared) (sm : SharedGood s m) where
 
     -- E1 and E2
     pub readRoot-good : PlanGood s (readRoot m t)
-    unfolding readRoot rootRead
+    unfolding readRoot afterRootRead
     readRoot-good =
         let q = readNode m 1 in
         let f = fields-first s t g q (read-good 1) in
@@ -349,7 +349,7 @@ module _ (s : Shape) (r : InRange s) (m : Shared) (sm : SharedGood s m) where
         (λ k. onTo-good s (withFirst t q) f RemoveHead tt))
 
     pub removeHead-good : PlanGood s (removeHead m t)
-    unfolding removeHead headRemoved
+    unfolding removeHead afterRemoval
     removeHead-good =
         let q = t .copies .first in
         let f = fields-result s t g (q .head .item) (g .first .head .key) (g .first .head .tag) in
@@ -390,7 +390,7 @@ module _ (s : Shape) (r : InRange s) (m : Shared) (sm : SharedGood s m) where
 
       -- M2
       pub mendReadDepth-good : PlanGood s (mendReadDepth m t w)
-      unfolding mendReadDepth depthRead withDepth
+      unfolding mendReadDepth afterDepthRead withDepth
       mendReadDepth-good =
           let u = withDepth t (m .depth) in
           let f = fields-depth s t g (m .depth) (sm .depth-most) in
@@ -410,10 +410,10 @@ module _ (s : Shape) (r : InRange s) (m : Shared) (sm : SharedGood s m) where
           (λ h. refused-good s t gt unreadable)
 
       -- M4
-      pub childrenRead-good : (u : Thread) → FieldsGood s u → u .node ≡ t .node → 1 ≤ t .node → 2 * t .node + 1 ≤ nodeCount s
-          → PlanGood s (childrenRead u w)
-      unfolding childrenRead
-      childrenRead-good u gu en p l =
+      pub afterChildrenRead-good : (u : Thread) → FieldsGood s u → u .node ≡ t .node → 1 ≤ t .node → 2 * t .node + 1 ≤ nodeCount s
+          → PlanGood s (afterChildrenRead u w)
+      unfolding afterChildrenRead
+      afterChildrenRead-good u gu en p l =
           let n = u .node in
           let hu : WaitsAbove n w = subst (λ k. WaitsAbove k w) (sym en) hw in
           let pn : 1 ≤ n = omega arith in
@@ -432,7 +432,7 @@ module _ (s : Shape) (r : InRange s) (m : Shared) (sm : SharedGood s m) where
           let q = readNode m c in
           pick-good (PlanGood s) (not (eqb (t .node) 0) && isNode s c)
           (λ h. let ne = eqb-false (t .node) 0 (not-true (eqb (t .node) 0) (and-left (not (eqb (t .node) 0)) (isNode s c) h)) in
-          childrenRead-good (withThird t q) (fields-third s t g q (read-good c)) refl (omega arith)
+          afterChildrenRead-good (withThird t q) (fields-third s t g q (read-good c)) refl (omega arith)
           (between-most 1 c (nodeCount s) (and-right (not (eqb (t .node) 0)) (isNode s c) h)))
           (λ h. refused-good s t gt unreadable)
 

@@ -44,7 +44,7 @@ use Rattle.readable.proofs.Laws.{Good, good}
 use Rattle.readable.proofs.Stores.{CellGood, FieldsGood, Keeps, PlaceGood, SharedGood, ThreadGood, good-shared, good-thread, keeps-more, keeps-same, keeps-setThread, make-good, readable-kept, shape-kept, thread-fit, threads-pass}
 use Rattle.begin.specs.Begin.{isIdle, isItem, mayPut, mayTake, acceptedPut, acceptedTake, hasFreeCell, putBytes, putBytesIn, putRefusalIn, takeBytes, takeBytesIn, takeRefusalIn}
 use Rattle.begin.proofs.Laws.{put-bytes-in, take-bytes-in}
-use Rattle.machine.specs.Turn.{carriedOut, decide, decideAt, staysPut, turnBytes, turnPlan}
+use Rattle.machine.specs.Turn.{carriedOut, decide, decideAt, changesNothing, turnBytes, turnPlan}
 use Rattle.preserved.specs.Theorems.{EmptyIsAbove, OutsideEffect, TurnKeepsReadable, PutKeepsReadable, TakeKeepsReadable, TurnKeepsShape, PutKeepsShape, TakeKeepsShape, TurnLeavesOthers, PutLeavesOthers, TakeLeavesOthers, TurnLeavesWords}
 use Rattle.preserved.proofs.EffectsGood.{cell-fit, few-cells, keeps-effect, put-cell}
 use Rattle.preserved.proofs.PlansGood.{PlanGood, at-good, fields-item, fields-own, plan-good, readDepth-good, readLeaf-good, readAncestor-good, growDepth-good, readTarget-good, insertAtRoot-good, readParent-good, insertBelow-good, readRoot-good, removeHead-good, mendReadNode-good, mendReadDepth-good, mendReadLeft-good, mendReadRight-good, mendSwap-good, mendClean-good}
@@ -83,7 +83,7 @@ module _ (f : Frame) (b : List ℕ) (g : Good f b) (t : ℕ) (l : 1 ≤ t) (u : 
   carried-keeps : Keeps f b (carriedOut f b t p)
   unfolding carriedOut
   carried-keeps =
-      pick-good (Keeps f b) (staysPut (p .answer)) (λ e. keeps-same g)
+      pick-good (Keeps f b) (changesNothing (p .answer)) (λ e. keeps-same g)
       (λ e. keeps-more record-keeps
       (keeps-effect f (setThreadIn f b t (p .thread)) (record-keeps .good) (p .effect) (gp .effect)))
 
@@ -326,7 +326,7 @@ module _ (f : Frame) (b : List ℕ) (g : Good f b) where
     carried-others : threadIn f (carriedOut f b t p) u ≡ threadIn f b u
     unfolding carriedOut
     carried-others =
-        pick-good (λ x. threadIn f x u ≡ threadIn f b u) (staysPut (p .answer)) (λ e. refl)
+        pick-good (λ x. threadIn f x u ≡ threadIn f b u) (changesNothing (p .answer)) (λ e. refl)
         (λ e. ap (λ h. h u)
         (effect-threads f (setThreadIn f b t (p .thread)) (record-keeps f b g t l r p gp .good) (p .effect))
         ∙ store-others f b g t l r (p .thread) (gp .thread) u n)
@@ -404,7 +404,7 @@ turn-leaves-words b e t c j o a =
     let f = frameIn b in
     let p = turnPlan f b t c in
     let framed = good b e .framed in
-    pick-good (λ x. word x j ≡ word b j) (staysPut (p .answer)) (λ k. refl)
+    pick-good (λ x. word x j ≡ word b j) (changesNothing (p .answer)) (λ k. refl)
     (λ k. effect-leaves f j (setThreadIn f b t (p .thread))
     (subst (Framed f) (sym (length-setThreadIn f b t (p .thread))) framed) (p .effect) o
     ∙ word-setThread f b framed t j (p .thread) a)

@@ -12,14 +12,14 @@ use Rattle.region.specs.declared.shape.Shape.{Shape}
 use Rattle.region.specs.declared.thread.Thread.{Thread}
 use Rattle.access.specs.Effect.{effectBytes}
 use Rattle.access.specs.Inner.{ofKind, reading}
-use Rattle.access.specs.Plan.{ends, staysPut}
+use Rattle.access.specs.Plan.{ends, changesNothing}
 use Rattle.access.specs.declared.effect.Effect.{Effect}
 use Rattle.access.specs.declared.effect.Effect.the-variants.{Nothing, Grow, Push, Pop, Exchange, Clean}
 use Rattle.access.specs.declared.plan.Plan.{Plan}
 use Rattle.turns.specs.Inner.{Ended, Stored, recordBytes}
 
 -- Storing a plan's record: none, that of an ended operation, or another.
-module _ (f : Frame) (b : List ℕ) (n : ℕ) (p : Plan) (q : Bool) (eq : q ≡ staysPut (p .answer)) where
+module _ (f : Frame) (b : List ℕ) (n : ℕ) (p : Plan) (q : Bool) (eq : q ≡ changesNothing (p .answer)) where
   pub none-stored : q ≡ true → Stored f b b n p (p .answer)
   unfolding recordBytes pick
   none-stored g = record { answer = refl; bytes = rw (← eq, g) refl }

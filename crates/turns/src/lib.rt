@@ -6,7 +6,7 @@ ghost use lib.ListN.{length};
 ghost use Rattle.region.specs.Inner.{Within};
 ghost use Rattle.region.specs.Shared.{sharedIn, threadIn};
 ghost use Rattle.access.specs.Inner.{cleaning, exchanging, growing, popping, pushing, reading};
-ghost use Rattle.access.specs.Plan.{ends, staysPut};
+ghost use Rattle.access.specs.Plan.{ends, changesNothing};
 ghost use Rattle.extract.specs.Extract.{readRoot, removeHead};
 ghost use Rattle.insert.specs.Insert.{growDepth, insertAtRoot, insertBelow, readAncestor, readDepth, readLeaf, readParent, readTarget};
 ghost use Rattle.moundify.specs.Moundify.{mendClean, mendReadDepth, mendReadLeft, mendReadNode, mendReadRight, mendSwap};
@@ -15,9 +15,9 @@ use access::Plan;
 use region::Answer;
 use region::Frame;
 
-// Whether a turn with this answer leaves the region alone.
-fn leaves_alone(answer: Answer) -> bool
-    ensures { λ r. ⌜ r ≡ staysPut answer ⌝ }
+// Whether a turn with this answer leaves every byte as it is.
+fn changes_nothing(answer: Answer) -> bool
+    ensures { λ r. ⌜ r ≡ changesNothing answer ⌝ }
 {
     match answer {
         Answer::Moved => false,
@@ -43,15 +43,15 @@ fn ends(answer: Answer) -> bool
     }
 }
 
-// Stores the record of thread n as its plan has it; an idle or refused turn stores nothing. The plan's answer. The record of an
-// ended operation is idle, and has a branch of its own, so that the compiled code of the other branch stores no field that the
-// turn left alone.
+// Stores the record of thread n as its plan has it; an idle or refused turn stores nothing. Answers what the plan answers. The
+// record of an ended operation is idle, and has a branch of its own, so that the compiled code of the other branch stores no
+// field that the turn left alone.
 fn store_record(f: Frame, b: &mut [u8], n: u32, plan: Plan) -> Answer
     requires { ⌜ Within f (length (now b)) ⌝ }
     ensures { λ r. ⌜ Stored f (now (b .entry)) (now (b .exit)) n plan r ⌝ }
 {
     let answer = plan.answer;
-    if leaves_alone(answer) {
+    if changes_nothing(answer) {
         return answer;
     }
     let record = plan.thread;

@@ -32,8 +32,8 @@ refused-requires-2 c κs = search needs
 returns-3 : tie.Need-returns-3
 returns-3 c = search root-spent
 
-head-removed-requires : tie.Need-head-removed-requires
-head-removed-requires c κs = search not-spent
+after-removal-requires : tie.Need-after-removal-requires
+after-removal-requires c κs = search not-spent
 
 returns-4 : tie.Need-returns-4
 returns-4 c = search head-removes
@@ -51,5 +51,5 @@ remove-head-spec =
     is-spent-requires
     refused-requires-2
     returns-3
-    head-removed-requires
+    after-removal-requires
     returns-4)

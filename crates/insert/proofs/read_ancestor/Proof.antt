@@ -22,8 +22,8 @@ ancestor-at-requires c κs = search middle-some
 read-node-requires : tie.Need-read-node-requires
 read-node-requires c κs = search needs
 
-ancestor-read-requires : tie.Need-ancestor-read-requires
-ancestor-read-requires c κs = search middle-most
+after-ancestor-read-requires : tie.Need-after-ancestor-read-requires
+after-ancestor-read-requires c κs = search middle-most
 
 returns-2 : tie.Need-returns-2
 returns-2 c = search middle-read
@@ -38,5 +38,5 @@ read-ancestor-spec =
     middle-level-requires
     ancestor-at-requires
     read-node-requires
-    ancestor-read-requires
+    after-ancestor-read-requires
     returns-2)

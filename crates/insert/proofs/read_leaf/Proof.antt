@@ -19,8 +19,8 @@ leaf-of-requires c κs = (search level-some, search level-few)
 read-node-requires : tie.Need-read-node-requires
 read-node-requires c κs = search needs
 
-leaf-read-requires : tie.Need-leaf-read-requires
-leaf-read-requires c κs = search needs
+after-leaf-read-requires : tie.Need-after-leaf-read-requires
+after-leaf-read-requires c κs = search needs
 
 returns-2 : tie.Need-returns-2
 returns-2 c = search leaf-reached
@@ -34,5 +34,5 @@ read-leaf-spec =
     returns
     leaf-of-requires
     read-node-requires
-    leaf-read-requires
+    after-leaf-read-requires
     returns-2)

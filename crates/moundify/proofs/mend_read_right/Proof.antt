@@ -37,8 +37,8 @@ read-node-requires c κs = search needs
 with-third-requires : tie.Need-with-third-requires
 with-third-requires c κs = search needs
 
-children-read-requires : tie.Need-children-read-requires
-children-read-requires c κs = search children-asked
+after-children-read-requires : tie.Need-after-children-read-requires
+after-children-read-requires c κs = search children-asked
 
 returns-3 : tie.Need-returns-3
 returns-3 c = search right-read
@@ -58,5 +58,5 @@ mend-read-right-spec =
     cast-read-node
     read-node-requires
     with-third-requires
-    children-read-requires
+    after-children-read-requires
     returns-3)

@@ -1,8 +1,8 @@
--- `extract::root_read` meets its contract: the root is dirty, empty or has a head. Assumes nothing.
+-- `extract::after_root_read` meets its contract: the root is dirty, empty or has a head. Assumes nothing.
 use borrow.Author.Needs.{needs}
-use Rattle.extract.proofs.root_read.Statement.{statement}
+use Rattle.extract.proofs.after_root_read.Statement.{statement}
 use Rattle.extract.proofs.Ways.{root-dirty, root-empty, root-full}
-use Rattle.extract.proofs.root_read.Tie as tie
+use Rattle.extract.proofs.after_root_read.Tie as tie
 
 is-dirty-requires : tie.Need-is-dirty-requires
 is-dirty-requires c κs = search needs
@@ -40,8 +40,8 @@ on-to-requires c κs = search needs
 returns-3 : tie.Need-returns-3
 returns-3 c = search root-full
 
-pub root-read-spec : {M : Type 1} → statement M
-root-read-spec =
+pub after-root-read-spec : {M : Type 1} → statement M
+after-root-read-spec =
     tie.close
     (tie.spec
     is-dirty-requires

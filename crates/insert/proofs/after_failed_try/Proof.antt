@@ -1,8 +1,8 @@
--- `insert::leaf_failed` meets its contract. Assumes nothing.
+-- `insert::after_failed_try` meets its contract. Assumes nothing.
 use borrow.Author.Needs.{needs}
-use Rattle.insert.proofs.leaf_failed.Statement.{statement}
+use Rattle.insert.proofs.after_failed_try.Statement.{statement}
 use Rattle.insert.proofs.Ways.{try-failed}
-use Rattle.insert.proofs.leaf_failed.Tie as tie
+use Rattle.insert.proofs.after_failed_try.Tie as tie
 
 next-tries-requires : tie.Need-next-tries-requires
 next-tries-requires c κs = search needs
@@ -22,8 +22,8 @@ on-to-requires c κs = search needs
 returns : tie.Need-returns
 returns c = search try-failed
 
-pub leaf-failed-spec : {M : Type 1} → statement M
-leaf-failed-spec =
+pub after-failed-try-spec : {M : Type 1} → statement M
+after-failed-try-spec =
     tie.close
     (tie.spec
     next-tries-requires

@@ -1,8 +1,8 @@
--- `insert::ancestor_read` meets its contract: the value read decides which level moves. Assumes nothing.
+-- `insert::after_ancestor_read` meets its contract: the value read decides which level moves. Assumes nothing.
 use borrow.Author.Needs.{needs}
-use Rattle.insert.proofs.ancestor_read.Statement.{statement}
+use Rattle.insert.proofs.after_ancestor_read.Statement.{statement}
 use Rattle.insert.proofs.Ways.{hi-moves, lo-moves}
-use Rattle.insert.proofs.ancestor_read.Tie as tie
+use Rattle.insert.proofs.after_ancestor_read.Tie as tie
 
 value-of-requires : tie.Need-value-of-requires
 value-of-requires c κs = search needs
@@ -37,8 +37,8 @@ search-on-requires-2 c κs = search needs
 returns-2 : tie.Need-returns-2
 returns-2 c = search lo-moves
 
-pub ancestor-read-spec : {M : Type 1} → statement M
-ancestor-read-spec =
+pub after-ancestor-read-spec : {M : Type 1} → statement M
+after-ancestor-read-spec =
     tie.close
     (tie.spec
     value-of-requires

@@ -1,8 +1,8 @@
--- `moundify::depth_read` meets its contract: clean, no node, at the last level, or above it. Assumes nothing.
+-- `moundify::after_depth_read` meets its contract: clean, no node, at the last level, or above it. Assumes nothing.
 use borrow.Author.Needs.{needs}
-use Rattle.moundify.proofs.depth_read.Statement.{statement}
+use Rattle.moundify.proofs.after_depth_read.Statement.{statement}
 use Rattle.moundify.proofs.Ways.{clean-already, dirty-without-node, at-last-level, above-last-level}
-use Rattle.moundify.proofs.depth_read.Tie as tie
+use Rattle.moundify.proofs.after_depth_read.Tie as tie
 
 with-depth-requires : tie.Need-with-depth-requires
 with-depth-requires c κs = search needs
@@ -37,8 +37,8 @@ on-to-requires-2 c κs = search needs
 returns-4 : tie.Need-returns-4
 returns-4 c = search above-last-level
 
-pub depth-read-spec : {M : Type 1} → statement M
-depth-read-spec =
+pub after-depth-read-spec : {M : Type 1} → statement M
+after-depth-read-spec =
     tie.close
     (tie.spec
     with-depth-requires

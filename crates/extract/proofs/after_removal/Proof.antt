@@ -1,8 +1,8 @@
--- `extract::head_removed` meets its contract. Assumes nothing.
+-- `extract::after_removal` meets its contract. Assumes nothing.
 use borrow.Author.Needs.{needs}
-use Rattle.extract.proofs.head_removed.Statement.{statement}
+use Rattle.extract.proofs.after_removal.Statement.{statement}
 use Rattle.extract.proofs.Ways.{head-leaves}
-use Rattle.extract.proofs.head_removed.Tie as tie
+use Rattle.extract.proofs.after_removal.Tie as tie
 
 updated-node-requires : tie.Need-updated-node-requires
 updated-node-requires c κs = search needs
@@ -22,8 +22,8 @@ plan-of-requires c κs = search needs
 returns : tie.Need-returns
 returns c = search head-leaves
 
-pub head-removed-spec : {M : Type 1} → statement M
-head-removed-spec =
+pub after-removal-spec : {M : Type 1} → statement M
+after-removal-spec =
     tie.close
     (tie.spec
     updated-node-requires

@@ -1,8 +1,8 @@
--- `insert::leaf_read` meets its contract: the value read decides. Assumes nothing.
+-- `insert::after_leaf_read` meets its contract: the value read decides. Assumes nothing.
 use borrow.Author.Needs.{needs}
-use Rattle.insert.proofs.leaf_read.Statement.{statement}
+use Rattle.insert.proofs.after_leaf_read.Statement.{statement}
 use Rattle.insert.proofs.Ways.{leaf-below, search-begins}
-use Rattle.insert.proofs.leaf_read.Tie as tie
+use Rattle.insert.proofs.after_leaf_read.Tie as tie
 
 value-of-requires : tie.Need-value-of-requires
 value-of-requires c κs = search needs
@@ -10,8 +10,8 @@ value-of-requires c κs = search needs
 item-le-requires : tie.Need-item-le-requires
 item-le-requires c κs = search needs
 
-leaf-failed-requires : tie.Need-leaf-failed-requires
-leaf-failed-requires c κs = search needs
+after-failed-try-requires : tie.Need-after-failed-try-requires
+after-failed-try-requires c κs = search needs
 
 returns : tie.Need-returns
 returns c = search leaf-below
@@ -28,13 +28,13 @@ search-on-requires c κs = search needs
 returns-2 : tie.Need-returns-2
 returns-2 c = search search-begins
 
-pub leaf-read-spec : {M : Type 1} → statement M
-leaf-read-spec =
+pub after-leaf-read-spec : {M : Type 1} → statement M
+after-leaf-read-spec =
     tie.close
     (tie.spec
     value-of-requires
     item-le-requires
-    leaf-failed-requires
+    after-failed-try-requires
     returns
     with-search-requires
     with-first-requires

@@ -1,8 +1,8 @@
--- `moundify::children_read` meets its contract: the left child is dirty, the right one is, one is less, or none of these. Assumes nothing.
+-- `moundify::after_children_read` meets its contract: the left child is dirty, the right one is, one is less, or none of these. Assumes nothing.
 use borrow.Author.Needs.{needs}
-use Rattle.moundify.proofs.children_read.Statement.{statement}
+use Rattle.moundify.proofs.after_children_read.Statement.{statement}
 use Rattle.moundify.proofs.Ways.{some-level, few-levels, left-first, right-first, to-swap, to-clean}
-use Rattle.moundify.proofs.children_read.Tie as tie
+use Rattle.moundify.proofs.after_children_read.Tie as tie
 
 is-dirty-requires : tie.Need-is-dirty-requires
 is-dirty-requires c κs = search needs
@@ -64,8 +64,8 @@ on-to-requires-2 c κs = search needs
 returns-4 : tie.Need-returns-4
 returns-4 c = search to-clean
 
-pub children-read-spec : {M : Type 1} → statement M
-children-read-spec =
+pub after-children-read-spec : {M : Type 1} → statement M
+after-children-read-spec =
     tie.close
     (tie.spec
     is-dirty-requires
