@@ -34,7 +34,7 @@
 //! assert_eq!(run.answers().next(), Some(Answer::Idle));
 //! assert_eq!(run.answers().last(), Some(Answer::Took { key: 5, tag: 9 }));
 //!
-//! // The bytes are the whole queue. Whoever gets them next has them checked on the way in.
+//! // The bytes are the whole queue. Opening them again checks them.
 //! bytes[0] = 13;
 //! assert_eq!(Region::open(&mut bytes).unwrap_err(), Refusal::Unreadable);
 //! # Ok(())

@@ -7,8 +7,8 @@ use crate::{calls, Permission, Refusal, Run, Served, Shape, Turn};
 
 /// A queue in bytes that the host lends for as long as this value lives.
 ///
-/// It is had by [`Region::layout`], which starts an empty queue, or by [`Region::open`], which
-/// takes bytes over as an earlier region left them. Either way the bytes are a readable region.
+/// It comes from [`Region::layout`], which starts an empty queue, or from [`Region::open`], which
+/// goes on with the bytes that an earlier region left. Either way the bytes are a readable region.
 pub struct Region<'a> {
     bytes: &'a mut [u8],
 }
@@ -50,7 +50,7 @@ impl<'a> Region<'a> {
         Refusal::result_of(number).map(|()| Region { bytes })
     }
 
-    /// Takes over bytes that an earlier region left, after a check that they are readable.
+    /// Goes on with the bytes that an earlier region left, after a check that they are readable.
     ///
     /// Cost: that of [`Region::check`].
     ///
@@ -171,7 +171,7 @@ impl<'a> Region<'a> {
         Ok(run)
     }
 
-    /// Serves turns like [`Region::run`], with answers and counts left in `run` in place of those of
+    /// Serves turns like [`Region::run`], with answers and counts left in `run` instead of those of
     /// an earlier one. Where the run is refused, it is left with no answers.
     ///
     /// Cost: that of [`Region::run`], but memory is allocated only for more turns than `run` has held

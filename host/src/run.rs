@@ -61,7 +61,7 @@ impl Run {
         self.served
     }
 
-    /// Runs these turns on a readable region, in place of what was run before.
+    /// Runs these turns on a readable region; their answers replace those of the run before.
     pub(crate) fn serve(
         &mut self,
         region: &mut [u8],

@@ -81,7 +81,7 @@ clean-now f n v e h x = go (ℕ-discrete x n)
     go (yes k) = ap (λ y. upd f n v y .dirty) k ∙ ap (λ y. y .dirty) (upd-same f n v) ∙ e
     go (no k) = ap (λ y. y .dirty) (upd-other f n x v k) ∙ h x k
 
--- the same, and another node is put at c
+-- the same, and node c changes too
 clean-but : (f : ℕ → Node) (n c : ℕ) (v w : Node) → v .dirty ≡ 0 → ((x : ℕ) → (x ≡ n → ⊥) → f x .dirty ≡ 0)
     → (x : ℕ) → (x ≡ c → ⊥) → upd (upd f n v) c w x .dirty ≡ 0
 clean-but f n c v w e h x nc = ap (λ y. y .dirty) (upd-other (upd f n v) c x w nc) ∙ clean-now f n v e h x
@@ -122,7 +122,7 @@ module _ (f : Frame) (t : ℕ) (t-least : 1 ≤ t) (t-most : t ≤ f .shape .thr
         (b cs : List ℕ) → Good f b → sharedIn f b ≡ m → threadIn f b t ≡ u → end ≤ spent + length cs
         → NoneSpent (alone f b t cs) → Rests spent b cs
 
-    -- A turn that is refused 11 or goes by p.
+    -- A turn that is refused 11 or has the plan p.
     module _ (spent : ℕ) (m : Shared) (u : Thread) (few : spent < end) (q : Bool) (p : Plan)
         (decides : (c : ℕ) → decide s m u c ≡ pick q (refused u counterSpent) p) where
       module _ (b : List ℕ) (c : ℕ) (cs : List ℕ) (em : sharedIn f b ≡ m) (eu : threadIn f b t ≡ u)

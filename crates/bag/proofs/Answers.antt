@@ -1,4 +1,4 @@
--- What a turn tells goes by its plan's effect and answer, and its answer says what it told: place by place over the plans. Assumes nothing.
+-- What a turn tells is given by its plan's effect and answer, and its answer says what it told: shown for each place. Assumes nothing.
 use Prim.Native.Nat.{ℕ, _+_, _*_}
 use mathlib.Core.Path.{_≡_, refl, sym, ap, subst, _∙_}
 use mathlib.Core.Bool.{Bool, true, false, _&&_, _||_}

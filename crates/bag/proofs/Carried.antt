@@ -55,13 +55,13 @@ module _ (f : Frame) (b : List ℕ) (g : Good f b) (t : ℕ) (l : 1 ≤ t) (u : 
 
 -- A turn of thread t with choice c.
 module _ (f : Frame) (b : List ℕ) (t c : ℕ) where
-  -- a thread that exists goes by its place
+  -- the plan of a thread that exists is that of its place
   pub turn-decides : 1 ≤ t → t ≤ f .shape .threads
       → turnPlan f b t c ≡ decide (f .shape) (sharedIn f b) (threadIn f b t) c
   unfolding turnPlan pick
   turn-decides l u = rw (is-between 1 t (f .shape .threads) l u) refl
 
-  -- no other thread's turn changes anything
+  -- a turn that changes anything is one of a thread that exists
   thread-exists : changesNothing (turnPlan f b t c .answer) ≡ false → between 1 t (f .shape .threads) ≡ true
   unfolding turnPlan pick refused
   thread-exists e = go (between 1 t (f .shape .threads)) e

@@ -117,7 +117,7 @@ module _ (s : Shape) (t : ℕ) (b : List ℕ) (h : Barred s t b) where
   barred-long : length b ≡ 4 * regionWords s
   barred-long = readable-length b (h .reads) ∙ ap (λ x. 4 * regionWords x) (h .shape)
 
--- beside the region nothing is known but the region itself, and t's moments leave it as it is
+-- what is known beside the region is the region itself; t's moments leave it as it is
 abbrev Still : ℕ → Event → List ℕ → List ℕ → Type 0
 Still t e b b′ = makes t e ≡ true → b′ ≡ b
 

@@ -28,7 +28,7 @@ refused-layout : (b : List ℕ) (x : Shape) (ps : List ℕ) → (layoutRefusal x
 unfolding layoutBytes pick
 refused-layout b x ps h = rw (ne-eqb (layoutRefusal x ps (length b)) done h) refl
 
--- what follows where this happened and b was left
+-- e happened and left b: what is known afterwards follows from x, and P holds of both
 pub record Next {E X : Type 0} (P : List ℕ → X → Type 0) (F : E → X → X → Type 0) (x : X) (e : E) (b : List ℕ) : Type 0 where
   pub next : X
   pub follows : F e x next

@@ -37,7 +37,7 @@ abbrev pub Followed : Ledger → List Moment → Type 0
 Followed l [] = Unit
 Followed l (m ∷ ms) = (l′ : Ledger) × Follows (tells (m .event)) l l′ × AnswerSays (m .event) × Followed l′ ms
 
--- u's moment takes k from what remains of u's operation, and nothing from another's
+-- u's moment lowers what remains of u's operation by k, and leaves what remains of another's
 remains : (op : ℕ → Operation) (u : ℕ) (o o′ : Operation) (k : ℕ) → op u ≡ o → k + remaining o′ ≡ remaining o
     → (t : ℕ) → pick (eqb t u) k 0 + remaining (upd op u o′ t) ≡ remaining (op t)
 unfolding upd pick

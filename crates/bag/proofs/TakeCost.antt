@@ -1,5 +1,6 @@
 -- A take alone on a laid-out region costs its figure, and so at most 5 × d accesses. The idle and refused turns of others leave it alone;
--- and the root's head stands in no other list, so that E2, which frees its cell, leaves every value that the figure goes by. Assumes nothing.
+-- and the root's head stands in no other list, so that E2, which frees its cell, leaves every value from which the figure is computed.
+-- Assumes nothing.
 use Prim.Native.Nat.{ℕ, suc, _+_, _-_, _≤_, _<_}
 use native.Mathlib.Decide.{ℕ-discrete}
 use native.Mathlib.Omega.{arith}

@@ -44,7 +44,7 @@ stays-readable s ps b e calls n earlier later split =
     let g = holds s ps b e calls n earlier later split .1 in
     (g .reads, g .shape)
 
--- what a plan of a region in order answers is no refusal 7
+-- no plan on a region in order is refused 7
 refusal : Answer → ℕ
 refusal Moved = 0
 refusal Idle = 0

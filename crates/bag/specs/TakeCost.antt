@@ -1,6 +1,6 @@
 -- What a take of one item costs (document 02, request 3): it ends in exactly as many accesses as `takeCost` says of the region before it, and
--- its last access leaves the root's list without its head at the level that the figure goes by. The ceiling of document 01 follows. Proved
--- in proofs/TakeCost.antt.
+-- its last access leaves the root's list without its head at the level from which the figure is computed. The ceiling of document 01
+-- follows. Proved in proofs/TakeCost.antt.
 use Prim.Native.Nat.{ℕ, _*_, _≤_}
 use mathlib.Core.Path.{_≡_}
 use mathlib.Core.List.{List, _∷_}
@@ -28,7 +28,7 @@ rootHead f b = record { cell = nodeIn f b 1 .first; item = rootItem f b }
 pub record LeavesList (f : Frame) (b : List ℕ) (t j : ℕ) (x : Step) : Type 0 where
   pub node : ℕ
   pub at-level : level node ≡ j
-  -- It is M6 of that node, the only dirty one, and all are clean afterwards. E2 leaves the list at the root with the dirty mark, and M5 hands
+  -- It is M6 of that node, the only dirty one, and all are clean afterwards. E2 leaves the list at the root with the dirty mark, and M5 moves
   -- both down together: so the list is known by the mark, also where it is empty and has no cell to be known by.
   pub place : threadIn f (x .before) t .place ≡ MendClean 0
   pub mends : threadIn f (x .before) t .node ≡ node
@@ -44,7 +44,7 @@ pub record LastAccess (b : List ℕ) (t : ℕ) (x : Step) : Type 0 where
   pub empty : nodeIn (frameIn b) b 1 .first ≡ 0 → x .answer ≡ Empty
   pub mended : (nodeIn (frameIn b) b 1 .first ≡ 0 → ⊥) → LeavesList (frameIn b) b t (restLevel (sharedIn (frameIn b) b)) x
 
--- "a take of one item begun at depth d ends in exactly" so many accesses
+-- "a take of one item begun at depth d ends in exactly" `takeCost` accesses
 abbrev pub TakesCost : List ℕ → Type 0
 TakesCost b =
     (t : ℕ) (turns : List Turn) → Alone b t turns (takeCost (sharedIn (frameIn b) b))

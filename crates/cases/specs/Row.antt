@@ -16,19 +16,23 @@ use Rattle.readable.specs.Readable.{checkAnswer, frameIn}
 use Rattle.begin.specs.Begin.{putBytes, putRefusal, takeBytes, takeRefusal}
 use Rattle.run.specs.Run.{Served, runResult}
 
--- what is called on a laid-out region: a put of an item by a thread, a take, a run of these threads' turns, and a check of a copy with
--- these words from a word on; what is asked of it: the cost of a take, and the present depth; and what no call does: these words are
--- written into the region, which is then checked
+-- the steps of a row: calls on its region, questions about it, and words written into it
 pub data Does : Type 0 where
+  -- a thread's put of an item
   putsItem : ℕ → Item → Does
+  -- a thread's take
   takes : ℕ → Does
+  -- a run of these threads' turns
   turns : List ℕ → Does
+  -- a check of a copy of the region that has these words from a word on
   checks : ℕ → List ℕ → Does
+  -- the cost of a take, and the present depth
   costs : Does
   depths : Does
+  -- these words are written into the region, which no call does, and it is checked
   writes : ℕ → List ℕ → Does
 
--- what it answers: a number, or the words of a run's answers
+-- what a step answers: a number, or the words of a run's answers
 pub data Says : Type 0 where
   answered : ℕ → Says
   served : List ℕ → Says
@@ -48,7 +52,7 @@ abbrev pub schedule : List ℕ → List ℕ
 schedule [] = []
 schedule (t ∷ ts) = t ∷ 0 ∷ 0 ∷ 0 ∷ 0 ∷ 0 ∷ 0 ∷ 0 ∷ schedule ts
 
--- calls with what they say, apart
+-- the two parts of a list of steps with what they say
 abbrev doesOf : List (Does × Says) → List Does
 doesOf [] = []
 doesOf ((d, x) ∷ rest) = d ∷ doesOf rest
@@ -65,7 +69,7 @@ pub record Outcome : Type 0 where
 abbrev leaving : List ℕ → Says → Outcome
 leaving b x = record { says = x; region = b }
 
--- of a run of n turns
+-- the outcome of a run of n turns
 abbrev ran : ℕ → Served → Outcome
 ran n r = leaving (r .region) (served (wordsAt (r .answers) 0 (3 * n)))
 
@@ -115,7 +119,7 @@ shaped d c = record { depth = d; cells = c; threads = 2; threshold = 1 }
 abbrev pub both : List ℕ
 both = 3 ∷ 3 ∷ []
 
--- a row from calls with what they say, which asks for the depth at its end
+-- a row of steps with what they say; its last step asks for the depth
 abbrev pub rowOf : Shape → List ℕ → ℕ → ℕ → List (Does × Says) → ℕ → Row
 rowOf s ps bytes answer cs depth =
     record {

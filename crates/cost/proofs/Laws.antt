@@ -1,4 +1,5 @@
--- The laws of a take's cost: it goes down as M4 and M5 do, and from the level of rest come the three figures. Assumes nothing.
+-- The laws of a take's cost: the list goes down as M4 and M5 move it, and the level at which it comes to rest gives the three figures.
+-- Assumes nothing.
 use Prim.Native.Nat.{ℕ, zero, suc, _+_, _-_, _*_, _≤_, _<_, min}
 use native.Mathlib.Decide.{decLt, ℕ-discrete}
 use native.Mathlib.Omega.{arith}
@@ -16,7 +17,7 @@ use Rattle.access.specs.declared.plan.Plan.{Plan}
 use Rattle.moundify.specs.Moundify.{childLess, exchangeWith, lessBelow, mendSwap}
 use Rattle.cost.specs.Cost.{costOfLevel, lesserChild, levelsDown, restLevel, takeCost, withoutHead}
 
--- M4's test and M5's child are the figure's, where the copies are the thread's node and its children as they stand.
+-- M4's test and M5's child are those of the figure, where the thread's copies equal its node and the children.
 module _ (m : Shared) (u : Thread) (second : u .copies .second ≡ readNode m (2 * u .node))
     (third : u .copies .third ≡ readNode m (2 * u .node + 1)) where
   pub tests-as-placed : u .copies .first ≡ readNode m (u .node)

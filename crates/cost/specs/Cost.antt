@@ -1,5 +1,5 @@
 -- How many accesses a take of one item costs, all nodes being clean and no other thread moving (document 02, request 3): a figure of shared
--- memory as it stands before the take, so that a planner can compute it beforehand. That a take makes just so many accesses is said in
+-- memory as it stands before the take, so that a planner can compute it beforehand. That a take makes exactly this many is said in
 -- crates/bag/specs/TakeCost.antt.
 use Prim.Native.Nat.{ℕ, zero, suc, _+_, _-_, _*_}
 use lib.Dec.{eqb, ltb}

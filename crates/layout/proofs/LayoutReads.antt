@@ -57,7 +57,7 @@ next-most cells c =
     pick-good (λ x. x ≤ cells) (leb 1 c && ltb c cells)
     (λ e. omega (arith, ltb-true c cells (and-right (leb 1 c) (ltb c cells) e))) (λ e. omega arith)
 
--- a run of words that are all 0
+-- words in a row that are all 0
 zero-words : (b : List ℕ) (n at : ℕ) → ((j : ℕ) → at ≤ j → j < at + n → word b j ≡ 0) → wordsAt b at n ≡ replicate n 0
 zero-words b zero at h = refl
 zero-words b (suc n) at h =
@@ -155,7 +155,7 @@ module _ (s : Shape) (ps b : List ℕ) (e : layoutRefusal s ps (length b) ≡ do
   unfolding threadIn loadEntry frameOf pick
   laid-no-thread t h = rw h refl
 
-  -- cell c as soon as the next in the chain is known
+  -- cell c, given the cell behind it in the chain
   cell-before : (c n : ℕ) → nextFree (s .cells) c ≡ n → cellIn (frameOf s) laid c ≡ record { item = zeroItem; next = n }
   unfolding sharedIn
   cell-before c n h = laid-cell c ∙ ap (λ k. record { item = zeroItem; next = k }) h

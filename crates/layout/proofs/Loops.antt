@@ -122,7 +122,7 @@ module _ (s : Shape) (ps : List ℕ) (k c t : ℕ) (g : Laying s ps k c t) where
   unfolding regionWords frameOf
   in-threads h = omega (arith, g .within, g .threads-at, g .permissions)
 
--- Filling: the words not yet stored, from here, give the whole.
+-- Filling: storing the words from word k on gives the whole region.
 pub record Filled (s : Shape) (ps : List ℕ) (c t n : ℕ) (b₀ b : List ℕ) (k : ℕ) : Type 0 where
   pub call : Accepted s ps (length b₀)
   pub cells-at : c ≡ frameOf s .cells
@@ -182,7 +182,7 @@ module _ {s : Shape} {ps : List ℕ} {c t n : ℕ} {b₀ b : List ℕ} {k : ℕ}
 
 -- The whole call.
 module _ (s : Shape) (ps : List ℕ) (l : ℕ) where
-  -- what a layout that is not refused shows
+  -- what holds of a layout that is not refused
   no-refusals : (q p a m : Bool) → shapeFits s ≡ q → eqb (length ps) (s .threads) ≡ p → atMost greatestPermission ps ≡ a
       → eqb l (4 * regionWords s) ≡ m → pick (q && (p && a)) (pick m done badLength) badShape ≡ done
       → Accepted s ps l × (atMost greatestPermission ps ≡ true)

@@ -1,6 +1,6 @@
 -- All chains together. Owner 0 has the free chain, owner 2n the list of node n, owner 2t + 1 what thread t holds. Two changes cover every
--- effect and beginning: the head of one chain moves to the front of another (a put begins, a push, a pop), and two chains change hands
--- (an exchange). Assumes nothing.
+-- effect and beginning: the head of one chain moves to the front of another (a put begins, a push, a pop), and two owners exchange
+-- their chains (an exchange). Assumes nothing.
 use Prim.Native.Nat.{ℕ, suc, _≤_}
 use native.Mathlib.Decide.{ℕ-discrete}
 use native.Mathlib.Omega.{arith}
@@ -183,7 +183,7 @@ pub record Exchanged (cell : ℕ → Cell) (head′ : ℕ → ℕ) (list : ℕ �
   pub list-q : lists q ≡ list o
   pub list-x : (x : ℕ) → (x ≡ o → ⊥) → (x ≡ q → ⊥) → lists x ≡ list x
 
--- The chains of owners o and q change hands; the cells stay as they are.
+-- Owners o and q exchange their chains; the cells stay as they are.
 module _ (cell : ℕ → Cell) (own rank head head′ : ℕ → ℕ) (list : ℕ → List ℕ) (chains : Chains cell own rank head list) (o q : ℕ)
     (apart : o ≡ q → ⊥) (to-o : head′ o ≡ head q) (to-q : head′ q ≡ head o)
     (still : (x : ℕ) → (x ≡ o → ⊥) → (x ≡ q → ⊥) → head′ x ≡ head x) where
@@ -203,7 +203,7 @@ module _ (cell : ℕ → Cell) (own rank head head′ : ℕ → ℕ) (list : ℕ
   unfolding swapped
   swapped-other x m n = upd-other (upd (λ y. y) o q) q x o n ∙ upd-other (λ y. y) o x q m
 
-  -- a chain of owner x is one of the owner that x turns into
+  -- a chain of owner x becomes one of the owner that x is swapped with
   over : (x : ℕ) → Chain cell (λ d. swapped (own d)) rank (swapped x) (head x) (list x)
   over x =
       chain-left cell cell own (λ d. swapped (own d)) rank rank x (swapped x) (head x) (list x)

@@ -25,7 +25,7 @@ pub first-owned : {cell : ℕ → Cell} {own rank : ℕ → ℕ} {o c : ℕ} {cs
 first-owned ends l = absurd (omega arith)
 first-owned (link c p eo er k) l = eo
 
--- what a change of cells, owners and ranks leaves of the cells of one owner with a rank below n, which may change hands together
+-- what a change of cells, owners and ranks leaves of the cells of one owner with a rank below n, which may all get another owner
 abbrev pub Left : (ℕ → Cell) → (ℕ → Cell) → (ℕ → ℕ) → (ℕ → ℕ) → (ℕ → ℕ) → (ℕ → ℕ) → ℕ → ℕ → ℕ → Type 0
 Left cell cell′ own own′ rank rank′ o o′ n =
     (d : ℕ) → own d ≡ o → rank d < n → (cell′ d ≡ cell d) × (own′ d ≡ o′) × (rank′ d ≡ rank d)

@@ -1,4 +1,4 @@
--- The mound between turns: cells held, the tree in order, nothing below the present depth. What an effect asks, that it keeps the mound,
+-- The mound between turns: cells held, the tree in order, nothing below the present depth. What an effect requires, that it keeps the mound,
 -- and what every other thread may rely on across it. Assumes nothing.
 use Prim.Native.Nat.{ℕ, _+_, _*_, _/_, _^_, _≤_, _<_}
 use native.Mathlib.Decide.{ℕ-discrete}
@@ -69,7 +69,7 @@ node-of-read : (m m′ : Shared) (x : ℕ) → readNode m′ x ≡ readNode m x 
 unfolding readNode
 node-of-read m m′ x e = ap (λ q. q .node) e
 
--- Two nodes at most are touched, and each counts up.
+-- At most two nodes change, and the counter of each becomes one more.
 module _ (m m′ : Shared) (n k : ℕ) (deeper : m .depth ≤ m′ .depth) (up-n : m′ .node n .counter ≡ m .node n .counter + 1)
     (up-k : m′ .node k .counter ≡ m .node k .counter + 1)
     (others : (x : ℕ) → 1 ≤ x → (x ≡ n → ⊥) → (x ≡ k → ⊥) → readNode m′ x ≡ readNode m x)
@@ -116,7 +116,7 @@ rely-same m m′ d h =
           (ap (λ y. y .dirty) (node-of-read m m′ c r) ∙ z, λ v a b. subst (AtMost v) (sym (ap valueOf r)) a);
     }
 
--- What each effect asks.
+-- What each effect requires.
 pub record PushAllowed (m : Shared) (own : ℕ → ℕ) (t n : ℕ) (v : Node) (c x : ℕ) : Type 0 where
   pub some : 1 ≤ n
   pub few : n < 2 ^ m .depth

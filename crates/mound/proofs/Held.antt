@@ -1,4 +1,4 @@
--- Which list, thread or free chain holds a cell: none is held twice, lists never fall, and the cells held are so many, which every effect keeps.
+-- Which list, thread or free chain holds a cell: none is held twice, lists never fall, and no effect changes how many cells are held.
 -- What a beginning, a push, a pop and an exchange make of it, and of the tree's count. Assumes nothing.
 use Prim.Native.Nat.{ℕ, _+_, _*_, _≤_}
 use native.Mathlib.Decide.{ℕ-discrete}
@@ -147,7 +147,7 @@ counted-same s m m′ own h ec ef en i =
     ∙ ap (λ cell. sum (λ k. among (sameItem i) (items cell (h .list (2 * k)))) (nodeCount s)) ec
     ∙ sym (counts s m own h (sameItem i))
 
--- The head c of holder o's chain goes to the front of holder q's, where it fits if q is a node.
+-- The head c of holder o's chain goes to the front of holder q's, which stays sorted if q is a node.
 module _ (s : Shape) (m m′ : Shared) (own own′ : ℕ → ℕ) {all : ℕ} (h : Held s m own all) (o q c : ℕ) (from : Holder s o) (to : Holder s q)
     (apart : o ≡ q → ⊥) (mv : Moved (m .cell) (m′ .cell) (heads (m′ .free) (m′ .node) own′) (h .list) o q c)
     (fits : (n : ℕ) → 1 ≤ n → q ≡ 2 * n → Sorted (m′ .cell c .item ∷ items (m .cell) (h .list q))) where
@@ -173,7 +173,7 @@ module _ (s : Shape) (m m′ : Shared) (own own′ : ℕ → ℕ) {all : ℕ} (h
           (subst Sorted (mv .items-o) (subst (λ x. Sorted (items (m .cell) (h .list x))) e (h .sorted n p)) .2)
       go n p (no a) (no b) = subst Sorted (sym (mv .items-x (2 * n) b a)) (h .sorted n p)
 
--- The chains of holders o and q change hands, and fit where they come to a node.
+-- Holders o and q exchange their chains, which are sorted where the new holder is a node.
 module _ (s : Shape) (m m′ : Shared) (own own′ : ℕ → ℕ) {all : ℕ} (h : Held s m own all) (o q : ℕ) (one : Holder s o) (other : Holder s q)
     (apart : o ≡ q → ⊥) (cells : m′ .cell ≡ m .cell) (ex : Exchanged (m .cell) (heads (m′ .free) (m′ .node) own′) (h .list) o q)
     (fits-o : (n : ℕ) → 1 ≤ n → o ≡ 2 * n → Sorted (items (m .cell) (h .list q)))

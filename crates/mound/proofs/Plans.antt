@@ -1,4 +1,4 @@
--- Every plan of a thread in its place: its effect is one that the mound allows, what it tells fits the thread's operation, and
+-- Every plan of a thread at its place: its effect is one that the mound allows, what it tells fits the thread's operation, and
 -- the facts of its next place hold; or the turn is refused 11 for a counter that is spent, and never 7. Assumes nothing.
 use Prim.Native.Nat.{ℕ, suc, _+_, _-_, _*_, _/_, _^_, _≤_, _<_}
 use native.Mathlib.Nat.{div-le-self, le-div-iff-mul-le, mod-lt, pow-suc}
@@ -48,7 +48,7 @@ use Rattle.mound.proofs.Held.{val-top}
 use Rattle.mound.proofs.Order.{Above, below-children}
 use Rattle.mound.proofs.Sorted.{AtMost, valueAt}
 
--- what an effect of thread t asks of the mound
+-- what an effect of thread t requires of the mound
 abbrev pub Allowed : Shape → Shared → (ℕ → ℕ) → ℕ → Effect → Type 0
 Allowed s m own t Nothing = Unit
 Allowed s m own t (Grow d) = (d ≡ m .depth + 1) × (d ≤ s .depth)
@@ -57,7 +57,7 @@ Allowed s m own t (Pop v c) = PopAllowed m v c
 Allowed s m own t (Exchange n v k w) = (j : ℕ) × ExchangeAllowed m n v k w j
 Allowed s m own t (Clean n v) = CleanAllowed m n v
 
--- what the effect and the answer make of the thread's operation
+-- the thread's operation before and after a turn with this effect and this answer
 pub data OperationAfter (m : Shared) (op op′ : Operation) : Effect → Answer → Type 0 where
   reads : op′ ≡ op → OperationAfter m op op′ Nothing Moved
   grows : {d : ℕ} → op′ ≡ op → OperationAfter m op op′ (Grow d) Moved
@@ -70,7 +70,7 @@ pub data OperationAfter (m : Shared) (op op′ : Operation) : Effect → Answer 
   answers : {i : Item} → op ≡ holding i → op′ ≡ none → OperationAfter m op op′ Nothing (Took i)
   cleans-answers : {n : ℕ} {v : Node} {i : Item} → op ≡ holding i → op′ ≡ none → OperationAfter m op op′ (Clean n v) (Took i)
 
--- an effect that speaks is carried out
+-- a turn with such an effect and answer is carried out
 pub operation-moves : {m : Shared} {op op′ : Operation} {e : Effect} {a : Answer} → OperationAfter m op op′ e a → changesNothing a ≡ false
 operation-moves (reads k) = refl
 operation-moves (grows k) = refl
@@ -123,7 +123,7 @@ children-deeper n d p few e =
     let c = ap (λ j. 2 ^ j) e in
     omega (arith, a .least, b, c)
 
--- A thread t in its place, with the record th, on the mound m.
+-- A thread t at its place, with the record th, on the mound m.
 module _ (s : Shape) (r : InRange s) (m : Shared) (own : ℕ → ℕ) {all : ℕ} (g : Mound s m own all) (t : ℕ) (th : Thread) (mine : own t ≡ th .own)
     (op : Operation) where
   abbrev Fits : Plan → Type 0

@@ -72,7 +72,7 @@ one-less bag i j = ap (λ q. pick q (bag j - 1) (bag j)) (same-item-either i j) 
     go true = refl
     go false = omega arith
 
--- What the root says of the tree.
+-- What a clean root tells of the tree.
 module _ (s : Shape) (m : Shared) (own : ℕ → ℕ) {all : ℕ} (g : Mound s m own all) (clean : m .node 1 .dirty ≡ 0) where
   root-least : (n : ℕ) → 1 ≤ n → AtMost (val m 1) (val m n)
   root-least n p = g .ordered 1 n (omega arith) (root-above n n (omega arith) p) clean

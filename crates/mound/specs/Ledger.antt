@@ -9,7 +9,7 @@ use Rattle.access.specs.Order.{itemLt}
 use Rattle.mound.specs.Told.{Told, nothing, beginsPut, beginsTake, decidesPut, decidesTake, decidesEmpty, answersTook}
 use Rattle.mound.specs.Tree.{sameItem}
 
--- a thread's operation begun last, as far as it goes
+-- a thread's operation begun last, and how far it has come
 pub data Operation : Type 0 where
   none : Operation
   putting : Item → Operation

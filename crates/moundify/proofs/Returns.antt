@@ -1,4 +1,4 @@
--- The ways out of the return from mending, over plain variables: the record afterwards, and the answer. Assumes nothing.
+-- The return from mending, case by case over plain variables: the record afterwards, and the answer. Assumes nothing.
 use Prim.Native.Nat.{ℕ, _-_, _≤_, _<_, _^_}
 use native.Mathlib.Omega.{arith}
 use mathlib.Core.Path.{_≡_, refl, ap, _∙_}

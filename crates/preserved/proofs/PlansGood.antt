@@ -67,7 +67,7 @@ pub record PlanGood (s : Shape) (p : Plan) : Type 0 where
   pub effect : EffectGood s (p .effect)
   pub thread : ThreadGood s (p .thread)
 
--- what a place asks goes by tries and node alone
+-- what a place requires depends on tries and node alone
 place-same : (s : Shape) (t u : Thread) (p : Place) → t .search .tries ≡ u .search .tries → t .node ≡ u .node → PlaceGood s t p
     → PlaceGood s u p
 place-same s t u AtRest et en h = tt
@@ -195,7 +195,7 @@ module _ (s : Shape) (r : InRange s) (m : Shared) (sm : SharedGood s m) where
         ReadLeaf
         (omega (arith, r .threshold-least))
 
-    -- the search goes on from a record in range: what it puts anew leaves the place as it was
+    -- the search goes on from a record in range: place, tries and node stay as they were
     ancestor-few : (n j : ℕ) → n ≤ nodeCount s → ancestor n j ≤ nodeCount s
     unfolding ancestor
     ancestor-few n j h = omega (arith, h, div-le-self n (2 ^ (level n - j)))

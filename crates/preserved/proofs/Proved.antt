@@ -109,7 +109,7 @@ turn-keeps-readable b e t c = readable-kept b _ e (turn-keeps (frameIn b) b (goo
 pub turn-keeps-shape : TurnKeepsShape
 turn-keeps-shape b e t c = shape-kept b _ e (turn-keeps (frameIn b) b (good b e) t c)
 
--- Beginnings. The first test of an order of refusals passed, and what comes behind it
+-- Beginnings. Where no refusal applies, the first test holds and none of the other refusals applies
 in-order : (q : Bool) (a n : ℕ) → (n ≡ 0 → ⊥) → pick q a n ≡ 0 → (q ≡ true) × (a ≡ 0)
 unfolding pick
 in-order true a n h e = (refl, e)

@@ -44,7 +44,7 @@ module _ (b : List ℕ) (at x y z : ℕ) (u : ℕ) (eu : u ≡ word b at) where
         let two : suc (suc at) ≡ at + 2 = omega arith in
         rw (← eu, le-leb u x l, two, ← add-one at, ← ev, le-leb v y h, ← ew, and-true) refl
 
--- A run of words: those not yet looked at decide.
+-- Words in a row: those not yet looked at decide.
 pub record Passed (b : List ℕ) (at : ℕ) (ms : List ℕ) (i : ℕ) : Type 0 where
   pub within : i ≤ length ms
   pub left : bounded b (at + i) (drop i ms) ≡ bounded b at ms
@@ -137,7 +137,7 @@ pub one-left : {test : List ℕ → ℕ → Bool} {stride : ℕ} {b : List ℕ} 
     → (m ≡ 0 → ⊥) → (r : Bool) → r ≡ test b k → r ≡ allRecords test stride b at n
 one-left e l z r er = scan-last e (omega arith) l r er
 
--- The rules that go by the place.
+-- The rules that depend on the place.
 module _ (s : Shape) (place : ℕ) where
   pub tries-leaf : place ≡ 2 → s .threshold - 1 ≡ greatestTries s place
   unfolding greatestTries pick

@@ -1,5 +1,5 @@
--- What bytes in range hold under a frame, as records; that stores of such records keep them so, and a readable region readable. Assumes
--- nothing.
+-- Bytes in range under a frame are read as records in range. Storing such records keeps the bytes in range, and a readable region
+-- readable. Assumes nothing.
 use Prim.Native.Nat.{ℕ, zero, suc, _+_, _-_, _*_, _^_, _≤_, _<_}
 use native.Mathlib.Decide.{ℕ-discrete}
 use native.Mathlib.Nat.{add-zero}
@@ -89,7 +89,7 @@ greatestPlace = placeNumber (MendClean anyWord)
 abbrev pub WaitsAbove : ℕ → ℕ → Type 0
 WaitsAbove n w = w ≤ 2 ^ (level n - 1) - 1
 
--- what the place asks of the record
+-- what the place requires of the record
 abbrev pub PlaceGood : Shape → Thread → Place → Type 0
 PlaceGood s t Idle = Unit
 PlaceGood s t ReadDepth = Unit
@@ -113,7 +113,7 @@ pub record ThreadGood (s : Shape) (t : Thread) : Type 0 where
   pub fields : FieldsGood s t
   pub place : PlaceGood s t (t .place)
 
--- Runs at most their maxima.
+-- Lists whose elements are at most their maxima.
 abbrev AllLe : List ℕ → List ℕ → Type 0
 AllLe [] [] = Unit
 AllLe [] (m ∷ ms) = ⊥
@@ -155,7 +155,7 @@ number-most (MendReadRight w) = omega arith
 number-most (MendSwap w) = omega arith
 number-most (MendClean w) = omega arith
 
--- the two rules that go by the place
+-- the two rules that depend on the place
 tries-rule : (s : Shape) (t : Thread) (p : Place) → t .search .tries ≤ s .threshold → PlaceGood s t p
     → t .search .tries ≤ greatestTries s (placeNumber p)
 unfolding greatestTries pick
@@ -259,7 +259,7 @@ module _ (cells : ℕ) (b : List ℕ) (at : ℕ) where
       (le-leb (word b (suc at)) greatestTag (g .tag))
       (and-both (le-leb (word b (suc (suc at))) cells (g .next)) refl))
 
--- two runs one behind the other
+-- words with their maxima, and others behind them
 bounded-behind : (b xs ys : List ℕ) (at : ℕ) → bounded b at (xs ++ ys) ≡ bounded b at xs && bounded b (at + length xs) ys
 unfolding bounded
 bounded-behind b [] ys at = ap (λ k. bounded b k ys) (sym (add-zero at))
@@ -325,7 +325,8 @@ good-shared f b g =
       free = g .free-most;
     }
 
--- A frame's bytes are in range where its shape is, its parts have their room, shared memory is in range and each thread's record passes.
+-- A frame's bytes are in range where its shape is, its parts lie within them and apart, shared memory is in range and each thread's record
+-- passes.
 pub make-good : (f : Frame) (b : List ℕ) → InRange (f .shape) → Framed f (length b) → SharedGood (f .shape) (sharedIn f b)
     → ((i : ℕ) → i < f .shape .threads → threadReadable (f .shape) b (f .threads + f .stride * i) ≡ true) → Good f b
 unfolding sharedIn nodeIn cellIn

@@ -85,7 +85,7 @@ unfoldable pub bounded : List ℕ → ℕ → List ℕ → Bool
 bounded b at [] = true
 bounded b at (m ∷ ms) = leb (word b at) m && bounded b (suc at) ms
 
--- the node and the cell at word `at`, of a region with so many cells
+-- the node and the cell at word `at`, in a region with this number of cells
 abbrev pub nodeReadable : ℕ → List ℕ → ℕ → Bool
 nodeReadable cells b at = bounded b at (nodeMaxima cells)
 
@@ -126,7 +126,7 @@ shapeIn b = record { depth = word b 0; cells = word b 1; threads = word b 2; thr
 abbrev pub frameIn : List ℕ → Frame
 frameIn b = frameOf (shapeIn b)
 
--- the first words are a shape, and the bytes are as many as it asks
+-- the first words are a shape in range, and the length is that of a region of this shape
 abbrev pub isWhole : List ℕ → Bool
 isWhole b = shapeFits (shapeIn b) && eqb (length b) (4 * regionWords (shapeIn b))
 

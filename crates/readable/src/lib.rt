@@ -97,7 +97,7 @@ fn greatest_waiting(place: u32, node: u32) -> u32
     (1 << (level - 1)) - 1
 }
 
-// The thread's record at word `at`, where maxima are those of the shape.
+// The thread's record at word `at`, with the maxima of its words by the shape.
 fn thread_readable(b: &[u8], at: usize, shape: Shape, maxima: &[u32]) -> bool
     requires { ⌜ ThreadWithin shape (now b) at (now maxima) ⌝ }
     ensures { λ r. ⌜ r ≡ threadReadable shape (now (b .entry)) at ⌝ }
@@ -235,7 +235,7 @@ pub fn frame_of(b: &[u8]) -> Frame
     Frame::of(load_shape(b))
 }
 
-// Whether the first words are a shape, and the bytes are as many as it asks.
+// Whether the first words are a shape in range, and the length is that of a region of this shape.
 fn is_whole(b: &[u8]) -> bool
     ensures { λ r. ⌜ r ≡ isWhole (now (b .entry)) ⌝ }
 {

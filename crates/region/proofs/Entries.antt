@@ -1,4 +1,4 @@
--- Records of a part by number: what a load or a store at 0, past the last and in between comes to, and where a record lies.
+-- Records of a part by number: a load and a store of number 0, of a number past the last record, and of a record; and where a record lies.
 -- Assumes nothing.
 use Prim.Native.Nat.{ℕ, zero, suc, _+_, _-_, _*_, _≤_, _<_}
 use native.Mathlib.Nat.{mul-le-mul-left}

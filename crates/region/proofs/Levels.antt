@@ -1,4 +1,4 @@
--- A node's level: its digits and its leading zeros make 32, and "Level j holds nodes 2^(j−1) to 2^j − 1". Assumes nothing.
+-- A node's level: its digits and its leading zeros are 32 together, and "Level j holds nodes 2^(j−1) to 2^j − 1". Assumes nothing.
 use Prim.Native.Nat.{ℕ, zero, suc, _+_, _-_, _*_, _/_, _^_, _≤_, _<_}
 use native.Mathlib.Decide.{decLt}
 use native.Mathlib.Nat.{div-one}

@@ -1,4 +1,4 @@
--- Choosing by a test, and a function changed at one number: what both choices have, the choice has. Assumes nothing.
+-- Choosing by a test, and a function changed at one number: what holds of both values holds of the chosen one. Assumes nothing.
 use Prim.Native.Nat.{ℕ}
 use mathlib.Core.Path.{_≡_, refl}
 use mathlib.Core.Bool.{Bool, true, false}

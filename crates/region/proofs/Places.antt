@@ -25,7 +25,7 @@ place-again (MendReadRight w) = refl
 place-again (MendSwap w) = refl
 place-again (MendClean w) = refl
 
--- what a match on a number leaves to its last arm
+-- what is known of the number in the last arm of a match on it
 abbrev pub NoneOf : ℕ → Type 0
 NoneOf n =
     (((((((((((((((Unit × (n ≡ 1 → ⊥)) × (n ≡ 2 → ⊥)) × (n ≡ 3 → ⊥)) × (n ≡ 4 → ⊥)) × (n ≡ 5 → ⊥))

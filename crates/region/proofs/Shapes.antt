@@ -1,4 +1,4 @@
--- What a shape in range tells, as numbers, and back; the sizes that follow from it. Assumes nothing.
+-- A shape that passes its test is in range, as inequalities between numbers, and back; the sizes that follow. Assumes nothing.
 use Prim.Native.Nat.{ℕ, _-_, _*_, _%_, _^_, _≤_, _<_}
 use native.Mathlib.Nat.{mod-eq-of-lt, one-mul}
 use native.Mathlib.Omega.{arith}
@@ -54,7 +54,7 @@ pub from-least : (lo x hi : ℕ) → lo ≤ x → leb x hi ≡ between lo x hi
 unfolding between
 from-least lo x hi p = rw (le-leb lo x p) refl
 
--- A shape in range, as numbers, and the sizes that follow.
+-- A shape in range, as inequalities between numbers, and the sizes that follow.
 pub in-range : (s : Shape) → shapeFits s ≡ true → InRange s
 unfolding shapeFits
 in-range s e =
@@ -142,7 +142,7 @@ pub words-most : (s : Shape) → InRange s → regionWords s ≤ 20547
 unfolding regionWords
 words-most s r = omega (arith, sizes s (r .depth-most))
 
--- What a shape that passed its test tells the code behind the test.
+-- What the code knows of a shape that has passed the test.
 module _ (s : Shape) (q : Bool) (eq : q ≡ shapeFits s) (gq : not q ≡ false) where
   pub shape-in-range : InRange s
   shape-in-range = in-range s (sym eq ∙ not-false q gq)

@@ -1,4 +1,4 @@
--- The thread's record and its run of words: what loading and storing one need, over plain variables, and that the words of a record
+-- The thread's record and its words: what loading and storing one need, over plain variables, and that the words of a record
 -- are read as that record. Assumes nothing.
 use Prim.Native.Nat.{ℕ, suc, _+_, _≤_, _<_}
 use native.Mathlib.Omega.{arith}
@@ -38,7 +38,7 @@ copy-parts b at =
     let behind : suc (suc (suc at)) ≡ at + nodeSize = omega arith in
     λ i. record { node = nodeAt b at; head = cellAt b (behind i) }
 
--- a node copy within a run of words is the copy at its place
+-- a node copy among words that are read is the copy at its own word
 pub copy-among : (b : List ℕ) (at n k : ℕ) → k + copySize ≤ n → copyAt b (at + k) ≡ copyOf (wordsAt b at n) k
 unfolding copyAt
 copy-among b at n k h =

@@ -29,7 +29,7 @@ use Rattle.region.proofs.Entries.{entry-end}
 use Rattle.region.proofs.Shapes.{between-least, between-most, is-between}
 use Rattle.region.proofs.Threads.{thread-again}
 
--- Word j lies outside a run of n words from word k on.
+-- Word j is none of the n words from word k on.
 abbrev pub Outside : ℕ → ℕ → ℕ → Type 0
 Outside k n j = (j < k) ⊎ (k + n ≤ j)
 
@@ -39,7 +39,7 @@ record Codec {A : Type 0} (at : List ℕ → ℕ → A) (store : List ℕ → �
   only : (b : List ℕ) (k j : ℕ) (v : A) → Outside k size j → word (store b k v) j ≡ word b j
   reads : (b b′ : List ℕ) (k : ℕ) → ((j : ℕ) → k ≤ j → j < k + size → word b j ≡ word b′ j) → at b k ≡ at b′ k
 
--- any record that is a run of `size` words, and is read back from its words
+-- any record of `size` words that is read back from them
 codec : {A : Type 0} (of : List ℕ → A) (words : A → List ℕ) (size : ℕ) → ((v : A) → length (words v) ≡ size)
     → ((v : A) → of (words v) ≡ v)
     → Codec (λ b k. of (wordsAt b k size)) (λ b k v. setWords b k (words v)) words size
@@ -215,7 +215,7 @@ module _ (f : Frame) (b : List ℕ) where
     unfolding threadIn
     threads-kept b′ h = fun-ext (load-kept thread-codec (idleThread 0) (threadsOf f) (framed .stride) b b′ h)
 
--- Lengths and bytes stay, whatever the number.
+-- What every store of a record keeps is kept by a store of any number; the length, for one.
 module _ {A : Type 0} (store : List ℕ → ℕ → A → List ℕ) (p : Part) (P : List ℕ → Type 0)
     (h : (b : List ℕ) (k : ℕ) (v : A) → P b → P (store b k v)) where
   stays : (b : List ℕ) (n : ℕ) (v : A) → P b → P (storeEntry store p b n v)

@@ -1,5 +1,5 @@
 -- The number and values of each answer (document 01, A run): "moved 0, idle 1, inserted 2, took 3 with key and tag, empty 4,
--- refused 5 with its number as key; unused words are 0"; the numbers of the refusals, and refusals in an order.
+-- refused 5 with its number as key; unused words are 0"; the numbers of the refusals; and the first refusal that applies.
 use Prim.Native.Nat.{ℕ}
 use mathlib.Core.Bool.{Bool}
 use mathlib.Core.List.{List, [], _∷_}

@@ -61,7 +61,7 @@ pub record Parted (f : Frame) : Type 0 where
 abbrev pub EndsIn : Part → ℕ → Type 0
 EndsIn p l = 4 * (p .start + partSize p) ≤ l
 
--- what the laws ask of a frame over l bytes: each part ends within them and lies apart from the others, and a thread's record ends within
+-- what the laws suppose of a frame over l bytes: each part ends within them and lies apart from the others, and a thread's record ends within
 -- its stride
 pub record Framed (f : Frame) (l : ℕ) : Type 0 where
   pub depth : EndsIn (depthOf f) l

@@ -17,6 +17,6 @@ unfoldable pub ancestor : ℕ → ℕ → ℕ
 unfolding level
 ancestor n j = n / 2 ^ (level n - j)
 
--- "waiting levels (bit j−1 for level j)": the deepest is the place of the greatest bit, and its mark that bit
+-- "waiting levels (bit j−1 for level j)": the mark of level j is that bit; the deepest waiting level is `level` of all marks together
 abbrev pub mark : ℕ → ℕ
 mark j = 2 ^ (j - 1)

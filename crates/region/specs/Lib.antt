@@ -1,4 +1,4 @@
--- The definitions of the crate `region`: records as runs of words, the frame, and shared memory read from bytes as functions.
+-- The definitions of the crate `region`: records as words, the frame, and shared memory read from bytes as functions.
 pub mod Answer
 pub mod Frame
 pub mod Inner

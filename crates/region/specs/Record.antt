@@ -1,4 +1,4 @@
--- Items, nodes, cells and node copies as runs of words, in document 01's order of the words ("The region").
+-- Items, nodes, cells and node copies as words, in document 01's order ("The region").
 use Prim.Native.Nat.{ℕ, _+_}
 use mathlib.Core.List.{List, [], _∷_, _++_}
 use lib.ListN.{getD}
@@ -19,7 +19,7 @@ greatestTag = 65535
 abbrev pub greatestCounter : ℕ
 greatestCounter = 4294967295
 
--- "nodes of three words", "C cells: key, tag, next cell", "node copies of six words": the words of a node and of a cell
+-- "nodes of three words", "C cells: key, tag, next cell", "node copies of six words": how many words each has
 abbrev pub nodeSize : ℕ
 nodeSize = 3
 

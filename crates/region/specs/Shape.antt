@@ -1,4 +1,4 @@
--- The shape of a region (document 01, The region) and the length that it asks for.
+-- The shape of a region (document 01, The region), and the length of a region of that shape.
 use Prim.Native.Nat.{ℕ, _+_, _-_, _*_, _^_}
 use mathlib.Core.Bool.{Bool, _&&_}
 use lib.Dec.{leb}

@@ -1,4 +1,4 @@
--- The thread's record as a run of words, and the values that its methods hand back (document 01, The region).
+-- The thread's record as words, and the records that its methods give (document 01, The region).
 use Prim.Native.Nat.{ℕ, _+_}
 use mathlib.Core.List.{List, [], _∷_, _++_}
 use lib.ListN.{getD}
@@ -124,7 +124,7 @@ idleThread p = threadWith p Idle zeroItem 0 0 zeroSearch 0 0 zeroItem zeroCopies
 unfoldable pub goneIdle : Thread → Thread
 goneIdle t = idleThread (t .permission)
 
--- "any other field keeps what was last put in it": the record with one field put anew
+-- "any other field keeps what was last put in it": the record with another value in one field
 unfoldable pub atPlace : Thread → Place → Thread
 atPlace t x =
     threadWith (t .permission) x (t .item) (t .own) (t .depth) (t .search) (t .node) (t .after) (t .result) (t .copies)
@@ -161,7 +161,7 @@ unfoldable pub withCopies : Thread → Copies → Thread
 withCopies t x =
     threadWith (t .permission) (t .place) (t .item) (t .own) (t .depth) (t .search) (t .node) (t .after) (t .result) x
 
--- the first, the second or the third node copy put anew
+-- the record with another first, second or third node copy
 unfoldable pub withFirst : Thread → NodeCopy → Thread
 unfolding withCopies
 withFirst t x = withCopies t (record { first = x; second = t .copies .second; third = t .copies .third })
@@ -183,7 +183,7 @@ unfoldable pub begunTake : Thread → Thread
 unfolding atPlace
 begunTake t = atPlace t ReadRoot
 
--- "Mend n": on to M1 at node n, with these levels waiting
+-- "Mend n": to M1 at node n, with these levels waiting
 unfoldable pub mending : Thread → ℕ → ℕ → Thread
 unfolding atPlace withNode
 mending t n w = atPlace (withNode t n) (MendReadNode w)

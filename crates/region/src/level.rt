@@ -22,7 +22,7 @@ pub fn ancestor_at(n: u32, j: u32) -> u32
     n >> (l - j)
 }
 
-// The mark of level j.
+// The mark of level j among the waiting levels: bit j - 1.
 pub fn mark_of(j: u32) -> u32
     requires { ⌜ (1 ≤ j) × (j ≤ 32) ⌝ }
     ensures { λ r. ⌜ r ≡ mark j ⌝ }

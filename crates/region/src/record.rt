@@ -1,4 +1,4 @@
-// An item, a node, a cell and a node copy, by value. Each is a run of words of the region.
+// An item, a node, a cell and a node copy, by value. Each is a few words of the region, in a row.
 ghost use mathlib.Core.Path.{_≡_};
 ghost use Prim.Native.Nat.{_+_, _*_, _≤_};
 ghost use lib.ListN.{length};
@@ -32,7 +32,7 @@ pub struct Cell {
     pub next: u32,
 }
 
-// What a READ of a node brings: the node, and its head cell (zero if the list is empty).
+// What a READ of a node copies: the node, and its head cell (zero if the list is empty).
 pub struct NodeCopy {
     pub node: Node,
     pub head: Cell,

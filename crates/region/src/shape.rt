@@ -1,4 +1,4 @@
-// The shape of a region: what is in range, and the length that it asks for.
+// The shape of a region: its ranges, and the sizes that follow from it.
 ghost use mathlib.Core.Path.{_≡_};
 ghost use Prim.Native.Nat.{_≤_};
 ghost use Rattle.region.specs.Shape.{between, shapeFits, nodeCount, regionWords};
@@ -17,7 +17,7 @@ pub struct Shape {
     pub cells: u32,
     // T
     pub threads: u32,
-    // H, the tries before a put lets the tree grow
+    // H, the failed tries after which a put lets the tree grow
     pub threshold: u32,
 }
 

@@ -1,4 +1,4 @@
-// A thread's record by value: taken from the region, handed back by methods on self, and stored again.
+// A thread's record by value: loaded from the region, changed by methods that take self and give the new record, and stored again.
 ghost use mathlib.Core.Path.{_≡_};
 ghost use Prim.Native.Nat.{_+_, _*_, _≤_};
 ghost use lib.ListN.{length};
@@ -10,7 +10,7 @@ use crate::record::NodeCopy;
 use crate::record::load_copy_at;
 use crate::record::store_copy_at;
 
-// The words of a thread's record: those before its node copies, and the whole.
+// The words of a thread's record before each of its three node copies, and all its words.
 const FIRST_COPY: usize = 15;
 
 const SECOND_COPY: usize = 21;
@@ -52,7 +52,7 @@ pub struct Thread {
     pub copies: Copies,
 }
 
-// The thread's record at word `at`: a run of fifteen words, then three node copies.
+// The thread's record at word `at`: fifteen words, then three node copies.
 pub fn load_thread_at(b: &[u8], at: usize) -> Thread
     requires { ⌜ 4 * (at + threadSize) ≤ length (now b) ⌝ }
     ensures { λ r. ⌜ r ≡ threadAt (now (b .entry)) at ⌝ }
@@ -172,7 +172,7 @@ impl Thread {
         self.at_place(Place::ReadRoot)
     }
 
-    // On to mending this node, with these levels waiting.
+    // The mending of this node begins, with these levels waiting.
     pub fn mending(self, node: u32, waiting: u32) -> Thread
         ensures { λ r. ⌜ r ≡ mending self node waiting ⌝ }
     {

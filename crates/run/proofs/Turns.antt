@@ -1,4 +1,4 @@
--- The run over plain variables: one turn, the loop's invariant and its turns, the refusals in their order, and the whole call.
+-- The run over plain variables: one turn, the loop's invariant and one pass of it, the refusals in their order, and the whole call.
 -- Assumes nothing.
 use Prim.Native.Nat.{ℕ, suc, _+_, _-_, _*_, _/_, _%_, _≤_, _<_}
 use native.Mathlib.Numerals.{add-one}
@@ -39,7 +39,7 @@ one-served f b b′ s a a′ k n t c r x et ec h ea er =
     λ i.
     soFar (eb i) ((ea ∙ ap (λ y. setWords a (3 * k) (answerWords y)) ex) i) (k + 1) (n + (er ∙ ap accessesOf ex) i)
 
--- The loop: serving the turns that are left, from here, gives the whole.
+-- The loop: serving the turns that are left gives what serving all gives.
 pub record Serving (f : Frame) (limit count : ℕ) (s b₀ a₀ b a : List ℕ) (k n : ℕ) : Type 0 where
   pub asked : RunWithin f (length b₀) (length s) (length a₀)
   pub total : count ≡ length s / 8

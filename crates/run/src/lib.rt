@@ -49,7 +49,8 @@ fn store_answer(answers: &mut [u8], k: usize, answer: Answer)
     words::store_words(answers, 3 * k, &words);
 }
 
-// Serves the next turn, where so many turns were served and accesses made; the accesses made with it.
+// Serves the next turn and stores its answer. Given are the turns served and the accesses made before it; the result is the
+// accesses made, those of this turn included.
 fn serve(
     f: Frame,
     b: &mut [u8],

@@ -1,4 +1,4 @@
--- Decimal numbers read and written: one turn of the loop and each way out, over plain variables, and the laws of digits. Assumes nothing.
+-- Decimal numbers read and written: one pass of the loop and each way out, over plain variables, and the laws of digits. Assumes nothing.
 use Prim.Native.Nat.{ℕ, zero, suc, _+_, _-_, _*_, _/_, _%_, _^_, _≤_, _<_}
 use native.Mathlib.Numerals.{add-one}
 use native.Mathlib.Omega.{arith}

@@ -1,4 +1,4 @@
--- What the crates above cite of a script's run beside its contract. Assumes nothing.
+-- What the crates above cite of `run_script` beside its contract. Assumes nothing.
 use Prim.Native.Nat.{ℕ, _≤_}
 use native.Mathlib.Omega.{arith}
 use mathlib.Core.Path.{_≡_, sym, ap, _∙_}

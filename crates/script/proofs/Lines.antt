@@ -34,7 +34,7 @@ word-most Begun = omega arith
 word-most (Answered a) = answer-most a
 word-most Unreadable = omega arith
 
--- Answer, key and tag, the last that was written first.
+-- Answer, key and tag. What was written last is the first premise.
 pub key-room : {l l₁ : List ℕ} {a k₁ : ℕ} (o : Outcome) → Wrote l l₁ a k₁ (outcomeWord o) → a + 33 ≤ length l → k₁ + 11 ≤ length l₁
 key-room o w h = omega (arith, word-most o, w .next, wrote-length w)
 
@@ -54,7 +54,7 @@ outcome-wrote {l} {l₁} {l₂} {l₃} {a} {k₁} {k₂} {k₃} o tag key w₃ e
     (subst (λ n. Wrote l₁ l₂ k₁ k₂ (numberText n 32)) ek w₂)
     (subst (λ n. Wrote l₂ l₃ k₂ k₃ (numberText n 10)) et w₃))
 
--- A whole line, likewise.
+-- A whole line, in the same way.
 pub thread-room : {l l₁ : List ℕ} {a k₁ : ℕ} (line : ℕ) → Wrote l l₁ a k₁ (numberText line 32) → a + 55 ≤ length l → k₁ + 11 ≤ length l₁
 thread-room line w h = omega (arith, number-most line 32, w .next, wrote-length w)
 

@@ -1,4 +1,4 @@
--- To take at most as many lines as there are bytes leaves no line out: each line that is read takes bytes. Assumes nothing.
+-- Reading at most as many lines as there are bytes leaves no line out: each line that is read has bytes. Assumes nothing.
 use Prim.Native.Nat.{ℕ, zero, suc, _+_, _-_, _≤_}
 use native.Mathlib.Nat.{add-suc, add-zero}
 use native.Mathlib.Omega.{arith}

@@ -1,4 +1,4 @@
--- The lines of a script: a line's call, and one turn of the loop over the lines. Assumes nothing.
+-- The lines of a script: a line's call, and one pass of the loop over the lines. Assumes nothing.
 use Prim.Native.Nat.{ℕ, zero, suc, _+_, _-_, _*_, _≤_, _<_}
 use native.Mathlib.Numerals.{add-one}
 use native.Mathlib.Omega.{arith}
@@ -76,7 +76,7 @@ module _ (s : List ℕ) (at line : ℕ) (b : List ℕ) where
     unfolding linesFrom pick
     lines-read l e = rw (lt-ltb at (length s) h, e) refl
 
--- The loop: what is left from here gives the whole. Line n is the nth, so of as many lines as bytes that many are left.
+-- The loop: the lines that are left give the whole. Of at most as many lines as there are bytes, those before line n are done.
 pub whole : List ℕ → ℕ → List ℕ → Ran
 whole s start b = linesFrom (length s) s start 1 b
 

@@ -1,4 +1,4 @@
--- Text compared and written: one turn of each loop, over plain variables, and the laws of what is written. Assumes nothing.
+-- Text compared and written: one pass of each loop, over plain variables, and the laws of what is written. Assumes nothing.
 use Prim.Native.Nat.{ℕ, suc, _+_, _≤_, _<_}
 use native.Mathlib.Nat.{add-zero, add-suc, suc-add}
 use native.Mathlib.Numerals.{add-one}

@@ -1,4 +1,4 @@
--- What a run of a script answers and leaves in the lent buffers, by the definition of what it prints.
+-- What `run_script` answers and leaves in the lent buffers, by the definition of what a script prints.
 use Prim.Native.Nat.{ℕ}
 use mathlib.Core.Path.{_≡_}
 use mathlib.Core.List.{List, _++_}
@@ -14,7 +14,7 @@ regionRoom = 13068
 abbrev pub linesRoom : ℕ
 linesRoom = 330055
 
--- what a run of the script s answers and leaves in the lent buffers: the output and the region at their starts, the rest as it was
+-- what `run_script` answers to the script s and leaves in the lent buffers: the output and the region at their starts, the rest as it was
 pub record ScriptRan (s out out′ g g′ : List ℕ) (r : ℕ) : Type 0 where
   pub count : r ≡ length (scriptRun s .printed)
   pub output : out′ ≡ scriptRun s .printed ++ drop r out

@@ -6,7 +6,7 @@ use lib.ListN.{length}
 use Rattle.script.specs.Text.{ascii}
 use Rattle.script.specs.Script.{linesFrom, scriptRun}
 
--- to take at most as many lines as there are bytes leaves no line out: with more allowed, nothing else is printed or done
+-- reading at most as many lines as there are bytes leaves no line out: with more allowed, nothing else is printed or done
 abbrev pub NoLineLeftOut : Type 0
 NoLineLeftOut =
     (n : ℕ) (s : List ℕ) (at line : ℕ) (b : List ℕ) → length s ≤ n

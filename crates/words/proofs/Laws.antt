@@ -1,4 +1,4 @@
--- The laws of words and runs: what was stored is read back, what lies apart is left alone, lengths stay, what is read fits.
+-- The laws of words, one or several in a row: what was stored is read back, other words and the length stay, and what is read fits 32 bits.
 -- Assumes nothing.
 use Prim.Native.Nat.{ℕ, zero, suc, _+_, _*_, _/_, _%_, _^_, _≤_, _<_}
 use native.Mathlib.Nat.{add-zero, add-suc, suc-add, div-div-eq-div-mul}
@@ -109,21 +109,21 @@ pub word-fits : (b : List ℕ) (k : ℕ) → Bytes b → word b k < 2 ^ 32
 unfolding word
 word-fits b k h = omega (arith, h (4 * k), h (4 * k + 1), h (4 * k + 2), h (4 * k + 3))
 
--- Runs. A word before or behind a stored run is left alone.
+-- Several words in a row. A word before the stored ones or behind them is left alone.
 pub word-apart : (vs b : List ℕ) (at k : ℕ) → (k < at) ⊎ (at + length vs ≤ k) → word (setWords b at vs) k ≡ word b k
 word-apart [] b at k o = refl
 word-apart (v ∷ vs) b at k o =
     word-apart vs (setWord b at v) (suc at) k (⊎-elim (λ h. inl (omega arith)) (λ h. inr (omega arith)) o)
     ∙ word-other b at k v (⊎-elim (λ h. omega arith) (λ h. omega arith) o)
 
--- A run is read from its own words alone.
+-- What is read depends on the words that are read alone.
 pub wordsAt-reads : (b b′ : List ℕ) (at n : ℕ) → ((i : ℕ) → at ≤ i → i < at + n → word b i ≡ word b′ i)
     → wordsAt b at n ≡ wordsAt b′ at n
 wordsAt-reads b b′ at zero h = refl
 wordsAt-reads b b′ at (suc n) h =
     cc (h at (omega arith) (omega arith), wordsAt-reads b b′ (suc at) n (λ i l u. h i (omega arith) (omega arith)))
 
--- A stored run is read back.
+-- Words stored in a row are read back,
 pub wordsAt-same : (vs b : List ℕ) (at : ℕ) → 4 * (at + length vs) ≤ length b → Fit vs
     → wordsAt (setWords b at vs) at (length vs) ≡ vs
 wordsAt-same [] b at h f = refl
@@ -134,7 +134,7 @@ wordsAt-same (v ∷ vs) b at h f =
       wordsAt-same vs (setWord b at v) (suc at) (rw length-setWord (omega arith)) (f .1),
     )
 
--- A word of a stored run.
+-- and so is each of them.
 pub word-stored : (vs b : List ℕ) (at i : ℕ) → 4 * (at + length vs) ≤ length b → Fit vs → i < length vs
     → word (setWords b at vs) (at + i) ≡ getD vs i 0
 word-stored (v ∷ vs) b at zero h f l =
@@ -146,7 +146,7 @@ word-stored (v ∷ vs) b at (suc i) h f l =
     ∙ word-stored vs (setWord b at v) (suc at) i (rw length-setWord (omega arith)) (f .1) (omega arith)
 word-stored [] b at i h f l = absurd (omega arith)
 
--- A run is its words one by one, and two runs stored one behind the other are one.
+-- Words read in a row are the words one by one, and two lists stored one behind the other are stored as one list.
 pub word-among : (b : List ℕ) (at n i : ℕ) → i < n → getD (wordsAt b at n) i 0 ≡ word b (at + i)
 word-among b at zero i l = absurd (omega arith)
 word-among b at (suc n) zero l = ap (word b) (sym (add-zero at))

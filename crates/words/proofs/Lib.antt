@@ -1,3 +1,3 @@
--- What the crates above cite of `words` beside its contracts, and the turns of its own loops.
+-- What the crates above cite of `words` beside its contracts, and what the proofs of its own loops need.
 pub mod Laws
 mod Loops

@@ -1,4 +1,4 @@
--- The invariants of the two loops, filling a slice with a run of words and storing a run, and one turn of each, over plain variables.
+-- The two loops, which load and store words in a row: the invariant of each, and one pass of it, over plain variables.
 -- Assumes nothing.
 use Prim.Native.Nat.{ℕ, zero, suc, _+_, _≤_, _<_}
 use native.Mathlib.Numerals.{add-one}
@@ -15,7 +15,7 @@ wordsAt-snoc : (b : List ℕ) (at n : ℕ) → wordsAt b at (suc n) ≡ wordsAt 
 wordsAt-snoc b at zero = rw add-zero refl
 wordsAt-snoc b at (suc n) = ap (λ l. word b at ∷ l) (wordsAt-snoc b (suc at) n ∙ rw (suc-add, add-suc) refl)
 
--- the first i words of out are those of the run
+-- the first i words are loaded
 pub record Loaded (b : List ℕ) (at : ℕ) (out₀ out : List ℕ) (i : ℕ) : Type 0 where
   pub within : i ≤ length out
   pub same : length out ≡ length out₀
@@ -45,7 +45,7 @@ load-end {b} {at} {out₀} {out} {i} e h =
     let n : i ≡ length out₀ = omega arith in
     sym (take-all i out h) ∙ e .passed ∙ ap (wordsAt b at) n
 
--- storing what is left of the run, from here, gives the whole
+-- the first i words are stored: storing the others gives what storing all gives
 pub record Stored (b₀ : List ℕ) (at : ℕ) (vs b : List ℕ) (i : ℕ) : Type 0 where
   pub within : i ≤ length vs
   pub same : length b ≡ length b₀

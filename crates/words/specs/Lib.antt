@@ -1,3 +1,3 @@
--- The definitions of the crate `words`: one little-endian word, and runs of words, in a list of bytes.
+-- The definitions of the crate `words`: little-endian words in a list of bytes, one or several in a row.
 pub mod Inner
 pub mod Word

@@ -1,4 +1,4 @@
-// One little-endian 32-bit word, and runs of words, in a lent byte slice. Offsets count words.
+// Little-endian 32-bit words in a lent byte slice, one or several in a row. Offsets count words.
 ghost use mathlib.Core.Path.{_≡_};
 ghost use Prim.Native.Nat.{_+_, _*_, _≤_};
 ghost use lib.ListN.{length};

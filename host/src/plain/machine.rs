@@ -16,7 +16,7 @@ pub struct Machine<'a> {
 }
 
 impl<'a> Machine<'a> {
-    /// Takes a region over after a check.
+    /// Opens a region after a check.
     ///
     /// # Errors
     ///

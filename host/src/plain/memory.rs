@@ -49,7 +49,7 @@ impl Cell {
     }
 }
 
-/// What READ takes from a node: the node and its head cell, which is all 0 for an empty list.
+/// What READ copies of a node: the node and its head cell, which is all 0 for an empty list.
 #[derive(Clone, Copy)]
 pub(super) struct NodeCopy {
     pub node: Node,
@@ -84,7 +84,7 @@ impl Update {
 }
 
 /// The shared part of a readable region. An access that names a node that does not exist is refused,
-/// however its comparisons come out.
+/// whether its comparisons hold or not.
 pub(super) struct Memory<'a> {
     pub heading: &'a mut Heading,
     pub nodes: &'a mut [NodeWords],
@@ -143,7 +143,7 @@ impl Memory<'_> {
         Ok(holds)
     }
 
-    /// Takes the first free cell for an item, if there is a free one.
+    /// Stores an item in the first free cell and gives the cell, if one is free.
     pub fn take_free_cell(&mut self, key: u32, tag: u32) -> Option<u32> {
         let first = u32::from_le_bytes(self.heading[heading::FIRST_FREE_CELL]);
         if first == 0 {
@@ -162,7 +162,7 @@ impl Memory<'_> {
         *first = freed.to_le_bytes();
     }
 
-    /// Puts a cell before another; the item stays.
+    /// Links a cell to its next one; the item stays.
     pub fn link(&mut self, cell: u32, next: u32) {
         self.cells[cell as usize - 1][cell::NEXT] = next.to_le_bytes();
     }

@@ -22,8 +22,8 @@ impl Turn<'_, '_> {
         self.moved_to(Place::M2)
     }
 
-    /// M2, lines 34 to 36: READ depth. A dirty leaf is cleaned, not left as it is. Only a dirty copy
-    /// asks for the node's level, so a clean one returns whatever the node.
+    /// M2, lines 34 to 36: READ depth. A dirty leaf is cleaned, not left as it is. Only for a
+    /// dirty copy is the node's level looked at, so a clean one returns whatever the node.
     pub(super) fn read_depth_mending(&mut self) -> Outcome {
         let d = self.memory.read_depth();
         if !self.thread.copy(Copied::First).node.dirty {

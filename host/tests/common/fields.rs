@@ -122,7 +122,7 @@ impl Words {
         let mut region = Words::laid_out(shape);
         let has_few_keys = random.among(0..=1) == 0;
         let few_keys = [u32::MAX, random.among_or_extreme(0..=u32::MAX)];
-        // Place and node stand before the fields whose ranges hang on them.
+        // Place and node stand before the fields whose ranges depend on them.
         for at in 4..region.words.len() {
             region.words[at] = if has_few_keys && region.field(at) == Field::Key {
                 random.one_of(&few_keys)

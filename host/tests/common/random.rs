@@ -66,7 +66,7 @@ impl Random {
         }
     }
 
-    /// A shape whose operations meet often: at most seven levels, few tries, so many threads.
+    /// A shape whose operations meet often: at most seven levels, few tries, this many threads.
     pub fn crowded_shape(&mut self, threads: RangeInclusive<u32>) -> Shape {
         let depth = self.among(1..=7);
         Shape {

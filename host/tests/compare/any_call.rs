@@ -7,7 +7,7 @@ use crate::random::Random;
 use crate::tally::Outcome::{self, Check, Layout, Put, Take};
 use crate::tally::Tally;
 
-/// How beginnings come out in readable regions: begun, or refused.
+/// What beginnings answer in readable regions: begun, or refused.
 pub const BEGINNINGS: [Outcome; 10] =
     [Put(0), Put(3), Put(4), Put(8), Put(9), Put(10), Take(0), Take(3), Take(8), Take(9)];
 

@@ -45,7 +45,7 @@ fn any_readable_region() {
     tally.has_just(&BEGINNINGS, 50);
 }
 
-/// Regions with one word set to another value, each word in turn.
+/// Regions with one word set to another value, one word after the other.
 #[test]
 fn damaged_regions() {
     let random = &mut Random::new(95);

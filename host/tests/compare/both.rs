@@ -102,7 +102,7 @@ pub struct Ran {
     pub answers: Vec<Answer>,
 }
 
-/// Runs a schedule with so many bytes of room for answers. The bytes past the last answer must stay
+/// Runs a schedule with this many bytes of room for answers. The bytes past the last answer must stay
 /// as they were, and the counts fit the answers and the limit.
 pub fn run(
     random: &mut Random,

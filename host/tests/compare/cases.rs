@@ -11,7 +11,7 @@ use crate::runs::run_turns;
 
 const TOOK_5: Answer = Took { key: 5, tag: 0 };
 
-/// A queue of which the library's calls are made, each beside the plain implementation's.
+/// A queue on which each call is made by the library and by the plain implementation.
 pub struct Case {
     pub queue: Queue,
     random: Random,

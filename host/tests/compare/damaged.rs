@@ -1,4 +1,4 @@
-//! Check: regions with one word set to another value, each word in turn.
+//! Check: regions with one word set to another value, one word after the other.
 
 use mound::Shape;
 

@@ -1,4 +1,4 @@
-//! Check: the two fields whose range hangs on others, tries and the waiting levels.
+//! Check: the two fields whose range depends on others, tries and the waiting levels.
 
 use mound::Shape;
 

@@ -92,7 +92,7 @@ fn of_any_readable_regions() {
 }
 
 /// A few words are set to other values again and again; where the region is not readable after it,
-/// every call is refused, and the old words are put back.
+/// every call is refused, and the old words are stored again.
 #[test]
 fn of_damaged_regions() {
     let random = &mut Random::new(103);

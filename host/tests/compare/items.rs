@@ -18,20 +18,20 @@ fn took((key, tag): Item) -> Answer {
     Took { key, tag }
 }
 
-/// What a thread's operation answers at just so many turns.
+/// What a thread's operation answers, which is to be at the last of this many turns.
 fn answered(case: &mut Case, thread: u32, turns: usize) -> Answer {
     let answers = case.turns(&vec![thread; turns]);
     assert_eq!(answers[..turns - 1], vec![Moved; turns - 1]);
     answers[turns - 1]
 }
 
-/// Thread 1 puts an item, in so many turns.
+/// Thread 1 puts an item, in this many turns.
 fn put(case: &mut Case, item: Item, turns: usize) {
     assert_eq!(case.put_item(1, item), 0);
     assert_eq!(answered(case, 1, turns), Inserted);
 }
 
-/// What thread 1 takes in so many turns.
+/// What thread 1 takes in this many turns.
 fn take(case: &mut Case, turns: usize) -> Answer {
     assert_eq!(case.take(1), 0);
     answered(case, 1, turns)
@@ -52,7 +52,7 @@ fn tag_9_then_tag_2_in_the_root() {
     assert_eq!([5, 5, 1].map(|turns| take(&mut case, turns)), [took(TAG_2), took(TAG_9), Empty]);
 }
 
-/// The second put does not find its place in the root and grows the tree, as that of case H.
+/// The second put's item is greater than the root's, so the tree grows, as in case H.
 #[test]
 fn tag_2_then_tag_9_below_it() {
     let mut case = with_root(TAG_2);
@@ -70,7 +70,7 @@ fn a_take_that_ends_between_the_puts() {
 }
 
 /// Thread 1 takes, with the first item at the root; between its E1 and E2 thread 2 puts the other item,
-/// in so many turns.
+/// in this many turns.
 fn put_between_e1_and_e2(root: Item, other: Item, turns: usize) -> Case {
     let mut case = with_root(root);
     assert_eq!([case.take(1), case.put_item(2, other)], [0, 0]);

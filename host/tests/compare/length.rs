@@ -50,7 +50,7 @@ fn large_regions_cut_short() {
     }
 }
 
-/// First words whose length comes out right, or not at all, if sums and shifts wrap.
+/// First words with numbers far out of range: if sums and shifts wrap, a wrong length may seem right.
 #[test]
 fn headings_alone_with_huge_numbers() {
     let numbers = [0, 1, 2, 12, 13, 30, 31, 32, 33, 63, 64, 65, 1 << 31, u32::MAX];

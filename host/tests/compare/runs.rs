@@ -29,7 +29,7 @@ fn run(queue: &mut Queue, turns: &[(u32, u32)], limit: u32) -> Ran {
     run_turns(&mut Random::new(110), queue, turns, limit)
 }
 
-/// The result of a run of so many bytes with so much room for answers.
+/// The result of a run of a schedule of this length, with this room for answers.
 fn run_of(queue: &Queue, length: usize, room: usize) -> Result<Served, Refusal> {
     let random = &mut Random::new(111);
     both::run(random, &mut queue.clone().bytes, &vec![1; length], u32::MAX, room).result

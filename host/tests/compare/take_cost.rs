@@ -16,7 +16,7 @@ use crate::tally::Tally;
 use crate::values::{rank, triples, Value};
 
 /// The calls on a region, beside any calls: puts at first, then takes, so that trees of every depth
-/// come to be empty.
+/// become empty.
 const PUTS: u32 = 80;
 const TAKES: u32 = 160;
 

@@ -1,4 +1,4 @@
-//! How often each outcome comes up in a test, so that the test can tell that it came upon them.
+//! How often each outcome comes up in a test, so that the test can show that each one did.
 
 use std::collections::BTreeMap;
 

@@ -1,5 +1,5 @@
-//! Demand 3 as a referee, with request 2's order: the plain bag of items, told the calls and the turns
-//! of a queue. Beside it what a take costs, request 3.
+//! Demand 3 as a test, with request 2's order: the plain bag of items, told the calls and the turns
+//! of a queue. Also what a take costs, request 3.
 
 use mound::{Answer, Refusal};
 
@@ -33,7 +33,7 @@ pub enum Disagreement {
     OtherCost { thread: u32, got: u32, due: u32 },
 }
 
-/// What a thread is at, as far as the bag is told.
+/// A thread's operation, as far as the bag is told.
 #[derive(Clone, Copy, PartialEq, Eq, Hash)]
 enum Operation {
     None,

@@ -6,7 +6,7 @@ use crate::fields::{Words, FIRST_FREE_CELL, PRESENT_DEPTH};
 use crate::queue::{Queue, SMALL};
 use crate::random::Random;
 
-/// Lists that go round in circles and share their cells, dirty nodes, keys out of range: there is a
+/// Lists that are circular or share cells, dirty nodes, keys out of range: there is a
 /// figure, and it is one that request 3 names.
 #[test]
 fn of_any_readable_region() {

@@ -5,7 +5,7 @@ use crate::{plain, program};
 const OPENING: &str = "depth cells threads threshold permission\n1 1 1 1 3\nwhat thread a b\n";
 const MOST: usize = 60_000;
 
-/// A script of so many bytes: the line again and again, the last one with leading zeros enough.
+/// A script of this many bytes: the line again and again, the last one with leading zeros to fill.
 fn script_of(length: usize, line: &str) -> String {
     let mut script = String::from(OPENING);
     while script.len() + 2 * line.len() <= length {

@@ -34,7 +34,7 @@ fn script(random: &mut Random) -> String {
     script
 }
 
-/// The script with a byte changed, left out or put in, or cut short.
+/// The script with a byte changed, left out or inserted, or cut short.
 fn damaged(random: &mut Random, script: &str) -> Vec<u8> {
     let mut bytes = script.as_bytes().to_vec();
     let at = random.among(0..=bytes.len() as u32 - 1) as usize;

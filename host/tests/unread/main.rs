@@ -38,7 +38,7 @@ fn try_each_word(memory: &mut Memory, region: &Words) {
 }
 
 /// The words up to the one at which a check sees that this word's value is out of range: the word
-/// itself, but the last of its record for what hangs on other words, tries at I2 and waiting levels.
+/// itself, but the last of its record for what depends on other words, tries at I2 and waiting levels.
 fn words_to_read(region: &Words, at: usize, value: u32) -> usize {
     match region.field(at) {
         Field::Tries if value > region.shape().threshold => at + 1,

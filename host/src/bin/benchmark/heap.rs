@@ -11,7 +11,7 @@ use crate::play::Item;
 use crate::record::Random;
 use crate::work::PAIRS;
 
-/// Nanoseconds of a push and a pop in a heap that holds so many random items.
+/// Nanoseconds of a push and a pop in a heap that holds this many random items.
 pub fn pair(items: u32) -> f64 {
     let mut random = Random::new();
     let held: BinaryHeap<Reverse<Item>> = (0..items).map(|_| Reverse(random.next_item())).collect();

@@ -1,4 +1,4 @@
-//! Rounds of measurements, the two implementations in turn, and medians over them.
+//! Rounds of measurements of both implementations, and medians over the rounds.
 
 use std::time::Instant;
 
@@ -7,19 +7,20 @@ use crate::work::Work;
 
 pub const ROUNDS: usize = 1001;
 
-/// A measurement is of work that takes about so long, by copies of the region as long as they fit
-/// in a cache.
+/// How long the work of one measurement takes, about: it is played on several copies of the region,
+/// but on no more than fit in a cache of this size.
 const NANOSECONDS: f64 = 100_000.0;
 const CACHE: usize = 512 * 1024;
 
-/// Nanoseconds of one unit of a work, and the library's in parts of the plain implementation's.
+/// Nanoseconds of one unit of a work by each implementation, and the library's time divided by the
+/// plain implementation's.
 pub struct Times {
     pub library: f64,
     pub plain: f64,
     pub ratio: f64,
 }
 
-/// The medians over all rounds, after a look that both leave the same bytes.
+/// The medians over all rounds, after a test that both leave the same bytes.
 pub fn measure(work: &Work, units: u32) -> Times {
     let mut bench = Bench::of(work);
     bench.compare();
@@ -32,7 +33,7 @@ pub fn measure(work: &Work, units: u32) -> Times {
     }
 }
 
-/// The library's time for a call of one work in parts of that for a call of another: the median over
+/// The library's time for a call of one work, divided by that for a call of another: the median over
 /// rounds of both.
 pub fn share(part: &Work, whole: &Work) -> f64 {
     let mut benches = (Bench::of(part), Bench::of(whole));
@@ -44,7 +45,7 @@ pub fn share(part: &Work, whole: &Work) -> f64 {
     median(rounds.iter().map(|(part, whole)| part / whole).collect())
 }
 
-/// Two measurements in each round, either of them first in every other one.
+/// Both measurements in each round; which of them is first alternates.
 fn in_turn<B>(
     bench: &mut B,
     one: impl Fn(&mut B) -> f64,

@@ -25,7 +25,7 @@ pub enum Call {
     Check,
 }
 
-/// An implementation of the calls. What they answer is looked at by no one, but computed.
+/// An implementation of the calls. Their answers are computed and not looked at.
 pub trait Queue {
     fn put(region: &mut [u8], thread: u32, item: Item);
     fn take(region: &mut [u8], thread: u32);

@@ -43,7 +43,7 @@ pub struct Recorder {
 }
 
 impl Recorder {
-    /// A queue that holds so many random items.
+    /// A queue that holds this many random items.
     pub fn holding(shape: Shape, items: u32) -> Recorder {
         let mut recorder = Recorder::laid_out(shape);
         for _ in 0..items {
@@ -97,7 +97,7 @@ impl Recorder {
         }
     }
 
-    /// Runs so many turns of threads drawn from those that are not answered, or from all when none is
+    /// Runs this many turns of threads drawn from those that are not answered, or from all when none is
     /// left.
     pub fn run_crossing(&mut self, turns: u32) {
         let all: Vec<u32> = (1..=self.shape.threads).collect();
@@ -114,7 +114,7 @@ impl Recorder {
         });
     }
 
-    /// Runs so many turns of all threads one after the other, each with choice 0.
+    /// Runs this many turns of all threads, one after the other, each with choice 0.
     pub fn run_in_turn(&mut self, turns: u32) {
         let end = self.work.turns + turns;
         self.run_until(|recorder| {

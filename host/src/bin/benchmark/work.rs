@@ -43,7 +43,7 @@ impl Work {
         recorder.work()
     }
 
-    /// Puts and takes by thread 1, in turn, in a queue that holds so many items.
+    /// Puts and takes by thread 1, one after the other, in a queue that holds this many items.
     pub fn pairs(shape: Shape, items: u32) -> Work {
         let mut recorder = Recorder::holding(shape, items);
         for _ in 0..PAIRS {
@@ -53,14 +53,14 @@ impl Work {
         recorder.work()
     }
 
-    /// So many checks of a region that is laid out.
+    /// This many checks of a region that is laid out.
     pub fn checks(shape: Shape, checks: usize) -> Work {
         let mut work = Recorder::holding(shape, 0).work();
         work.calls = vec![Call::Check; checks];
         work
     }
 
-    /// The same calls on a region with a word, so many words from its start, that is out of any range.
+    /// The same calls on a region in which the word behind this many others is out of any range.
     pub fn with_bad_word(mut self, words_before: usize) -> Work {
         self.start[4 * words_before..][..4].copy_from_slice(&u32::MAX.to_le_bytes());
         self

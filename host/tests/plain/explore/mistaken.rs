@@ -1,5 +1,5 @@
-//! Document 01's mistakes with good looks, and that of comparing keys alone, put into the machine from
-//! outside: each is an edit of the bytes around a call, after which the machine does what a mistaken
+//! Document 01's mistakes with good looks, and that of comparing keys alone, made from outside the
+//! machine: each is an edit of the bytes around a call, after which the machine does what a mistaken
 //! one would do.
 
 use mound::{Answer, Refusal};

@@ -1,4 +1,4 @@
-//! Each mistake is found: the search comes upon a disagreement with the bag, on a workload on which
+//! Each mistake is found: the search finds a disagreement with the bag, on a workload on which
 //! the machine without the mistake has none.
 
 use mound::{Refusal, Shape};

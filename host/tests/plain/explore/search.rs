@@ -28,7 +28,7 @@ pub enum Step {
     Turn { thread: u32, choice: u32 },
 }
 
-/// What a search came across.
+/// What a search found.
 #[derive(Debug, Default)]
 pub struct Explored {
     pub states: usize,
@@ -51,7 +51,7 @@ struct State {
     made: Vec<usize>,
 }
 
-/// More states than any workload here has: a machine that never comes to rest has no last state.
+/// More states than any workload here has: a machine that never ends has no last state.
 const MOST_STATES: usize = 10_000_000;
 
 /// Goes through every state that the workload can reach. In each of them a take that makes no mistake

@@ -1,4 +1,4 @@
--- `region::record::load_cell_at` meets its contract: the words of the run, by their places. Assumes nothing.
+-- `region::record::load_cell_at` meets its contract: each field is its word. Assumes nothing.
 use borrow.Author.Needs.{needs}
 use Rattle.region.proofs.record.load_cell_at.Statement.{statement}
 use mathlib.Core.Path.{ap}

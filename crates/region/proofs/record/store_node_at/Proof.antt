@@ -1,4 +1,4 @@
--- `region::record::store_node_at` meets its contract: the record's words are stored as a run. Assumes nothing.
+-- `region::record::store_node_at` meets its contract: the record's words are stored in a row. Assumes nothing.
 use borrow.Author.Needs.{needs}
 use Rattle.region.proofs.record.store_node_at.Statement.{statement}
 use Rattle.region.specs.Record.{setNodeAt}

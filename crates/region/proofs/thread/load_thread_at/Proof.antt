@@ -1,4 +1,4 @@
--- `region::thread::load_thread_at` meets its contract: the words of the first run, by their places, and the copies behind it.
+-- `region::thread::load_thread_at` meets its contract: each field is its word, and the copies lie behind.
 -- Assumes nothing.
 use borrow.Author.Needs.{needs}
 use Rattle.region.proofs.thread.load_thread_at.Statement.{statement}

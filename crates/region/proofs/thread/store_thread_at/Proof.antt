@@ -1,4 +1,4 @@
--- `region::thread::store_thread_at` meets its contract: the first run is stored, and the copies behind it. Assumes nothing.
+-- `region::thread::store_thread_at` meets its contract: the words of the fields are stored, and the copies behind them. Assumes nothing.
 use borrow.Author.Needs.{needs}
 use Rattle.region.proofs.thread.store_thread_at.Statement.{statement}
 use Rattle.region.proofs.Threads.{thread-stored}

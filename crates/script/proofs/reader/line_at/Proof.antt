@@ -1,6 +1,6 @@
 -- `script::reader::line_at` meets its contract: a walk of its MIR, by hand. The `Reader` that `open` returns is held in a local and
 -- passed to `next_line`. In a local of a body MIR erases the lifetime of the struct's type, so the value is shown to have the type at
--- `erased`: what the struct owns does not say the lifetime's name. Assumes nothing.
+-- `erased`: what the struct owns does not depend on the lifetime's name. Assumes nothing.
 use mathlib.Core.Path.{_≡_, refl, ap, _∙_}
 use Prim.Native.Nat.{ℕ, _<_, _^_}
 use mathlib.Core.List.{List, [], _∷_}
@@ -95,7 +95,7 @@ module _ {M : Type 1} (𝓤 : URA M) (H : Heap 𝓤) (A : Atoms 𝓤) (W : Given
   abbrev Own : Fml
   Own = ShrSlice (named 0) κ u8 .own s (v ∷ [])
 
-  -- the call of `open`: what it is passed, what it asks, and what is known of its result
+  -- the call of `open`: what it is passed, what it requires, and what is known of its result
   abbrev to-open : Open 𝓤 H A mem run .Ghost
   to-open = (((κ, tt), (q, tt), tt, (s, (n, tt)), at), tt)
 

@@ -1,4 +1,4 @@
--- `script::reading::read_opening` meets its contract: headings, shape and length in turn. Assumes nothing.
+-- `script::reading::read_opening` meets its contract: headings, shape and length one after the other. Assumes nothing.
 use borrow.Author.Needs.{needs}
 use Rattle.script.proofs.Readings.{no-heading, no-line-heading, no-shape, opening-fits, opening-read, too-long}
 use Rattle.script.proofs.reading.read_opening.Statement.{statement}
