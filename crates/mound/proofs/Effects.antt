@@ -23,7 +23,7 @@ use Rattle.access.proofs.OrderLaws.{item-refl, item-trans}
 use Rattle.access.proofs.ReadLaws.{updated-counter, updated-dirty, updated-first}
 use Rattle.mound.specs.Tree.{sameItem}
 use Rattle.mound.proofs.Chains.{ItemsStay}
-use Rattle.mound.proofs.Held.{Held, counted, first-owner, own-owner, free-owner, thread-items-stay, rest-stays, held-same, counted-same, held-begin, counted-begin, held-push, counted-push, held-pop, counted-pop, held-exchange, counted-exchange}
+use Rattle.mound.proofs.Held.{Held, counted, first-owner, own-owner, free-owner, thread-items-stay, rest-stays, held-same, counted-same, held-begin, held-push, held-pop, held-exchange}
 use Rattle.mound.proofs.Order.{Above, Ordered, above-le, push-ordered, pop-ordered, clean-ordered, exchange-ordered}
 use Rattle.mound.proofs.Sorted.{AtMost, Proper, valueAt}
 
@@ -57,6 +57,21 @@ pub record Keeps (s : Shape) (m m′ : Shared) (own own′ : ℕ → ℕ) (all t
   pub mound : Mound s m′ own′ all
   pub rely : Rely m m′
   pub kept : (u : ℕ) → (u ≡ t → ⊥) → ItemsStay (m .cell) (m′ .cell) (own u)
+
+-- A step that leaves the depth and all nodes below it keeps the mound, if it keeps what is held and the order.
+still-mound : (s : Shape) (m m′ : Shared) (own own′ : ℕ → ℕ) {all : ℕ} → Mound s m own all → m′ .depth ≡ m .depth
+    → ((y : ℕ) → 2 ^ m .depth ≤ y → m′ .node y ≡ m .node y) → Held s m′ own′ all → InOrder m′ → Mound s m′ own′ all
+still-mound s m m′ own own′ g depth below held ordered =
+    record {
+      held = held;
+      ordered = ordered;
+      deep = λ y h.
+          let l = subst (λ k. 2 ^ k ≤ y) depth h in
+          let e = below y l in
+          (ap (λ z. z .first) e ∙ g .deep y l .0, ap (λ z. z .dirty) e ∙ g .deep y l .1);
+      depth-least = omega (arith, depth, g .depth-least);
+      depth-most = omega (arith, depth, g .depth-most);
+    }
 
 read-same : (m m′ : Shared) (x : ℕ) → m′ .node x ≡ m .node x → m′ .cell (m .node x .first) ≡ m .cell (m .node x .first)
     → readNode m′ x ≡ readNode m x
@@ -245,9 +260,9 @@ module _ (s : Shape) (m : Shared) (own own′ : ℕ → ℕ) {all : ℕ} (g : Mo
   unfolding valueOf readNode
   push-value = ap (valueAt (pushed .cell)) push-first ∙ value-there (pushed .cell) c (m .cell c .item) (a .cell) push-item
 
-  push-held : Held s pushed own′ all
+  push-holds : Held s pushed own′ all × ((i : Item) → counted s pushed i ≡ counted s m i + pick (sameItem i (m .cell c .item)) 1 0)
   unfolding effectShared
-  push-held =
+  push-holds =
       held-push s m pushed own own′ (g .held) t n c lt ut (a .some) (in-tree s m own g n (a .few)) (a .cell) (a .mine)
       push-cells push-item (ap (λ z. z .next) (upd-same (m .cell) c _) ∙ a .onto) refl push-first
       (λ y ne. ap (λ z. z .first) (upd-other (m .node) n y v ne)) left still (a .proper) (a .least)
@@ -255,18 +270,9 @@ module _ (s : Shape) (m : Shared) (own own′ : ℕ → ℕ) {all : ℕ} (g : Mo
   push-mound : Mound s pushed own′ all
   unfolding effectShared
   push-mound =
-      record {
-        held = push-held;
-        ordered =
-            push-ordered AtMost item-refl item-trans (val m) (val pushed) (λ y. m .node y .dirty) (λ y. pushed .node y .dirty)
-            (g .ordered) n
-            (m .cell c .item) (λ y p ne. ap valueOf (push-others y p ne)) push-value push-dirty (a .least) (a .parent);
-        deep = λ y h.
-            let e = upd-other (m .node) n y v (λ z. omega (arith, h, z, a .few)) in
-            (ap (λ z. z .first) e ∙ g .deep y h .0, ap (λ z. z .dirty) e ∙ g .deep y h .1);
-        depth-least = g .depth-least;
-        depth-most = g .depth-most;
-      }
+      still-mound s m pushed own own′ g refl (λ y h. upd-other (m .node) n y v (λ z. omega (arith, h, z, a .few))) (push-holds .0)
+      (push-ordered AtMost item-refl item-trans (val m) (val pushed) (λ y. m .node y .dirty) (λ y. pushed .node y .dirty) (g .ordered) n
+      (m .cell c .item) (λ y p ne. ap valueOf (push-others y p ne)) push-value push-dirty (a .least) (a .parent))
 
   push-falls : Falls m pushed n
   push-falls p e z =
@@ -283,11 +289,7 @@ module _ (s : Shape) (m : Shared) (own own′ : ℕ → ℕ) {all : ℕ} (g : Mo
       relies m pushed n n (omega (arith, push-depth)) up up (λ y p ne _. push-others y p ne) push-falls push-falls
 
   pub push-counts : (i : Item) → counted s pushed i ≡ counted s m i + pick (sameItem i (m .cell c .item)) 1 0
-  unfolding effectShared
-  push-counts i =
-      counted-push s m pushed own own′ (g .held) t n c lt ut (a .some) (in-tree s m own g n (a .few)) (a .cell) (a .mine)
-      push-cells push-item (ap (λ z. z .next) (upd-same (m .cell) c _) ∙ a .onto) refl push-first
-      (λ y ne. ap (λ z. z .first) (upd-other (m .node) n y v ne)) left still (a .proper) (a .least) i
+  push-counts = push-holds .1
 
   -- what the thread still holds
   pub push-rest : ItemsStay (m .cell) (pushed .cell) (m .cell c .next)
@@ -334,9 +336,9 @@ module _ (s : Shape) (m : Shared) (own : ℕ → ℕ) {all : ℕ} (g : Mound s m
   pop-first : popped .node 1 .first ≡ m .cell c .next
   pop-first = ap (λ z. z .first) (pop-node ∙ a .value) ∙ updated-first (m .node 1) (m .cell c .next) 1
 
-  pop-held : Held s popped own all
+  pop-holds : Held s popped own all × ((i : Item) → counted s m i ≡ counted s popped i + pick (sameItem i (m .cell c .item)) 1 0)
   unfolding effectShared
-  pop-held =
+  pop-holds =
       held-pop s m popped own (g .held) c (in-tree s m own g 1 (root-there s m own g)) (a .cell) (a .head) pop-cells
       (ap (λ z. z .next) (upd-same (m .cell) c _)) refl pop-first
       (λ y ne. ap (λ z. z .first) (upd-other (m .node) 1 y v ne))
@@ -344,18 +346,10 @@ module _ (s : Shape) (m : Shared) (own : ℕ → ℕ) {all : ℕ} (g : Mound s m
   pop-mound : Mound s popped own all
   unfolding effectShared
   pop-mound =
-      record {
-        held = pop-held;
-        ordered =
-            pop-ordered AtMost item-refl item-trans (val m) (val popped) (λ y. m .node y .dirty) (λ y. popped .node y .dirty) (g .ordered)
-            (λ y p ne. ap valueOf (pop-others y p ne)) (λ y p ne. ap (λ z. z .dirty) (upd-other (m .node) 1 y v ne))
-            (ap (λ z. z .dirty) (pop-node ∙ a .value) ∙ updated-dirty (m .node 1) (m .cell c .next) 1);
-        deep = λ y h.
-            let e = upd-other (m .node) 1 y v (λ z. omega (arith, h, z, root-there s m own g)) in
-            (ap (λ z. z .first) e ∙ g .deep y h .0, ap (λ z. z .dirty) e ∙ g .deep y h .1);
-        depth-least = g .depth-least;
-        depth-most = g .depth-most;
-      }
+      still-mound s m popped own own g refl (λ y h. upd-other (m .node) 1 y v (λ z. omega (arith, h, z, root-there s m own g))) (pop-holds .0)
+      (pop-ordered AtMost item-refl item-trans (val m) (val popped) (λ y. m .node y .dirty) (λ y. popped .node y .dirty) (g .ordered)
+      (λ y p ne. ap valueOf (pop-others y p ne)) (λ y p ne. ap (λ z. z .dirty) (upd-other (m .node) 1 y v ne))
+      (ap (λ z. z .dirty) (pop-node ∙ a .value) ∙ updated-dirty (m .node 1) (m .cell c .next) 1))
 
   pop-relies : Rely m popped
   unfolding effectShared
@@ -366,11 +360,7 @@ module _ (s : Shape) (m : Shared) (own : ℕ → ℕ) {all : ℕ} (g : Mound s m
       (λ p e z. absurd (omega arith))
 
   pub pop-counts : (i : Item) → counted s m i ≡ counted s popped i + pick (sameItem i (m .cell c .item)) 1 0
-  unfolding effectShared
-  pop-counts i =
-      counted-pop s m popped own (g .held) c (in-tree s m own g 1 (root-there s m own g)) (a .cell) (a .head) pop-cells
-      (ap (λ z. z .next) (upd-same (m .cell) c _)) refl pop-first
-      (λ y ne. ap (λ z. z .first) (upd-other (m .node) 1 y v ne)) i
+  pop-counts = pop-holds .1
 
   -- what any thread holds
   pub pop-items-stay : (t : ℕ) → ItemsStay (m .cell) (popped .cell) (own t)
@@ -410,9 +400,9 @@ module _ (s : Shape) (m : Shared) (own : ℕ → ℕ) {all : ℕ} (g : Mound s m
   unfolding valueOf readNode effectShared
   value-by x y e = ap (valueAt (m .cell)) e
 
-  exchange-held : Held s swapped own all
+  exchange-holds : Held s swapped own all × ((i : Item) → counted s swapped i ≡ counted s m i)
   unfolding effectShared
-  exchange-held =
+  exchange-holds =
       held-exchange s m swapped own (g .held) n k (a .some) (in-tree s m own g n (omega (arith, a .child, a .few)))
       (omega (arith, a .child, a .some))
       (in-tree s m own g k (a .few)) apart refl refl first-n first-k
@@ -421,20 +411,12 @@ module _ (s : Shape) (m : Shared) (own : ℕ → ℕ) {all : ℕ} (g : Mound s m
   exchange-mound : Mound s swapped own all
   unfolding effectShared
   exchange-mound =
-      record {
-        held = exchange-held;
-        ordered =
-            exchange-ordered AtMost item-refl item-trans (val m) (val swapped) (λ y. m .node y .dirty) (λ y. swapped .node y .dirty)
-            (g .ordered) n k j (a .some) (a .child) (a .clean) (a .clean-sibling) (a .kids) (a .sibling) (a .less) (a .least)
-            (value-by n k first-n) (value-by k n first-k) (λ x p q. value-by x x (ap (λ z. z .first) (at-x x p q)))
-            (ap (λ z. z .dirty) at-k ∙ updated-dirty (m .node k) (m .node n .first) 1)
-            (λ x p q. ap (λ z. z .dirty) (at-x x p q));
-        deep = λ y h.
-            let e = at-x y (λ z. omega (arith, h, z, a .few, a .child)) (λ z. omega (arith, h, z, a .few)) in
-            (ap (λ z. z .first) e ∙ g .deep y h .0, ap (λ z. z .dirty) e ∙ g .deep y h .1);
-        depth-least = g .depth-least;
-        depth-most = g .depth-most;
-      }
+      still-mound s m swapped own own g refl
+      (λ y h. at-x y (λ z. omega (arith, h, z, a .few, a .child)) (λ z. omega (arith, h, z, a .few))) (exchange-holds .0)
+      (exchange-ordered AtMost item-refl item-trans (val m) (val swapped) (λ y. m .node y .dirty) (λ y. swapped .node y .dirty)
+      (g .ordered) n k j (a .some) (a .child) (a .clean) (a .clean-sibling) (a .kids) (a .sibling) (a .less) (a .least)
+      (value-by n k first-n) (value-by k n first-k) (λ x p q. value-by x x (ap (λ z. z .first) (at-x x p q)))
+      (ap (λ z. z .dirty) at-k ∙ updated-dirty (m .node k) (m .node n .first) 1) (λ x p q. ap (λ z. z .dirty) (at-x x p q)))
 
   exchange-relies : Rely m swapped
   unfolding effectShared
@@ -452,11 +434,7 @@ module _ (s : Shape) (m : Shared) (own : ℕ → ℕ) {all : ℕ} (g : Mound s m
   exchange-keeps t = record { mound = exchange-mound; rely = exchange-relies; kept = λ u x is h. h }
 
   pub exchange-counts : (i : Item) → counted s swapped i ≡ counted s m i
-  unfolding effectShared
-  exchange-counts i =
-      counted-exchange s m swapped own (g .held) n k (a .some) (in-tree s m own g n (omega (arith, a .child, a .few)))
-      (omega (arith, a .child, a .some)) (in-tree s m own g k (a .few)) apart refl refl first-n first-k
-      (λ x p q. ap (λ z. z .first) (at-x x p q)) i
+  exchange-counts = exchange-holds .1
 
 -- Cleaning.
 module _ (s : Shape) (m : Shared) (own : ℕ → ℕ) {all : ℕ} (g : Mound s m own all) (n : ℕ) (v : Node) (a : CleanAllowed m n v) where
@@ -487,19 +465,10 @@ module _ (s : Shape) (m : Shared) (own : ℕ → ℕ) {all : ℕ} (g : Mound s m
   clean-mound : Mound s cleaned own all
   unfolding effectShared
   clean-mound =
-      record {
-        held = held-same s m cleaned own (g .held) refl refl clean-first;
-        ordered =
-            clean-ordered AtMost item-refl item-trans (val m) (val cleaned) (λ y. m .node y .dirty)
-            (λ y. cleaned .node y .dirty) (g .ordered) n
-            (a .some) clean-value (λ x p q. ap (λ z. z .dirty) (clean-other x q)) (a .clean-left) (a .clean-right)
-            (a .least-left) (a .least-right);
-        deep = λ y h.
-            let e = clean-other y (λ z. omega (arith, h, z, a .few)) in
-            (ap (λ z. z .first) e ∙ g .deep y h .0, ap (λ z. z .dirty) e ∙ g .deep y h .1);
-        depth-least = g .depth-least;
-        depth-most = g .depth-most;
-      }
+      still-mound s m cleaned own own g refl (λ y h. clean-other y (λ z. omega (arith, h, z, a .few)))
+      (held-same s m cleaned own (g .held) refl refl clean-first)
+      (clean-ordered AtMost item-refl item-trans (val m) (val cleaned) (λ y. m .node y .dirty) (λ y. cleaned .node y .dirty) (g .ordered) n
+      (a .some) clean-value (λ x p q. ap (λ z. z .dirty) (clean-other x q)) (a .clean-left) (a .clean-right) (a .least-left) (a .least-right))
 
   clean-relies : Rely m cleaned
   unfolding effectShared
@@ -537,23 +506,19 @@ module _ (s : Shape) (m m′ : Shared) (own own′ : ℕ → ℕ) {all : ℕ} (g
   begin-relies : Rely m m′
   begin-relies = rely-same m m′ (omega (arith, depth)) begin-reads
 
+  begin-holds : Held s m′ own′ all × ((i : Item) → counted s m′ i ≡ counted s m i)
+  begin-holds = held-begin s m m′ own own′ (g .held) t c lt ut some free others onto left nodes now still
+
   begin-mound : Mound s m′ own′ all
   begin-mound =
-      record {
-        held = held-begin s m m′ own own′ (g .held) t c lt ut some free others onto left nodes now still;
-        ordered = λ a x p h z.
-            subst₂ (λ u w. AtMost u w) (sym (ap valueOf (begin-reads a p)))
-            (sym (ap valueOf (begin-reads x (omega (arith, p, above-le a x h)))))
-            (g .ordered a x p h (ap (λ f. f a .dirty) (sym nodes) ∙ z));
-        deep = λ y h.
-            let d = g .deep y (subst (λ k. 2 ^ k ≤ y) depth h) in
-            (ap (λ f. f y .first) nodes ∙ d .0, ap (λ f. f y .dirty) nodes ∙ d .1);
-        depth-least = omega (arith, depth, g .depth-least);
-        depth-most = omega (arith, depth, g .depth-most);
-      }
+      still-mound s m m′ own own′ g depth (λ y h. ap (λ f. f y) nodes) (begin-holds .0)
+      (λ a x p h z.
+      subst₂ (λ u w. AtMost u w) (sym (ap valueOf (begin-reads a p)))
+      (sym (ap valueOf (begin-reads x (omega (arith, p, above-le a x h)))))
+      (g .ordered a x p h (ap (λ f. f a .dirty) (sym nodes) ∙ z)))
 
   pub begin-counts : (i : Item) → counted s m′ i ≡ counted s m i
-  begin-counts i = counted-begin s m m′ own own′ (g .held) t c lt ut some free others onto left nodes now still i
+  begin-counts = begin-holds .1
 
   pub begin-keeps : Keeps s m m′ own own′ all t
   begin-keeps =

@@ -218,18 +218,21 @@ module _ (s : Shape) (m m′ : Shared) (own own′ : ℕ → ℕ) {all : ℕ} (h
       (λ x n k. head-still (m .free) (m .node) own (m′ .free) (m′ .node) own′ x (λ z. absurd (n z)) (λ y p e. ap (λ f. f y .first) nodes)
       (λ u e. still u (λ z. k (e ∙ ap (λ y. 2 * y + 1) z))))
 
-  pub held-begin : Held s m′ own′ all
-  held-begin =
+  begin-held : Held s m′ own′ all
+  begin-held =
       held-moved s m m′ own own′ h 0 (2 * t + 1) c free-holds (thread-holds t lt ut) (λ z. omega arith) begin-move (λ n p e. absurd (omega arith))
 
-  pub counted-begin : (i : Item) → counted s m′ i ≡ counted s m i
-  unfolding inChain held-moved held-begin begin-move
-  counted-begin i =
+  begin-counted : (i : Item) → counted s m′ i ≡ counted s m i
+  unfolding inChain held-moved begin-held begin-move
+  begin-counted i =
       let same = sameItem i in
-      counts s m′ own′ held-begin same
+      counts s m′ own′ begin-held same
       ∙ sum-same (inChain (m .cell) (h .list) same) (inChain (m′ .cell) (begin-move .lists) same) (nodeCount s)
       (λ k l u. ap (among same) (begin-move .items-x (2 * k) (λ z. omega arith) (λ z. omega arith)))
       ∙ sym (counts s m own h same)
+
+  pub held-begin : Held s m′ own′ all × ((i : Item) → counted s m′ i ≡ counted s m i)
+  held-begin = (begin-held, begin-counted)
 
 -- A push: the head c of thread t's chain becomes that of node n's list.
 module _ (s : Shape) (m m′ : Shared) (own own′ : ℕ → ℕ) {all : ℕ} (h : Held s m own all) (t n c : ℕ) (lt : 1 ≤ t) (ut : t ≤ s .threads) (ln : 1 ≤ n)
@@ -249,23 +252,26 @@ module _ (s : Shape) (m m′ : Shared) (own own′ : ℕ → ℕ) {all : ℕ} (h
       (λ x a b. head-still (m .free) (m .node) own (m′ .free) (m′ .node) own′ x (λ z. free)
       (λ y p e. elsewhere y (λ z. b (e ∙ ap (λ k. 2 * k) z))) (λ u e. still u (λ z. a (e ∙ ap (λ k. 2 * k + 1) z))))
 
-  pub held-push : Held s m′ own′ all
+  push-held : Held s m′ own′ all
   unfolding valueOf readNode
-  held-push =
+  push-held =
       held-moved s m m′ own own′ h (2 * t + 1) (2 * n) c (thread-holds t lt ut) (node-holds n ln un) (λ z. omega arith) push-move
       (λ x p e. subst (λ i. Sorted (i ∷ items (m .cell) (h .list (2 * n)))) (sym kept)
       (proper, from-head (node-chain s m own h n ln) (h .sorted n ln) (m .cell c .item) least, h .sorted n ln))
 
   -- one copy more of the item
-  pub counted-push : (i : Item) → counted s m′ i ≡ counted s m i + pick (sameItem i (m .cell c .item)) 1 0
-  unfolding inChain among held-moved held-push push-move
-  counted-push i =
+  push-counted : (i : Item) → counted s m′ i ≡ counted s m i + pick (sameItem i (m .cell c .item)) 1 0
+  unfolding inChain among held-moved push-held push-move
+  push-counted i =
       let same = sameItem i in
       let a = sum-but (inChain (m .cell) (h .list) same) (inChain (m′ .cell) (push-move .lists) same) (nodeCount s) n ln un
       (λ x p q. ap (among same) (push-move .items-x (2 * x) (λ z. omega arith) (λ z. q (omega arith)))) in
       let b : inChain (m′ .cell) (push-move .lists) same n ≡ pick (same (m .cell c .item)) 1 0 + inChain (m .cell) (h .list) same n =
       ap (among same) (push-move .items-q) ∙ ap (λ j. pick (same j) 1 0 + among same (items (m .cell) (h .list (2 * n)))) kept in
-      omega (arith, counts s m′ own′ held-push same, counts s m own h same, a, b)
+      omega (arith, counts s m′ own′ push-held same, counts s m own h same, a, b)
+
+  pub held-push : Held s m′ own′ all × ((i : Item) → counted s m′ i ≡ counted s m i + pick (sameItem i (m .cell c .item)) 1 0)
+  held-push = (push-held, push-counted)
 
 -- A pop: the head c of the root's list goes to the front of the free chain.
 module _ (s : Shape) (m m′ : Shared) (own : ℕ → ℕ) {all : ℕ} (h : Held s m own all) (c : ℕ) (root : 1 ≤ nodeCount s) (some : 1 ≤ c)
@@ -282,20 +288,23 @@ module _ (s : Shape) (m m′ : Shared) (own : ℕ → ℕ) {all : ℕ} (h : Held
       (λ x a b. head-still (m .free) (m .node) own (m′ .free) (m′ .node) own x (λ z. absurd (b z))
       (λ y p e. elsewhere y (λ z. a (e ∙ ap (λ k. 2 * k) z))) (λ u e. refl))
 
-  pub held-pop : Held s m′ own all
-  held-pop =
+  pop-held : Held s m′ own all
+  pop-held =
       held-moved s m m′ own own h 2 0 c (node-holds 1 (omega arith) root) free-holds (λ z. omega arith) pop-move (λ n p e. absurd (omega arith))
 
   -- one copy less of the item
-  pub counted-pop : (i : Item) → counted s m i ≡ counted s m′ i + pick (sameItem i (m .cell c .item)) 1 0
-  unfolding inChain among held-moved held-pop pop-move
-  counted-pop i =
+  pop-counted : (i : Item) → counted s m i ≡ counted s m′ i + pick (sameItem i (m .cell c .item)) 1 0
+  unfolding inChain among held-moved pop-held pop-move
+  pop-counted i =
       let same = sameItem i in
       let a = sum-but (inChain (m .cell) (h .list) same) (inChain (m′ .cell) (pop-move .lists) same) (nodeCount s) 1 (omega arith) root
       (λ x p q. ap (among same) (pop-move .items-x (2 * x) (λ z. q (omega arith)) (λ z. omega arith))) in
       let b : inChain (m .cell) (h .list) same 1 ≡ pick (same (m .cell c .item)) 1 0 + inChain (m′ .cell) (pop-move .lists) same 1 =
       ap (among same) (pop-move .items-o) in
-      omega (arith, counts s m′ own held-pop same, counts s m own h same, a, b)
+      omega (arith, counts s m′ own pop-held same, counts s m own h same, a, b)
+
+  pub held-pop : Held s m′ own all × ((i : Item) → counted s m i ≡ counted s m′ i + pick (sameItem i (m .cell c .item)) 1 0)
+  held-pop = (pop-held, pop-counted)
 
 -- An exchange of the lists of nodes n and k.
 module _ (s : Shape) (m m′ : Shared) (own : ℕ → ℕ) {all : ℕ} (h : Held s m own all) (n k : ℕ) (ln : 1 ≤ n) (un : n ≤ nodeCount s) (lk : 1 ≤ k)
@@ -314,16 +323,16 @@ module _ (s : Shape) (m m′ : Shared) (own : ℕ → ℕ) {all : ℕ} (h : Held
   list-x : (x : ℕ) → (x ≡ n → ⊥) → (x ≡ k → ⊥) → exchange-lists .lists (2 * x) ≡ h .list (2 * x)
   list-x x p q = exchange-lists .list-x (2 * x) (λ z. p (omega arith)) (λ z. q (omega arith))
 
-  pub held-exchange : Held s m′ own all
-  held-exchange =
+  exchange-held : Held s m′ own all
+  exchange-held =
       held-exchanged s m m′ own own h (2 * n) (2 * k) (node-holds n ln un) (node-holds k lk uk) (λ z. apart (omega arith)) cells exchange-lists
       (λ x p e. h .sorted k lk) (λ x p e. h .sorted n ln)
 
-  pub counted-exchange : (i : Item) → counted s m′ i ≡ counted s m i
-  unfolding inChain sum held-exchanged held-exchange exchange-lists
-  counted-exchange i =
+  exchange-counted : (i : Item) → counted s m′ i ≡ counted s m i
+  unfolding inChain sum held-exchanged exchange-held exchange-lists
+  exchange-counted i =
       let same = sameItem i in
-      counts s m′ own held-exchange same
+      counts s m′ own exchange-held same
       ∙ ap (λ cell. sum (λ x. among same (items cell (exchange-lists .lists (2 * x)))) (nodeCount s)) cells
       ∙ sum-exchange (inChain (m .cell) (h .list) same) (inChain (m .cell) (exchange-lists .lists) same)
       (nodeCount s) n k ln un lk uk apart
@@ -331,3 +340,6 @@ module _ (s : Shape) (m m′ : Shared) (own : ℕ → ℕ) {all : ℕ} (h : Held
       (ap (λ l. among same (items (m .cell) l)) (exchange-lists .list-q))
       (λ x p q. ap (λ l. among same (items (m .cell) l)) (list-x x p q))
       ∙ sym (counts s m own h same)
+
+  pub held-exchange : Held s m′ own all × ((i : Item) → counted s m′ i ≡ counted s m i)
+  held-exchange = (exchange-held, exchange-counted)
