@@ -2,10 +2,10 @@
 mod Decimals
 pub mod Laws
 mod Layouts
+mod LineCalls
 mod Lines
 pub mod NoLineLeftOut
 mod Readings
-mod Runs
 mod Setups
 mod Texts
 mod Whole

@@ -15,7 +15,7 @@ use Rattle.script.specs.Theorems.{NoLineLeftOut}
 use Rattle.script.specs.declared.reading.Line.{Line}
 use Rattle.script.specs.declared.reading.Line.the-variants.{Read as LineRead, Unreadable as NotLine}
 use Rattle.script.proofs.Readings.{line-long}
-use Rattle.script.proofs.Runs.{lines-over, lines-read, lines-unreadable}
+use Rattle.script.proofs.LineCalls.{lines-over, lines-read, lines-unreadable}
 
 -- one line more than the bytes that are left changes nothing
 one-more : (s : List ℕ) (n at line : ℕ) (b : List ℕ) → length s ≤ at + n → linesFrom (suc n) s at line b ≡ linesFrom n s at line b

@@ -1,5 +1,5 @@
 -- `script::script::begun_or` meets its contract. Assumes nothing.
-use Rattle.script.proofs.Runs.{begun, not-begun}
+use Rattle.script.proofs.LineCalls.{begun, not-begun}
 use Rattle.script.proofs.script.begun_or.Statement.{statement}
 use Rattle.script.proofs.script.begun_or.Tie as tie
 

@@ -1,6 +1,6 @@
 -- `script::script::make_call` meets its contract, by the call. Assumes nothing.
 use borrow.Author.Needs.{needs}
-use Rattle.script.proofs.Runs.{put-made, take-made, turn-made}
+use Rattle.script.proofs.LineCalls.{put-made, take-made, turn-made}
 use Rattle.script.proofs.script.make_call.Statement.{statement}
 use Rattle.script.proofs.script.make_call.Tie as tie
 

@@ -3,7 +3,7 @@ use Prim.Native.Nat.{_-_}
 use borrow.Author.Needs.{needs}
 use mathlib.Core.Path.{_∙_}
 use lib.ListN.{length}
-use Rattle.script.proofs.Runs.{Running, line-fits, line-room, run-end, run-less, run-more, run-start, run-unreadable}
+use Rattle.script.proofs.LineCalls.{Running, line-fits, line-room, run-end, run-less, run-more, run-start, run-unreadable}
 use Rattle.script.proofs.script.run_lines.Statement.{statement}
 use Rattle.script.proofs.script.run_lines.Tie as tie
 
