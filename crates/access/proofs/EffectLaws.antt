@@ -11,7 +11,7 @@ use Rattle.words.proofs.Laws.{word-other, length-setWord}
 use Rattle.region.specs.Inner.{Framed}
 use Rattle.region.specs.Record.{nodeWords, cellWords, zeroItem}
 use Rattle.region.specs.Shape.{nodeCount}
-use Rattle.region.specs.Shared.{putNode, putCell, putFree, cellIn, sharedIn, setNodeIn, setCellIn}
+use Rattle.region.specs.Shared.{setNode, setCell, setFree, cellIn, sharedIn, setNodeIn, setCellIn}
 use Rattle.region.specs.declared.frame.Frame.{Frame}
 use Rattle.region.specs.declared.record.Cell.{Cell}
 use Rattle.region.specs.declared.record.Node.{Node}
@@ -66,20 +66,20 @@ module _ (f : Frame) where
       let z : Cell = record { item = zeroItem; next = word b (f .free) } in
       let b₁ : List ℕ = setCellIn f b c z in
       shared-setFree f b₁ (framed-after f b b₁ (length-setCellIn f b c z) placed) c hc
-      ∙ ap (λ m. putFree m c) (shared-setCell f b placed c z (i .0) (i .1) (omega arith, (omega arith, (h, tt))))
+      ∙ ap (λ m. setFree m c) (shared-setCell f b placed c z (i .0) (i .1) (omega arith, (omega arith, (h, tt))))
 
   module _ (b : List ℕ) (placed : Framed f (length b)) (few : f .shape .cells < 2 ^ 32) where
     push-shared : (n : ℕ) (v : Node) (c x : ℕ) → EffectFits f b (Push n v c x)
         → sharedIn f (pushBytes f b n v c x)
-        ≡ putCell (putNode (sharedIn f b) n v) c (record { item = sharedIn f b .cell c .item; next = x })
+        ≡ setCell (setNode (sharedIn f b) n v) c (record { item = sharedIn f b .cell c .item; next = x })
     unfolding pushBytes sharedIn
     push-shared n v c x g =
         let y : Cell = record { item = cellIn f b c .item; next = x } in
         shared-setCell f (setNodeIn f b n v) (framed-node f b n v placed) c y (g .1 .0) (g .1 .1) (g .3)
-        ∙ ap (λ m. putCell m c y) (shared-setNode f b placed n v (g .0 .0) (g .0 .1) (g .2))
+        ∙ ap (λ m. setCell m c y) (shared-setNode f b placed n v (g .0 .0) (g .0 .1) (g .2))
 
     pop-shared : (v : Node) (c : ℕ) → EffectFits f b (Pop v c)
-        → sharedIn f (freedBytes f (setNodeIn f b 1 v) c) ≡ freed (putNode (sharedIn f b) 1 v) c
+        → sharedIn f (freedBytes f (setNodeIn f b 1 v) c) ≡ freed (setNode (sharedIn f b) 1 v) c
     unfolding sharedIn
     pop-shared v c g =
         let e = shared-setNode f b placed 1 v (g .0 .0) (g .0 .1) (g .2) in
@@ -88,10 +88,10 @@ module _ (f : Frame) where
         ∙ ap (λ m. freed m c) e
 
     exchange-shared : (n : ℕ) (v : Node) (k : ℕ) (x : Node) → EffectFits f b (Exchange n v k x)
-        → sharedIn f (setNodeIn f (setNodeIn f b n v) k x) ≡ putNode (putNode (sharedIn f b) n v) k x
+        → sharedIn f (setNodeIn f (setNodeIn f b n v) k x) ≡ setNode (setNode (sharedIn f b) n v) k x
     exchange-shared n v k x g =
         shared-setNode f (setNodeIn f b n v) (framed-node f b n v placed) k x (g .1 .0) (g .1 .1) (g .3)
-        ∙ ap (λ m. putNode m k x) (shared-setNode f b placed n v (g .0 .0) (g .0 .1) (g .2))
+        ∙ ap (λ m. setNode m k x) (shared-setNode f b placed n v (g .0 .0) (g .0 .1) (g .2))
 
     pub effect-shared : (e : Effect) → EffectFits f b e → sharedIn f (effectBytes f b e) ≡ effectShared (sharedIn f b) e
     unfolding effectBytes effectShared

@@ -3,7 +3,7 @@ use Prim.Native.Nat.{ℕ}
 use mathlib.Core.List.{List}
 use Rattle.words.specs.Word.{word, setWord}
 use Rattle.region.specs.Record.{zeroItem}
-use Rattle.region.specs.Shared.{Shared, putNode, putCell, putDepth, putFree, cellIn, setNodeIn, setCellIn}
+use Rattle.region.specs.Shared.{Shared, setNode, setCell, setDepth, setFree, cellIn, setNodeIn, setCellIn}
 use Rattle.region.specs.declared.frame.Frame.{Frame}
 use Rattle.region.specs.declared.record.Node.{Node}
 use Rattle.access.specs.declared.effect.Effect.{Effect}
@@ -11,15 +11,15 @@ use Rattle.access.specs.declared.effect.Effect.the-variants.{Nothing, Gr
 
 -- "A freed cell has key and tag 0 and goes to the front of the chain."
 abbrev pub freed : Shared → ℕ → Shared
-freed m c = putFree (putCell m c (record { item = zeroItem; next = m .free })) c
+freed m c = setFree (setCell m c (record { item = zeroItem; next = m .free })) c
 
 unfoldable pub effectShared : Shared → Effect → Shared
 effectShared m Nothing = m
-effectShared m (Grow d) = putDepth m d
-effectShared m (Push n v c x) = putCell (putNode m n v) c (record { item = m .cell c .item; next = x })
-effectShared m (Pop v c) = freed (putNode m 1 v) c
-effectShared m (Exchange n v k w) = putNode (putNode m n v) k w
-effectShared m (Clean n v) = putNode m n v
+effectShared m (Grow d) = setDepth m d
+effectShared m (Push n v c x) = setCell (setNode m n v) c (record { item = m .cell c .item; next = x })
+effectShared m (Pop v c) = freed (setNode m 1 v) c
+effectShared m (Exchange n v k w) = setNode (setNode m n v) k w
+effectShared m (Clean n v) = setNode m n v
 
 unfoldable pub freedBytes : Frame → List ℕ → ℕ → List ℕ
 freedBytes f b c = setWord (setCellIn f b c (record { item = zeroItem; next = word b (f .free) })) (f .free) c

@@ -32,7 +32,7 @@ use Rattle.region.proofs.Picks.{upd-same, upd-other}
 use Rattle.region.proofs.Shapes.{is-between, sizes}
 use Rattle.access.specs.Effect.{effectShared, freed}
 use Rattle.access.specs.Order.{val, valueOf}
-use Rattle.access.specs.Plan.{plan, moved, onTo, refused}
+use Rattle.access.specs.Plan.{changesNothing, moved, onTo, plan, refused}
 use Rattle.access.specs.Read.{isDirty, isNode, isSpent, readNode, sameNode, updated}
 use Rattle.access.specs.declared.effect.Effect.the-variants.{Nothing, Pop, Exchange, Clean}
 use Rattle.access.specs.declared.plan.Plan.{Plan}
@@ -40,7 +40,7 @@ use Rattle.access.proofs.ReadLaws.{same-itself, updated-dirty, updated-first}
 use Rattle.readable.proofs.Laws.{Good}
 use Rattle.extract.specs.Extract.{afterRootRead, readRoot, afterRemoval, removeHead}
 use Rattle.moundify.specs.Moundify.{returning, mendReadNode, afterDepthRead, mendReadDepth, mendReadLeft, lessBelow, childLess, afterChildrenRead, mendReadRight, exchangeAt, nodeAndChildSame, exchangeWith, cleanAt, mendClean, returnAnswer}
-use Rattle.machine.specs.Turn.{decide, decideAt, changesNothing, turnAnswer, turnBytes, turnPlan}
+use Rattle.machine.specs.Turn.{decide, decideAt, turnAnswer, turnBytes, turnPlan}
 use Rattle.cost.specs.Cost.{lesserChild, levelsDown, withoutHead}
 use Rattle.cost.proofs.Laws.{goes-down, lesser-is-child, levels-same, rests-deepest, rests-there, swaps-as-placed, tests-as-placed}
 use Rattle.preserved.proofs.Proved.{turn-keeps}

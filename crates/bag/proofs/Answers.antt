@@ -17,7 +17,7 @@ use Rattle.region.specs.declared.record.Node.{Node}
 use Rattle.region.specs.declared.shape.Shape.{Shape}
 use Rattle.region.specs.declared.thread.Thread.{Thread}
 use Rattle.region.proofs.Picks.{pick-good, upd-same}
-use Rattle.access.specs.Plan.{plan, moved, onTo, refused}
+use Rattle.access.specs.Plan.{changesNothing, moved, onTo, plan, refused}
 use Rattle.access.specs.declared.effect.Effect.{Effect}
 use Rattle.access.specs.declared.effect.Effect.the-variants.{Nothing, Push, Pop, Clean}
 use Rattle.access.specs.declared.plan.Plan.{Plan}
@@ -26,7 +26,7 @@ use Rattle.extract.specs.Extract.{readRoot, removeHead}
 use Rattle.moundify.specs.Moundify.{returning, mendReadNode, mendReadDepth, mendReadLeft, mendReadRight, exchangeWith, mendSwap, mendClean, returned, returnAnswer}
 use Rattle.readable.proofs.Laws.{Good}
 use Rattle.run.specs.Run.{Turn}
-use Rattle.machine.specs.Turn.{decide, decideAt, changesNothing, turnAnswer, turnPlan}
+use Rattle.machine.specs.Turn.{decide, decideAt, turnAnswer, turnPlan}
 use Rattle.mound.specs.Told.{nothing, decidesPut}
 use Rattle.mound.proofs.Steps.{effectTells, quietTells}
 use Rattle.bag.specs.Demand3.{Says, moved as says-moved, idle, refused as says-refused, inserted, empty, took, removed}

@@ -13,12 +13,12 @@ use Rattle.region.specs.declared.frame.Frame.{Frame}
 use Rattle.region.proofs.Shapes.{between-least, between-most, is-between}
 use Rattle.region.proofs.Views.{shared-setThread, threads-setThread}
 use Rattle.access.specs.Effect.{effectShared}
-use Rattle.access.specs.Plan.{refused}
+use Rattle.access.specs.Plan.{changesNothing, refused}
 use Rattle.access.specs.declared.plan.Plan.{Plan}
 use Rattle.access.proofs.EffectLaws.{effect-shared}
 use Rattle.readable.proofs.Laws.{Good}
 use Rattle.readable.proofs.Stores.{good-shared, thread-fit}
-use Rattle.machine.specs.Turn.{carriedOut, decide, changesNothing, turnBytes, turnPlan}
+use Rattle.machine.specs.Turn.{carriedOut, decide, turnBytes, turnPlan}
 use Rattle.preserved.proofs.EffectsGood.{few-cells, fits-of}
 use Rattle.preserved.proofs.PlansGood.{PlanGood}
 use Rattle.preserved.proofs.Proved.{effect-threads, plan-in-range, record-keeps}

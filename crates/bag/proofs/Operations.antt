@@ -10,7 +10,7 @@ use lib.Dec.{eqb}
 use Rattle.region.specs.Pick.{pick, upd}
 use Rattle.region.specs.declared.answer.Answer.{Answer}
 use Rattle.region.proofs.Shapes.{and-left, and-right}
-use Rattle.machine.specs.Turn.{ends}
+use Rattle.access.specs.Plan.{ends}
 use Rattle.mound.specs.Ledger.{Ledger, Operation, none, putting, taking, holding, Follows, still, put-begins, take-begins, put-decides, take-decides, empty-decides, take-answers}
 use Rattle.mound.specs.Told.{Told}
 use Rattle.bag.specs.Demand3.{AnswerSays, Says, moved, removed, idle, inserted, took, empty, refused}

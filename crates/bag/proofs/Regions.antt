@@ -10,7 +10,7 @@ use Rattle.words.specs.Word.{word, setWord}
 use Rattle.region.specs.Answer.{badThread, counterSpent, done}
 use Rattle.region.specs.Pick.{pick, upd}
 use Rattle.region.specs.Shape.{between}
-use Rattle.region.specs.Shared.{Shared, putCell, putFree, cellIn, setCellIn, threadIn, setThreadIn, sharedIn}
+use Rattle.region.specs.Shared.{Shared, setCell, setFree, cellIn, setCellIn, threadIn, setThreadIn, sharedIn}
 use Rattle.region.specs.Thread.{begunPut, begunTake, idleThread}
 use Rattle.region.specs.declared.answer.Answer.{Answer}
 use Rattle.region.specs.declared.answer.Answer.the-variants.{Idle as AnswersIdle, Refused}
@@ -21,7 +21,7 @@ use Rattle.region.specs.declared.shape.Shape.{Shape}
 use Rattle.region.specs.declared.thread.Thread.{Thread}
 use Rattle.region.proofs.Shapes.{between-least, between-most}
 use Rattle.region.proofs.Views.{shared-setCell, shared-setFree, shared-setThread, threads-setCell, threads-setFree, threads-setThread}
-use Rattle.access.specs.Plan.{plan, refused}
+use Rattle.access.specs.Plan.{changesNothing, plan, refused}
 use Rattle.access.specs.declared.effect.Effect.the-variants.{Nothing}
 use Rattle.access.specs.declared.plan.Plan.{Plan}
 use Rattle.access.proofs.OrderLaws.{item-below-top}
@@ -29,7 +29,7 @@ use Rattle.readable.proofs.Laws.{Good}
 use Rattle.readable.proofs.Stores.{Keeps, thread-fit}
 use Rattle.begin.specs.Begin.{acceptedPut, acceptedTake, putBytesIn, putRefusalIn, takeBytesIn, takeRefusalIn}
 use Rattle.run.specs.Run.{Turn}
-use Rattle.machine.specs.Turn.{changesNothing, turnBytes, turnPlan}
+use Rattle.machine.specs.Turn.{turnBytes, turnPlan}
 use Rattle.begin.proofs.Laws.{is-idle, may-put, may-take}
 use Rattle.preserved.proofs.EffectsGood.{cell-fit, few-cells}
 use Rattle.preserved.proofs.Proved.{PutPassed, TakePassed, accepted-put-keeps, accepted-take-keeps, mine-good, moved-keeps, next-few, put-free, put-key, put-least, put-most, put-passed, put-tag, putter-good, stored-keeps, take-least, take-most, take-passed, taker-good, turn-keeps}
@@ -169,7 +169,7 @@ module _ (f : Frame) (all : ℕ) (b : List ℕ) (l : Ledger) (g : Region f all b
     putter = begunPut (threadIn f b t) i c
 
     begun : Shared
-    begun = putCell (putFree m next) c cell
+    begun = setCell (setFree m next) c cell
 
     -- the bytes in between
     moved : Keeps f b (setWord b (f .free) next)
@@ -184,7 +184,7 @@ module _ (f : Frame) (all : ℕ) (b : List ℕ) (l : Ledger) (g : Region f all b
         shared-setThread f (setCellIn f (setWord b (f .free) next) c cell) (stored .good .framed) t _
         ∙ shared-setCell f (setWord b (f .free) next) (moved .good .framed) c cell (omega (arith, put-free f b t i p)) (g .good .free-most)
         (cell-fit s (g .good .range) cell (mine-good f b t i p (g .good)))
-        ∙ ap (λ y. putCell y c cell)
+        ∙ ap (λ y. setCell y c cell)
         (shared-setFree f b (g .good .framed) next
         (omega (arith, next-few f b t i p (g .good), few-cells s (g .good .range))))
 

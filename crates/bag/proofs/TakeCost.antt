@@ -24,6 +24,7 @@ use Rattle.region.proofs.Shapes.{between-least, between-most}
 use Rattle.region.proofs.Views.{shared-setThread, threads-setThread}
 use Rattle.access.specs.Effect.{effectShared}
 use Rattle.access.specs.Order.{val, valueOf}
+use Rattle.access.specs.Plan.{changesNothing}
 use Rattle.access.specs.Read.{readNode, updated}
 use Rattle.access.proofs.ReadLaws.{updated-first}
 use Rattle.readable.specs.Readable.{frameIn, readable}
@@ -32,7 +33,7 @@ use Rattle.readable.proofs.Stores.{thread-fit}
 use Rattle.begin.specs.Begin.{acceptedTake, takeBytes, takeRefusal}
 use Rattle.begin.proofs.Laws.{take-refusal-in}
 use Rattle.run.specs.Run.{Turn, accessesOf}
-use Rattle.machine.specs.Turn.{changesNothing, turnAnswer, turnBytes}
+use Rattle.machine.specs.Turn.{turnAnswer, turnBytes}
 use Rattle.cost.specs.Cost.{levelsDown, restLevel, takeCost, withoutHead}
 use Rattle.cost.proofs.Laws.{cost-ceiling, cost-counted, cost-empty, cost-full, levels-same, rest-most}
 use Rattle.preserved.proofs.Proved.{TakePassed, accepted-take-keeps, take-least, take-most, take-passed, taker-good}

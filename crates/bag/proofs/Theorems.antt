@@ -12,11 +12,11 @@ use Rattle.region.specs.declared.answer.Answer.{Answer}
 use Rattle.region.specs.declared.answer.Answer.the-variants.{Moved, Idle, Inserted, Took, Empty, Refused}
 use Rattle.region.specs.declared.frame.Frame.{Frame}
 use Rattle.region.proofs.Shapes.{between-least, between-most}
-use Rattle.access.specs.Plan.{plan, refused}
+use Rattle.access.specs.Plan.{changesNothing, plan, refused}
 use Rattle.layout.specs.Layout.{layoutBytes}
 use Rattle.readable.specs.Readable.{frameIn, shapeIn}
 use Rattle.readable.proofs.Laws.{good}
-use Rattle.machine.specs.Turn.{changesNothing, turnAnswer, turnPlan}
+use Rattle.machine.specs.Turn.{turnAnswer, turnPlan}
 use Rattle.mound.specs.Ledger.{Ledger, Operation, emptyLedger}
 use Rattle.mound.proofs.Plans.{Planned, moves, refuses, rests, operation-moves}
 use Rattle.mound.proofs.Steps.{owns}

@@ -4,7 +4,7 @@
 use Prim.Native.Nat.{ℕ, zero, suc, _+_, _-_, _*_}
 use lib.Dec.{eqb, ltb}
 use Rattle.region.specs.Pick.{pick}
-use Rattle.region.specs.Shared.{Shared, putNode}
+use Rattle.region.specs.Shared.{Shared, setNode}
 use Rattle.region.specs.declared.record.Item.{Item}
 use Rattle.access.specs.Order.{itemLe, val}
 use Rattle.access.specs.Read.{updated}
@@ -26,7 +26,7 @@ levelsDown value v (suc k) n =
 
 -- the root's list without its head, as E2 leaves it: its value is that of the second cell, or above every item where there is none
 unfoldable pub withoutHead : Shared → Shared
-withoutHead m = putNode m 1 (updated (m .node 1) (m .cell (m .node 1 .first) .next) 1)
+withoutHead m = setNode m 1 (updated (m .node 1) (m .cell (m .node 1 .first) .next) 1)
 
 -- the level at which that list comes to rest: from the root, which is level 1, at most to the present depth
 unfoldable pub restLevel : Shared → ℕ

@@ -15,8 +15,7 @@ use Rattle.region.specs.declared.place.Place.the-variants.{Idle as AtRest, Read
 use Rattle.region.specs.declared.shape.Shape.{Shape}
 use Rattle.region.specs.declared.thread.Thread.{Thread}
 use Rattle.access.specs.Effect.{effectBytes}
-use Rattle.access.specs.Plan.{plan, refused}
-pub use Rattle.access.specs.Plan.{ends, changesNothing}
+use Rattle.access.specs.Plan.{changesNothing, plan, refused}
 use Rattle.access.specs.declared.effect.Effect.the-variants.{Nothing}
 use Rattle.access.specs.declared.plan.Plan.{Plan}
 use Rattle.readable.specs.Readable.{frameIn, readable}

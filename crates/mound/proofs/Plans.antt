@@ -29,7 +29,7 @@ use Rattle.region.proofs.Levels.{level-at-least, level-at-most, level-holds, le
 use Rattle.region.proofs.Picks.{pick-good}
 use Rattle.region.proofs.Shapes.{and-left, and-right, and-both, is-between, sizes}
 use Rattle.access.specs.Order.{itemLe, itemLt, topItem, val, valueOf}
-use Rattle.access.specs.Plan.{plan, moved, onTo, refused}
+use Rattle.access.specs.Plan.{changesNothing, moved, onTo, plan, refused}
 use Rattle.access.specs.Read.{isDirty, isLevel, isNode, isSpent, readNode, sameNode, updated}
 use Rattle.access.specs.declared.effect.Effect.{Effect}
 use Rattle.access.specs.declared.effect.Effect.the-variants.{Nothing, Grow, Push, Pop, Exchange, Clean}
@@ -40,7 +40,7 @@ use Rattle.insert.specs.Insert.{searching, readDepth, searchOn, leafOf, nextTri
 use Rattle.insert.proofs.Laws.{node-same, parent-same}
 use Rattle.extract.specs.Extract.{afterRootRead, readRoot, afterRemoval, removeHead}
 use Rattle.moundify.specs.Moundify.{returning, mendReadNode, afterDepthRead, mendReadDepth, mendReadLeft, marked, lessBelow, childLess, afterChildrenRead, mendReadRight, exchangeAt, nodeAndChildSame, exchangeWith, mendSwap, cleanAt, mendClean, returned, returnAnswer}
-use Rattle.machine.specs.Turn.{decide, decideAt, changesNothing}
+use Rattle.machine.specs.Turn.{decide, decideAt}
 use Rattle.mound.specs.Ledger.{Operation, none, putting, taking, holding}
 use Rattle.mound.proofs.Effects.{Mound, PushAllowed, PopAllowed, ExchangeAllowed, CleanAllowed, in-tree}
 use Rattle.mound.proofs.Facts.{At, AnyValue, Child, ChildRead, Dirty, InTree, Inner, LevelRead, Mended, Mends, Parent, Puts, RootRead, Searching, Sound, Swappable, Takes, Target, mendingFor, sound-read}

@@ -6,7 +6,7 @@ use native.Mathlib.Omega.{arith}
 use mathlib.Core.Path.{_≡_, refl, sym, ap, subst, fun-ext, _∙_}
 use mathlib.Core.Bool.{Bool, true, false, true≢false}
 use Rattle.region.specs.Pick.{pick, upd}
-use Rattle.region.specs.Shared.{Shared, putCell, putFree}
+use Rattle.region.specs.Shared.{Shared, setCell, setFree}
 use Rattle.region.specs.Thread.{atPlace, begunPut, begunTake, withItem, withOwn}
 use Rattle.region.specs.declared.answer.Answer.{Answer}
 use Rattle.region.specs.declared.answer.Answer.the-variants.{Moved, Idle, Inserted, Took, Empty, Refused}
@@ -368,7 +368,7 @@ module _ (s : Shape) (m : Shared) (th : ℕ → Thread) (l : Ledger) {all : ℕ}
     -- a put of i begins: the first free cell becomes the thread's own, with the item
     module _ (i : Item) (proper : Proper i) (free : 1 ≤ m .free) where
       abbrev pub begun : Shared
-      begun = putCell (putFree m (m .cell (m .free) .next)) (m .free) (record { item = i; next = 0 })
+      begun = setCell (setFree m (m .cell (m .free) .next)) (m .free) (record { item = i; next = 0 })
 
       abbrev putter : Thread
       putter = begunPut (th t) i (m .free)

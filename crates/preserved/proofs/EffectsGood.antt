@@ -25,11 +25,11 @@ use Rattle.readable.proofs.Stores.{CellGood, Keeps, NodeGood, SharedGood, good-
 use Rattle.preserved.proofs.PlansGood.{EffectGood, some-nodes}
 
 module _ (s : Shape) (m : Shared) (g : SharedGood s m) where
-  put-node : (n : ℕ) (v : Node) → NodeGood (s .cells) v → (k : ℕ) → NodeGood (s .cells) (upd (m .node) n v k)
-  put-node n v h = upd-good (NodeGood (s .cells)) (m .node) n v (g .node) h
+  set-node : (n : ℕ) (v : Node) → NodeGood (s .cells) v → (k : ℕ) → NodeGood (s .cells) (upd (m .node) n v k)
+  set-node n v h = upd-good (NodeGood (s .cells)) (m .node) n v (g .node) h
 
-  pub put-cell : (c : ℕ) (v : Cell) → CellGood (s .cells) v → (k : ℕ) → CellGood (s .cells) (upd (m .cell) c v k)
-  put-cell c v h = upd-good (CellGood (s .cells)) (m .cell) c v (g .cell) h
+  pub set-cell : (c : ℕ) (v : Cell) → CellGood (s .cells) v → (k : ℕ) → CellGood (s .cells) (upd (m .cell) c v k)
+  set-cell c v h = upd-good (CellGood (s .cells)) (m .cell) c v (g .cell) h
 
   pub effect-good : (e : Effect) → EffectGood s e → SharedGood s (effectShared m e)
   unfolding effectShared
@@ -38,13 +38,13 @@ module _ (s : Shape) (m : Shared) (g : SharedGood s m) where
   effect-good (Push n v c x) h =
       let linked : CellGood (s .cells) (record { item = m .cell c .item; next = x }) =
       record { key = g .cell c .key; tag = g .cell c .tag; next = h .3 } in
-      search (put-node n v (h .2), put-cell c _ linked)
+      search (set-node n v (h .2), set-cell c _ linked)
   effect-good (Pop v c) h =
       let freed : CellGood (s .cells) (record { item = zeroItem; next = m .free }) =
       record { key = omega arith; tag = omega arith; next = g .free } in
-      search (put-node 1 v (h .1), put-cell c _ freed)
-  effect-good (Exchange n v k w) h = search (upd-good (NodeGood (s .cells)) (upd (m .node) n v) k w (put-node n v (h .2)) (h .3))
-  effect-good (Clean n v) h = search (put-node n v (h .1))
+      search (set-node 1 v (h .1), set-cell c _ freed)
+  effect-good (Exchange n v k w) h = search (upd-good (NodeGood (s .cells)) (upd (m .node) n v) k w (set-node n v (h .2)) (h .3))
+  effect-good (Clean n v) h = search (set-node n v (h .1))
 
 pub few-cells : (s : Shape) → InRange s → s .cells < 2 ^ 32
 few-cells s r = omega (arith, r .cells-most, sizes s (r .depth-most))

@@ -33,7 +33,7 @@ use Rattle.region.proofs.Shapes.{and-left, and-right, between-least, between-mo
 use Rattle.region.proofs.Views.{length-setCellIn, length-setNodeIn, length-setThreadIn, outside-word, shared-setCell, shared-setFree, threads-kept, threads-outside, threads-setCell, threads-setFree, threads-setThread, word-setCell, word-setCellIn, word-setNode, word-setThread}
 use Rattle.access.specs.Effect.{effectBytes, freedBytes, pushBytes}
 use Rattle.access.specs.Order.{itemLt, topItem}
-use Rattle.access.specs.Plan.{refused}
+use Rattle.access.specs.Plan.{changesNothing, refused}
 use Rattle.access.specs.declared.effect.Effect.{Effect}
 use Rattle.access.specs.declared.effect.Effect.the-variants.{Nothing, Grow, Push, Pop, Exchange, Clean}
 use Rattle.access.specs.declared.plan.Plan.{Plan}
@@ -44,9 +44,9 @@ use Rattle.readable.proofs.Laws.{Good, good}
 use Rattle.readable.proofs.Stores.{CellGood, FieldsGood, Keeps, PlaceGood, SharedGood, ThreadGood, good-shared, good-thread, keeps-more, keeps-same, keeps-setThread, make-good, readable-kept, shape-kept, thread-fit, threads-pass}
 use Rattle.begin.specs.Begin.{isIdle, isItem, mayPut, mayTake, acceptedPut, acceptedTake, hasFreeCell, putBytes, putBytesIn, putRefusalIn, takeBytes, takeBytesIn, takeRefusalIn}
 use Rattle.begin.proofs.Laws.{put-bytes-in, take-bytes-in}
-use Rattle.machine.specs.Turn.{carriedOut, decide, decideAt, changesNothing, turnBytes, turnPlan}
+use Rattle.machine.specs.Turn.{carriedOut, decide, decideAt, turnBytes, turnPlan}
 use Rattle.preserved.specs.Theorems.{EmptyIsAbove, OutsideEffect, TurnKeepsReadable, PutKeepsReadable, TakeKeepsReadable, TurnKeepsShape, PutKeepsShape, TakeKeepsShape, TurnLeavesOthers, PutLeavesOthers, TakeLeavesOthers, TurnLeavesWords}
-use Rattle.preserved.proofs.EffectsGood.{cell-fit, few-cells, keeps-effect, put-cell}
+use Rattle.preserved.proofs.EffectsGood.{cell-fit, few-cells, keeps-effect, set-cell}
 use Rattle.preserved.proofs.PlansGood.{PlanGood, at-good, fields-item, fields-own, plan-good, readDepth-good, readLeaf-good, readAncestor-good, growDepth-good, readTarget-good, insertAtRoot-good, readParent-good, insertBelow-good, readRoot-good, removeHead-good, mendReadNode-good, mendReadDepth-good, mendReadLeft-good, mendReadRight-good, mendSwap-good, mendClean-good}
 
 -- every place's plan is in range
@@ -196,7 +196,7 @@ module _ (f : Frame) (b : List ℕ) (g : Good f b) where
             (subst (SharedGood s) (sym (shared-setCell f b (g .framed) c v l u (cell-fit s (g .range) v h)))
             (record {
               node = m .node;
-              cell = put-cell s (sharedIn f b) m c v h;
+              cell = set-cell s (sharedIn f b) m c v h;
               depth-least = m .depth-least;
               depth-most = m .depth-most;
               free = m .free;

@@ -19,7 +19,7 @@ use Rattle.region.specs.Inner.{Apart, before, behind, Framed, depthOf, f
 use Rattle.region.specs.Pick.{pick, upd}
 use Rattle.region.specs.Record.{nodeSize, cellSize, nodeOf, nodeWords, emptyNode, nodeAt, setNodeAt, cellOf, cellWords, zeroCell, cellAt, setCellAt}
 use Rattle.region.specs.Shape.{between, nodeCount}
-use Rattle.region.specs.Shared.{entry, loadEntry, storeEntry, nodeIn, setNodeIn, cellIn, setCellIn, threadIn, setThreadIn, sharedIn, putNode, putCell, putDepth, putFree}
+use Rattle.region.specs.Shared.{entry, loadEntry, storeEntry, nodeIn, setNodeIn, cellIn, setCellIn, threadIn, setThreadIn, sharedIn, setNode, setCell, setDepth, setFree}
 use Rattle.region.specs.Thread.{threadSize, threadOf, threadWords, idleThread, threadAt, setThreadAt}
 use Rattle.region.specs.declared.frame.Frame.{Frame}
 use Rattle.region.specs.declared.record.Cell.{Cell}
@@ -296,7 +296,7 @@ module _ (f : Frame) (b : List ℕ) (framed : Framed f (length b)) where
 
   -- Reading after a store, of shared memory and of the threads.
   pub shared-setNode : (n : ℕ) (v : Node) → 1 ≤ n → n ≤ nodeCount (f .shape) → Fit (nodeWords v)
-      → sharedIn f (setNodeIn f b n v) ≡ putNode (sharedIn f b) n v
+      → sharedIn f (setNodeIn f b n v) ≡ setNode (sharedIn f b) n v
   unfolding sharedIn setNodeIn nodeIn
   shared-setNode n v l u g =
       let e : nodeIn f (setNodeIn f b n v) ≡ upd (nodeIn f b) n v =
@@ -310,7 +310,7 @@ module _ (f : Frame) (b : List ℕ) (framed : Framed f (length b)) where
       }
 
   pub shared-setCell : (c : ℕ) (v : Cell) → 1 ≤ c → c ≤ f .shape .cells → Fit (cellWords v)
-      → sharedIn f (setCellIn f b c v) ≡ putCell (sharedIn f b) c v
+      → sharedIn f (setCellIn f b c v) ≡ setCell (sharedIn f b) c v
   unfolding sharedIn setCellIn cellIn
   shared-setCell c v l u g =
       let e : cellIn f (setCellIn f b c v) ≡ upd (cellIn f b) c v =
@@ -326,7 +326,7 @@ module _ (f : Frame) (b : List ℕ) (framed : Framed f (length b)) where
   pub threads-setCell : (c : ℕ) (v : Cell) → threadIn f (setCellIn f b c v) ≡ threadIn f b
   threads-setCell c v = threads-kept f b framed (setCellIn f b c v) (cell-keeps c v (threadsOf f) (flip (framed .apart .cells-threads)))
 
-  pub shared-setDepth : (v : ℕ) → v < 2 ^ 32 → sharedIn f (setWord b (f .depth) v) ≡ putDepth (sharedIn f b) v
+  pub shared-setDepth : (v : ℕ) → v < 2 ^ 32 → sharedIn f (setWord b (f .depth) v) ≡ setDepth (sharedIn f b) v
   unfolding sharedIn
   shared-setDepth v g =
       λ i. record {
@@ -336,7 +336,7 @@ module _ (f : Frame) (b : List ℕ) (framed : Framed f (length b)) where
         free = free-kept f b (setWord b (f .depth) v) (depth-keeps v (freeOf f) (flip (framed .apart .depth-free))) i;
       }
 
-  pub shared-setFree : (v : ℕ) → v < 2 ^ 32 → sharedIn f (setWord b (f .free) v) ≡ putFree (sharedIn f b) v
+  pub shared-setFree : (v : ℕ) → v < 2 ^ 32 → sharedIn f (setWord b (f .free) v) ≡ setFree (sharedIn f b) v
   unfolding sharedIn
   shared-setFree v g =
       λ i. record {

@@ -59,14 +59,14 @@ unfoldable pub sharedIn : Frame → List ℕ → Shared
 sharedIn f b = record { node = nodeIn f b; cell = cellIn f b; depth = word b (f .depth); free = word b (f .free) }
 
 -- shared memory with another node n, cell c, depth or first free cell
-abbrev pub putNode : Shared → ℕ → Node → Shared
-putNode s n v = record { node = upd (s .node) n v; cell = s .cell; depth = s .depth; free = s .free }
+abbrev pub setNode : Shared → ℕ → Node → Shared
+setNode s n v = record { node = upd (s .node) n v; cell = s .cell; depth = s .depth; free = s .free }
 
-abbrev pub putCell : Shared → ℕ → Cell → Shared
-putCell s c v = record { node = s .node; cell = upd (s .cell) c v; depth = s .depth; free = s .free }
+abbrev pub setCell : Shared → ℕ → Cell → Shared
+setCell s c v = record { node = s .node; cell = upd (s .cell) c v; depth = s .depth; free = s .free }
 
-abbrev pub putDepth : Shared → ℕ → Shared
-putDepth s d = record { node = s .node; cell = s .cell; depth = d; free = s .free }
+abbrev pub setDepth : Shared → ℕ → Shared
+setDepth s d = record { node = s .node; cell = s .cell; depth = d; free = s .free }
 
-abbrev pub putFree : Shared → ℕ → Shared
-putFree s c = record { node = s .node; cell = s .cell; depth = s .depth; free = c }
+abbrev pub setFree : Shared → ℕ → Shared
+setFree s c = record { node = s .node; cell = s .cell; depth = s .depth; free = c }
