@@ -5,6 +5,7 @@ use mathlib.Core.Path.{_≡_, refl, sym, _∙_}
 use mathlib.Core.Bool.{Bool, true, false, _&&_}
 use borrow.Author.Tests.{eq-eqb, eqb-true, eqb-false, not-true, not-false}
 use lib.Dec.{eqb}
+use Rattle.region.specs.Record.{greatestCounter}
 use Rattle.region.specs.declared.record.Node.{Node}
 use Rattle.region.proofs.Shapes.{and-left, and-right}
 use Rattle.access.specs.Read.{isDirty, isSpent, sameNode, updated}
@@ -35,6 +36,13 @@ is-clean n e = eqb-true (n .dirty) 0 (not-false (eqb (n .dirty) 0) e)
 
 pub not-spent : (n : Node) (p : Bool) → p ≡ isSpent n → p ≡ false → isSpent n ≡ false
 not-spent n p e g = sym e ∙ g
+
+-- a counter that is not spent has a next value
+pub next-counter : (n : Node) → isSpent n ≡ false → n .counter ≤ greatestCounter → n .counter + 1 ≤ greatestCounter
+unfolding isSpent
+next-counter n e h =
+    let ne : n .counter ≡ greatestCounter → ⊥ = eqb-false (n .counter) greatestCounter e in
+    omega arith
 
 -- An update gives a node another list and mark, and makes its counter one more: by these laws alone the theory of the mound knows it.
 module _ (n : Node) (first dirty : ℕ) where

@@ -11,7 +11,7 @@ use mir.Val.{hasKey}
 use types.Run.{OneOf, miss}
 use Rattle.words.specs.Word.{word, setWord}
 use Rattle.region.specs.Pick.{pick}
-use Rattle.region.specs.Record.{greatestCounter, zeroItem}
+use Rattle.region.specs.Record.{zeroItem}
 use Rattle.region.specs.Shape.{nodeCount}
 use Rattle.region.specs.Shared.{sharedIn, nodeIn, cellIn, setNodeIn, setCellIn}
 use Rattle.region.specs.declared.frame.Frame.{Frame}
@@ -27,6 +27,7 @@ use Rattle.access.specs.Order.{itemLe, topItem, valueOf}
 use Rattle.access.specs.Read.{isNode, isSpent, readNode, sameNode}
 use Rattle.access.specs.declared.effect.Effect.{Effect}
 use Rattle.access.specs.declared.effect.Effect.the-variants.{Nothing, Grow, Push, Pop, Exchange, Clean}
+use Rattle.access.proofs.ReadLaws.{next-counter}
 use Rattle.access.proofs.effect.Effect.{the-type}
 
 -- a key counts more than a tag, which is one word
@@ -71,10 +72,7 @@ module _ (a b : Node) where
     same-rest d = rw (eq-eqb (a .first) (b .first) e, eq-eqb (a .dirty) (b .dirty) d) refl
 
 pub counts-up : (n : Node) → isSpent n ≡ false → n .counter < 2 ^ 32 → n .counter + 1 < 2 ^ 32
-unfolding isSpent
-counts-up n e h =
-    let ne : n .counter ≡ greatestCounter → ⊥ = eqb-false (n .counter) greatestCounter e in
-    omega arith
+counts-up n e h = omega (arith, next-counter n e (omega arith))
 
 module _ (s : Shape) (n : ℕ) where
   pub no-node : n < 1 → false ≡ isNode s n

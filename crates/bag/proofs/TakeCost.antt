@@ -14,7 +14,7 @@ use Rattle.region.specs.Answer.{done}
 use Rattle.region.specs.Pick.{pick}
 use Rattle.region.specs.Record.{emptyNode}
 use Rattle.region.specs.Shape.{between, nodeCount}
-use Rattle.region.specs.Shared.{Shared, loadEntry, nodeIn, setThreadIn, sharedIn, threadIn}
+use Rattle.region.specs.Shared.{Shared, loadEntry, nodeIn, sharedIn, threadIn}
 use Rattle.region.specs.Thread.{atPlace, begunTake}
 use Rattle.region.specs.declared.answer.Answer.{Answer}
 use Rattle.region.specs.declared.answer.Answer.the-variants.{Moved, Idle, Inserted, Took, Empty, Refused}

@@ -32,7 +32,7 @@ use Rattle.access.specs.declared.effect.Effect.{Effect}
 use Rattle.access.specs.declared.effect.Effect.the-variants.{Nothing, Exchange, Clean}
 use Rattle.access.specs.declared.plan.Plan.{Plan}
 use Rattle.moundify.specs.Moundify.{nodeAndChildSame, childLess, afterChildrenRead, cleanAt, afterDepthRead, exchangeAt, exchangeWith, lessBelow, marked, mendClean, mendReadDepth, mendReadLeft, mendReadNode, mendReadRight, mendSwap, returning, returned, returnAnswer}
-use Rattle.moundify.specs.Inner.{ChildrenAsked}
+use Rattle.moundify.specs.Inner.{HasChildren}
 
 -- The return.
 pub returns-so : (t : Thread) (w : ℕ) (x : Effect) (u : Thread) (a : Answer) (r : Plan) → u ≡ returned t w → a ≡ returnAnswer t w
@@ -142,7 +142,7 @@ module _ (t : Thread) (n l k : Item) (en : n ≡ valueOf (t .copies .first)) (el
   right-decides h er = er ∙ (rw h at less-here)
 
 module _ (t : Thread) (l : ℕ) (el : l ≡ level (t .node)) where
-  pub some-level : ChildrenAsked t → 1 ≤ l
+  pub some-level : HasChildren t → 1 ≤ l
   some-level a = omega (arith, level-holds (t .node) (a .some) (omega arith) .some)
 
   pub few-levels : l ≤ 32
@@ -171,10 +171,10 @@ module _ (t : Thread) (w : ℕ) (q : Bool) (eq : q ≡ isDirty (t .copies .secon
       unfolding afterChildrenRead pick
       to-clean p er = rw (← eq, h, ← ek, g, ← ec, p) er
 
-pub children-asked : (f : Frame) (l : ℕ) → Within f l → (t u : Thread) (k : NodeCopy) → (t .node ≡ 0 → ⊥) → (q : Bool)
-    → q ≡ isNode (f .shape) (2 * t .node + 1) → not q ≡ false → u ≡ withThird t k → ChildrenAsked u
+pub has-children : (f : Frame) (l : ℕ) → Within f l → (t u : Thread) (k : NodeCopy) → (t .node ≡ 0 → ⊥) → (q : Bool)
+    → q ≡ isNode (f .shape) (2 * t .node + 1) → not q ≡ false → u ≡ withThird t k → HasChildren u
 unfolding withThird
-children-asked f l h t u k n q eq g eu =
+has-children f l h t u k n q eq g eu =
     let e : u .node ≡ t .node = ap (λ y. y .node) eu in
     let fits = node-fits f l h (2 * t .node + 1) q eq g in
     record { some = omega arith; few = omega arith }

@@ -6,7 +6,7 @@ ghost use Rattle.region.specs.Inner.{Within};
 ghost use Rattle.region.specs.Pick.{pick};
 ghost use Rattle.region.specs.Shared.{sharedIn};
 ghost use Rattle.moundify.specs.Moundify.{nodeAndChildSame, childLess, afterChildrenRead, cleanAt, afterDepthRead, exchangeAt, exchangeWith, marked, mendClean, mendReadDepth, mendReadLeft, mendReadNode, mendReadRight, mendSwap, returnAnswer, returned, returning};
-ghost use Rattle.moundify.specs.Inner.{ChildrenAsked};
+ghost use Rattle.moundify.specs.Inner.{HasChildren};
 use access::Effect;
 use access::Plan;
 use region::Answer;
@@ -130,7 +130,7 @@ fn child_less(t: Thread) -> bool
 
 // The children were read: one is dirty and is mended first, or one is less, or the node may be cleaned.
 fn after_children_read(t: Thread, w: u32) -> Plan
-    requires { ⌜ ChildrenAsked t ⌝ }
+    requires { ⌜ HasChildren t ⌝ }
     ensures { λ r. ⌜ r ≡ afterChildrenRead t w ⌝ }
 {
     if access::is_dirty(t.copies.second.node) {

@@ -10,7 +10,7 @@ use lib.Pow.{pow-mono, pow-pos}
 use Rattle.region.specs.Answer.{unreadable, counterSpent}
 use Rattle.region.specs.Level.{ancestor, level}
 use Rattle.region.specs.Pick.{pick}
-use Rattle.region.specs.Record.{greatestCounter, greatestTag}
+use Rattle.region.specs.Record.{greatestTag}
 use Rattle.region.specs.Shape.{between, nodeCount}
 use Rattle.region.specs.Inner.{InRange}
 use Rattle.region.specs.Shared.{Shared}
@@ -34,6 +34,7 @@ use Rattle.access.specs.Read.{isDirty, isLevel, isNode, isSpent, readNode, same
 use Rattle.access.specs.declared.effect.Effect.{Effect}
 use Rattle.access.specs.declared.effect.Effect.the-variants.{Nothing, Grow, Push, Pop, Exchange, Clean}
 use Rattle.access.specs.declared.plan.Plan.{Plan}
+use Rattle.access.proofs.ReadLaws.{next-counter, updated-counter, updated-dirty, updated-first}
 use Rattle.insert.specs.Insert.{searching, readDepth, searchOn, leafOf, nextTries, failedPlace, afterFailedTry, afterLeafRead, readLeaf, afterAncestorRead, middleLevel, hasMiddle, readAncestor, growDepth, targetPlace, readTarget, insertAt, insertAtRoot, readParent, insertBelow}
 use Rattle.extract.specs.Extract.{afterRootRead, readRoot, afterRemoval, removeHead}
 use Rattle.moundify.specs.Moundify.{returning, mendReadNode, afterDepthRead, mendReadDepth, mendReadLeft, marked, childLess, afterChildrenRead, mendReadRight, exchangeAt, nodeAndChildSame, exchangeWith, mendSwap, cleanAt, mendClean, returned, returnAnswer}
@@ -175,10 +176,12 @@ module _ (s : Shape) (r : InRange s) (m : Shared) (sm : SharedGood s m) where
 
   pub updated-good : (n : Node) (first dirty : ℕ) → NodeGood (s .cells) n → isSpent n ≡ false → first ≤ s .cells → dirty ≤ 1
       → NodeGood (s .cells) (updated n first dirty)
-  unfolding updated isSpent
   updated-good n first dirty g e hf hd =
-      let ne = eqb-false (n .counter) greatestCounter e in
-      record { first = hf; dirty = hd; counter = omega (arith, g .counter, ne) }
+      record {
+        first = omega (arith, updated-first n first dirty, hf);
+        dirty = omega (arith, updated-dirty n first dirty, hd);
+        counter = omega (arith, updated-counter n first dirty, next-counter n e (g .counter));
+      }
 
   module _ (t : Thread) (gt : ThreadGood s t) where
     g : FieldsGood s t

@@ -12,7 +12,6 @@ use lib.ListN.{length}
 use Rattle.words.specs.Word.{word, setWord}
 use Rattle.words.proofs.Laws.{word-other, length-setWord}
 use Rattle.region.specs.Answer.{done, badThread}
-use Rattle.region.specs.Frame.{frameOf}
 use Rattle.region.specs.Inner.{Framed, InRange}
 use Rattle.region.specs.Pick.{pick}
 use Rattle.region.specs.Record.{greatestKey, greatestTag}
@@ -39,7 +38,7 @@ use Rattle.access.specs.declared.effect.Effect.the-variants.{Nothing, Grow, Pus
 use Rattle.access.specs.declared.plan.Plan.{Plan}
 use Rattle.access.proofs.EffectLaws.{effect-word}
 use Rattle.access.proofs.OrderLaws.{item-below-top}
-use Rattle.readable.specs.Readable.{readable, frameIn, shapeIn}
+use Rattle.readable.specs.Readable.{readable, frameIn}
 use Rattle.readable.proofs.Laws.{Good, good}
 use Rattle.readable.proofs.Stores.{CellGood, FieldsGood, Keeps, PlaceGood, SharedGood, ThreadGood, good-shared, good-thread, keeps-more, keeps-same, keeps-setThread, make-good, readable-kept, shape-kept, thread-fit, threads-pass}
 use Rattle.begin.specs.Begin.{isIdle, isItem, mayPut, mayTake, acceptedPut, acceptedTake, hasFreeCell, putBytes, putBytesIn, putRefusalIn, takeBytes, takeBytesIn, takeRefusalIn}

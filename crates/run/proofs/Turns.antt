@@ -41,7 +41,7 @@ one-served f b b′ s a a′ k n t c r x et ec h ea er =
 
 -- The loop: serving the turns that are left gives what serving all gives.
 pub record Serving (f : Frame) (limit count : ℕ) (s b₀ a₀ b a : List ℕ) (k n : ℕ) : Type 0 where
-  pub asked : RunWithin f (length b₀) (length s) (length a₀)
+  pub all-within : RunWithin f (length b₀) (length s) (length a₀)
   pub total : count ≡ length s / 8
   pub within : k ≤ count
   pub made : n ≤ k
@@ -53,7 +53,7 @@ pub serve-start : (f : Frame) (limit : ℕ) (s b a : List ℕ) → RunWithin f (
     → Serving f limit (length s / 8) s b a b a 0 0
 serve-start f limit s b a h =
     record {
-      asked = h;
+      all-within = h;
       total = refl;
       within = omega arith;
       made = omega arith;
@@ -66,7 +66,7 @@ module _ {f : Frame} {limit count : ℕ} {s b₀ a₀ b a : List ℕ} {k n : ℕ
   pub turn-within : k < count → TurnWithin f (length b) (length s) (length a) k n
   turn-within h =
       record {
-        within = subst (Within f) (sym (e .region-same)) (e .asked .within);
+        within = subst (Within f) (sym (e .region-same)) (e .all-within .within);
         turn = omega arith;
         answer = omega arith;
         few = omega arith;
@@ -98,7 +98,7 @@ module _ {f : Frame} {limit count : ℕ} {s b₀ a₀ b a : List ℕ} {k n : ℕ
       let x = turnAnswer f b (turnAt s k .thread) (turnAt s k .choice) in
       let more : r ≡ n + accessesOf x = ap (λ z. z .accesses) er in
       record {
-        asked = e .asked;
+        all-within = e .all-within;
         total = e .total;
         within = omega arith;
         made = omega (arith, one-access x);

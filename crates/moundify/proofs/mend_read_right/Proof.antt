@@ -1,7 +1,7 @@
 -- `moundify::mend_read_right` meets its contract: node 0 and a child not in the tree are refused, any other is read. Assumes nothing.
 use borrow.Author.Needs.{needs}
 use Rattle.moundify.proofs.mend_read_right.Statement.{statement}
-use Rattle.moundify.proofs.Ways.{node-fits, children-asked, right-without-node, no-right, right-read}
+use Rattle.moundify.proofs.Ways.{node-fits, has-children, right-without-node, no-right, right-read}
 use Rattle.moundify.proofs.mend_read_right.Tie as tie
 
 refused-requires : tie.Need-refused-requires
@@ -38,7 +38,7 @@ with-third-requires : tie.Need-with-third-requires
 with-third-requires c κs = search needs
 
 after-children-read-requires : tie.Need-after-children-read-requires
-after-children-read-requires c κs = search children-asked
+after-children-read-requires c κs = search has-children
 
 returns-3 : tie.Need-returns-3
 returns-3 c = search right-read
