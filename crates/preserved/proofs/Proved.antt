@@ -24,19 +24,18 @@ use Rattle.region.specs.declared.place.Place.{Place}
 use Rattle.region.specs.declared.place.Place.the-variants.{Idle, ReadDepth, ReadLeaf, ReadAncestor, GrowDepth, ReadTarget, InsertAtRoot, ReadParent, InsertBelow, ReadRoot, RemoveHead, MendReadNode, MendReadDepth, MendReadLeft, MendReadRight, MendSwap, MendClean}
 use Rattle.region.specs.declared.record.Cell.{Cell}
 use Rattle.region.specs.declared.record.Item.{Item}
-use Rattle.region.specs.declared.record.Node.{Node}
 use Rattle.region.specs.declared.shape.Shape.{Shape}
 use Rattle.region.specs.declared.thread.Thread.{Thread}
 use Rattle.region.proofs.Picks.{pick-good, upd-other}
 use Rattle.region.proofs.Shapes.{and-left, and-right, between-least, between-most}
-use Rattle.region.proofs.Views.{length-setCellIn, length-setNodeIn, length-setThreadIn, outside-word, shared-setCell, shared-setFree, threads-kept, threads-outside, threads-setCell, threads-setFree, threads-setThread, word-setCell, word-setCellIn, word-setNode, word-setThread}
+use Rattle.region.proofs.Views.{length-setCellIn, length-setThreadIn, outside-word, shared-setCell, shared-setFree, threads-kept, threads-outside, threads-setCell, threads-setFree, threads-setThread, word-setCell, word-setCellIn, word-setNode, word-setThread}
 use Rattle.access.specs.Effect.{effectBytes, freedBytes, pushBytes}
 use Rattle.access.specs.Order.{itemLt, topItem}
 use Rattle.access.specs.Plan.{changesNothing, refused}
 use Rattle.access.specs.declared.effect.Effect.{Effect}
 use Rattle.access.specs.declared.effect.Effect.the-variants.{Nothing, Grow, Push, Pop, Exchange, Clean}
 use Rattle.access.specs.declared.plan.Plan.{Plan}
-use Rattle.access.proofs.EffectLaws.{effect-word}
+use Rattle.access.proofs.EffectLaws.{effect-word, framed-node}
 use Rattle.access.proofs.OrderLaws.{item-below-top}
 use Rattle.readable.specs.Readable.{readable, frameIn}
 use Rattle.readable.proofs.Laws.{Good, good}
@@ -380,21 +379,18 @@ put-leaves-others b e t i u n =
 
 -- an effect changes none but its own words
 module _ (f : Frame) (j : ℕ) where
-  framed-node : (b : List ℕ) → Framed f (length b) → (n : ℕ) (v : Node) → Framed f (length (setNodeIn f b n v))
-  framed-node b framed n v = subst (Framed f) (sym (length-setNodeIn f b n v)) framed
-
   effect-leaves : (b : List ℕ) → Framed f (length b) → (e : Effect) → OutsideEffect f e j → word (effectBytes f b e) j ≡ word b j
   unfolding effectBytes pushBytes freedBytes
   effect-leaves b framed Nothing o = refl
   effect-leaves b framed (Grow d) o = word-other b (f .depth) j d o
   effect-leaves b framed (Push n v c x) o =
-      word-setCell f (setNodeIn f b n v) (framed-node b framed n v) c j _ (o .1) ∙ word-setNode f b framed n j v (o .0)
+      word-setCell f (setNodeIn f b n v) (framed-node f b n v framed) c j _ (o .1) ∙ word-setNode f b framed n j v (o .0)
   effect-leaves b framed (Pop v c) o =
       word-other _ (f .free) j c (o .2)
-      ∙ word-setCell f (setNodeIn f b 1 v) (framed-node b framed 1 v) c j _ (o .1)
+      ∙ word-setCell f (setNodeIn f b 1 v) (framed-node f b 1 v framed) c j _ (o .1)
       ∙ word-setNode f b framed 1 j v (o .0)
   effect-leaves b framed (Exchange n v k x) o =
-      word-setNode f (setNodeIn f b n v) (framed-node b framed n v) k j x (o .1) ∙ word-setNode f b framed n j v (o .0)
+      word-setNode f (setNodeIn f b n v) (framed-node f b n v framed) k j x (o .1) ∙ word-setNode f b framed n j v (o .0)
   effect-leaves b framed (Clean n v) o = word-setNode f b framed n j v o
 
 pub turn-leaves-words : TurnLeavesWords
