@@ -18,7 +18,7 @@ use Rattle.region.specs.declared.record.Node.{Node}
 use Rattle.region.proofs.Views.{OutsideShared, outside-word, length-setNodeIn, length-setCellIn, word-setNodeIn, word-setCellIn, shared-setNode, shared-setCell, shared-setDepth, shared-setFree}
 use Rattle.access.specs.Effect.{effectShared, effectBytes, freedBytes, pushBytes, freed}
 use Rattle.access.specs.declared.effect.Effect.{Effect}
-use Rattle.access.specs.declared.effect.Effect.the-variants.{Nothing, Grow, Push, Pop, Exchange, Clean}
+use Rattle.access.specs.declared.effect.Effect.the-variants.{Nothing, Grow, Push, Pop, Exchange, Clean, Detach, Free}
 
 -- numbers of nodes and cells that exist, and values that fit their words
 abbrev pub IsNode : Frame → ℕ → Type 0
@@ -36,6 +36,8 @@ EffectFits f b (Pop v c) =
     IsNode f 1 × IsCell f c × Fit (nodeWords v) × (word b (f .free) < 2 ^ 32)
 EffectFits f b (Exchange n v k w) = IsNode f n × IsNode f k × Fit (nodeWords v) × Fit (nodeWords w)
 EffectFits f b (Clean n v) = IsNode f n × Fit (nodeWords v)
+EffectFits f b (Detach v) = IsNode f 1 × Fit (nodeWords v)
+EffectFits f b (Free c) = IsCell f c × (word b (f .free) < 2 ^ 32)
 
 -- The length stays.
 length-freed : (f : Frame) (b : List ℕ) (c : ℕ) → length (freedBytes f b c) ≡ length b
@@ -50,6 +52,8 @@ length-effect f b (Push n v c x) = length-setCellIn f (setNodeIn f b n v) c _ �
 length-effect f b (Pop v c) = length-freed f (setNodeIn f b 1 v) c ∙ length-setNodeIn f b 1 v
 length-effect f b (Exchange n v k w) = length-setNodeIn f (setNodeIn f b n v) k w ∙ length-setNodeIn f b n v
 length-effect f b (Clean n v) = length-setNodeIn f b n v
+length-effect f b (Detach v) = length-setNodeIn f b 1 v
+length-effect f b (Free c) = length-freed f b c
 
 framed-after : (f : Frame) (b b′ : List ℕ) → length b′ ≡ length b → Framed f (length b) → Framed f (length b′)
 framed-after f b b′ e framed = subst (Framed f) (sym e) framed
@@ -101,6 +105,8 @@ module _ (f : Frame) where
     effect-shared (Pop v c) g = pop-shared v c g
     effect-shared (Exchange n v k x) g = exchange-shared n v k x g
     effect-shared (Clean n v) g = shared-setNode f b framed n v (g .0 .0) (g .0 .1) (g .1)
+    effect-shared (Detach v) g = shared-setNode f b framed 1 v (g .0 .0) (g .0 .1) (g .1)
+    effect-shared (Free c) g = freed-shared b c framed (g .0) (g .1) (omega (arith, g .0 .1, few))
 
 -- Words outside the parts that effects store to.
 module _ (f : Frame) (j : ℕ) (o : OutsideShared f j) where
@@ -121,3 +127,5 @@ module _ (f : Frame) (j : ℕ) (o : OutsideShared f j) where
   effect-word b framed (Exchange n v k x) =
       node-word (setNodeIn f b n v) k x (framed-node f b n v framed) ∙ node-word b n v framed
   effect-word b framed (Clean n v) = node-word b n v framed
+  effect-word b framed (Detach v) = node-word b 1 v framed
+  effect-word b framed (Free c) = freed-word b c framed

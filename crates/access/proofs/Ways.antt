@@ -22,11 +22,11 @@ use Rattle.region.specs.declared.record.NodeCopy.{NodeCopy}
 use Rattle.region.specs.declared.shape.Shape.{Shape}
 use Rattle.region.proofs.Shapes.{below, from-least}
 use Rattle.access.specs.Effect.{effectBytes, freedBytes, pushBytes}
-use Rattle.access.specs.Inner.{cleaning, exchanging, growing, kindOf, ofKind, popping, pushing, reading}
+use Rattle.access.specs.Inner.{cleaning, detaching, exchanging, freeing, growing, kindOf, ofKind, popping, pushing, reading}
 use Rattle.access.specs.Order.{itemLe, topItem, valueOf}
 use Rattle.access.specs.Read.{isNode, isSpent, readNode, sameNode}
 use Rattle.access.specs.declared.effect.Effect.{Effect}
-use Rattle.access.specs.declared.effect.Effect.the-variants.{Nothing, Grow, Push, Pop, Exchange, Clean}
+use Rattle.access.specs.declared.effect.Effect.the-variants.{Nothing, Grow, Push, Pop, Exchange, Clean, Detach, Free}
 use Rattle.access.proofs.ReadLaws.{next-counter}
 use Rattle.access.proofs.effect.Effect.{the-type}
 
@@ -93,7 +93,7 @@ without k [] = []
 without k (x ∷ xs) = also (not (eqb x k)) x (without k xs)
 
 abbrev others : ℕ → List ℕ
-others k = without k (reading ∷ growing ∷ pushing ∷ popping ∷ exchanging ∷ cleaning ∷ [])
+others k = without k (reading ∷ growing ∷ pushing ∷ popping ∷ exchanging ∷ cleaning ∷ detaching ∷ freeing ∷ [])
 
 -- a kind's number is its variant's tag
 tag-kind : (e : Effect) → tagOf the-type e ≡ kindOf e
@@ -103,6 +103,8 @@ tag-kind (Push n v c x) = refl
 tag-kind (Pop v c) = refl
 tag-kind (Exchange n v c w) = refl
 tag-kind (Clean n v) = refl
+tag-kind (Detach v) = refl
+tag-kind (Free c) = refl
 
 module _ (f : Frame) (b : List ℕ) where
   pub node-read : (n : ℕ) (x : Node) (c : Cell) → x ≡ nodeIn f b n → c ≡ cellIn f b (x .first)
@@ -146,6 +148,14 @@ module _ (f : Frame) (b : List ℕ) where
     pub cleaned : (b′ : List ℕ) (n : ℕ) (v : Node) → e ≡ Clean n v → b′ ≡ setNodeIn f b n v → b′ ≡ effectBytes f b (ofKind cleaning e)
     unfolding effectBytes ofKind pick
     cleaned b′ n v p q = rw p q
+
+    pub detached : (b′ : List ℕ) (v : Node) → e ≡ Detach v → b′ ≡ setNodeIn f b 1 v → b′ ≡ effectBytes f b (ofKind detaching e)
+    unfolding effectBytes ofKind pick
+    detached b′ v p q = rw p q
+
+    pub cell-handed : (b′ : List ℕ) (c : ℕ) → e ≡ Free c → b′ ≡ freedBytes f b c → b′ ≡ effectBytes f b (ofKind freeing e)
+    unfolding effectBytes ofKind pick
+    cell-handed b′ c p q = rw p q
 
     pub left-out : (k : ℕ) → OneOf (others k) (tagOf the-type e) → T (not (hasKey (others k) k)) → b ≡ effectBytes f b (ofKind k e)
     unfolding effectBytes ofKind pick

@@ -7,7 +7,7 @@ use Rattle.region.specs.Shared.{Shared, setNode, setCell, setDepth, setFree, ce
 use Rattle.region.specs.declared.frame.Frame.{Frame}
 use Rattle.region.specs.declared.record.Node.{Node}
 use Rattle.access.specs.declared.effect.Effect.{Effect}
-use Rattle.access.specs.declared.effect.Effect.the-variants.{Nothing, Grow, Push, Pop, Exchange, Clean}
+use Rattle.access.specs.declared.effect.Effect.the-variants.{Nothing, Grow, Push, Pop, Exchange, Clean, Detach, Free}
 
 -- "A freed cell has key and tag 0 and goes to the front of the chain."
 abbrev pub freed : Shared → ℕ → Shared
@@ -20,6 +20,8 @@ effectShared m (Push n v c x) = setCell (setNode m n v) c (record { item = m .ce
 effectShared m (Pop v c) = freed (setNode m 1 v) c
 effectShared m (Exchange n v k w) = setNode (setNode m n v) k w
 effectShared m (Clean n v) = setNode m n v
+effectShared m (Detach v) = setNode m 1 v
+effectShared m (Free c) = freed m c
 
 unfoldable pub freedBytes : Frame → List ℕ → ℕ → List ℕ
 freedBytes f b c = setWord (setCellIn f b c (record { item = zeroItem; next = word b (f .free) })) (f .free) c
@@ -35,3 +37,5 @@ effectBytes f b (Push n v c x) = pushBytes f b n v c x
 effectBytes f b (Pop v c) = freedBytes f (setNodeIn f b 1 v) c
 effectBytes f b (Exchange n v k w) = setNodeIn f (setNodeIn f b n v) k w
 effectBytes f b (Clean n v) = setNodeIn f b n v
+effectBytes f b (Detach v) = setNodeIn f b 1 v
+effectBytes f b (Free c) = freedBytes f b c

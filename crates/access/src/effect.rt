@@ -3,7 +3,7 @@ ghost use mathlib.Core.Path.{_≡_};
 ghost use lib.ListN.{length};
 ghost use Rattle.region.specs.Inner.{Within};
 ghost use Rattle.access.specs.Effect.{effectBytes, freedBytes, pushBytes};
-ghost use Rattle.access.specs.Inner.{cleaning, exchanging, growing, ofKind, popping, pushing};
+ghost use Rattle.access.specs.Inner.{cleaning, detaching, exchanging, freeing, growing, ofKind, popping, pushing};
 use region::Cell;
 use region::Frame;
 use region::Item;
@@ -38,6 +38,10 @@ pub enum Effect {
         node: u32,
         value: Node,
     },
+    // the root's list leaves it
+    Detach(Node),
+    // a cell is freed
+    Free(u32),
 }
 
 // Frees a cell: its key and tag become 0, and it becomes the first of the chain.
@@ -123,5 +127,25 @@ pub fn carry_cleaning(f: Frame, b: &mut [u8], effect: Effect)
 {
     if let Effect::Clean { node, value } = effect {
         f.store_node(b, node, value);
+    }
+}
+
+// The root's list leaves it, for the thread's hands (18).
+pub fn carry_detaching(f: Frame, b: &mut [u8], effect: Effect)
+    requires { ⌜ Within f (length (now b)) ⌝ }
+    ensures { λ r. ⌜ now (b .exit) ≡ effectBytes f (now (b .entry)) (ofKind detaching effect) ⌝ }
+{
+    if let Effect::Detach(value) = effect {
+        f.store_node(b, 1, value);
+    }
+}
+
+// A cell is freed (19).
+pub fn carry_freeing(f: Frame, b: &mut [u8], effect: Effect)
+    requires { ⌜ Within f (length (now b)) ⌝ }
+    ensures { λ r. ⌜ now (b .exit) ≡ effectBytes f (now (b .entry)) (ofKind freeing effect) ⌝ }
+{
+    if let Effect::Free(cell) = effect {
+        free_cell(f, b, cell);
     }
 }

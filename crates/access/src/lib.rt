@@ -6,7 +6,9 @@ mod read;
 
 pub use effect::Effect;
 pub use effect::carry_cleaning;
+pub use effect::carry_detaching;
 pub use effect::carry_exchange;
+pub use effect::carry_freeing;
 pub use effect::carry_growth;
 pub use effect::carry_pop;
 pub use effect::carry_push;

@@ -7,10 +7,11 @@ use mathlib.Core.List.{List}
 use Rattle.region.specs.Answer.{done, noFreeCell}
 use Rattle.region.specs.Shape.{between, nodeCount}
 use Rattle.region.specs.Shared.{sharedIn, threadIn}
+use Rattle.region.specs.Thread.{isIdle}
 use Rattle.region.specs.declared.frame.Frame.{Frame}
 use Rattle.region.specs.declared.record.Item.{Item}
 use Rattle.readable.specs.Readable.{readable, frameIn, shapeIn}
-use Rattle.begin.specs.Begin.{isIdle, isItem, mayPut, putRefusal}
+use Rattle.begin.specs.Begin.{isItem, mayPut, putRefusal}
 use Rattle.mound.specs.Account.{anyItem, putsAmong}
 use Rattle.mound.specs.Tree.{inList, inNodes}
 

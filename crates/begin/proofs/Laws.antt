@@ -1,4 +1,4 @@
--- What the tests of the two beginnings tell: a thread that may put or take has a permission, and an idle one stands at no place. On a
+-- What the tests of the beginnings tell: a thread that may put or take has a permission, and an idle one stands at no place. On a
 -- readable region each beginning is the one under its frame. Assumes nothing.
 use Prim.Native.Nat.{ℕ, _/_, _%_, _≤_}
 use native.Mathlib.Omega.{arith}
@@ -10,12 +10,13 @@ use lib.Dec.{eqb}
 use Rattle.region.specs.Answer.{done}
 use Rattle.region.specs.Pick.{pick}
 use Rattle.region.specs.Place.{placeNumber}
+use Rattle.region.specs.Thread.{isIdle}
 use Rattle.region.specs.declared.place.Place.{Place}
-use Rattle.region.specs.declared.place.Place.the-variants.{Idle, ReadDepth, ReadLeaf, ReadAncestor, GrowDepth, ReadTarget, InsertAtRoot, ReadParent, InsertBelow, ReadRoot, RemoveHead, MendReadNode, MendReadDepth, MendReadLeft, MendReadRight, MendSwap, MendClean}
+use Rattle.region.specs.declared.place.Place.the-variants.{Idle, ReadDepth, ReadLeaf, ReadAncestor, GrowDepth, ReadTarget, InsertAtRoot, ReadParent, InsertBelow, ReadRoot, RemoveHead, MendReadNode, MendReadDepth, MendReadLeft, MendReadRight, MendSwap, MendClean, ListReadRoot, RemoveList, HandOut}
 use Rattle.region.specs.declared.record.Item.{Item}
 use Rattle.region.specs.declared.thread.Thread.{Thread}
 use Rattle.readable.specs.Readable.{frameIn, readable}
-use Rattle.begin.specs.Begin.{acceptedPut, acceptedTake, isIdle, mayPut, mayTake, putBytes, putBytesIn, putRefusal, putRefusalIn, takeBytes, takeBytesIn, takeRefusal, takeRefusalIn}
+use Rattle.begin.specs.Begin.{acceptedPut, acceptedTake, mayPut, mayTake, putBytes, putBytesIn, putRefusal, putRefusalIn, takeBytes, takeBytesIn, takeRefusal, takeRefusalIn}
 
 -- "0 is the empty list and grants nothing"
 pub may-put : (t : Thread) → mayPut t ≡ true → 1 ≤ t .permission
@@ -44,6 +45,9 @@ idle-place (MendReadLeft w) e = absurd (true≢false (sym e))
 idle-place (MendReadRight w) e = absurd (true≢false (sym e))
 idle-place (MendSwap w) e = absurd (true≢false (sym e))
 idle-place (MendClean w) e = absurd (true≢false (sym e))
+idle-place ListReadRoot e = absurd (true≢false (sym e))
+idle-place RemoveList e = absurd (true≢false (sym e))
+idle-place HandOut e = absurd (true≢false (sym e))
 
 pub is-idle : (x : Thread) → isIdle x ≡ true → x .place ≡ Idle
 unfolding isIdle
@@ -63,6 +67,6 @@ module _ (b : List ℕ) (e : readable b ≡ true) (t : ℕ) where
   unfolding takeRefusal pick
   take-refusal-in = rw e refl
 
-  pub take-bytes-in : takeBytes b t ≡ takeBytesIn (frameIn b) b t
+  pub take-bytes-in : (p : Place) → takeBytes b t p ≡ takeBytesIn (frameIn b) b t p
   unfolding takeBytes takeBytesIn
-  take-bytes-in = ap (λ n. pick (eqb n done) (acceptedTake (frameIn b) b t) b) take-refusal-in
+  take-bytes-in p = ap (λ n. pick (eqb n done) (acceptedTake (frameIn b) b t p) b) take-refusal-in

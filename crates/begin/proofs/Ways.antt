@@ -11,19 +11,19 @@ use Rattle.words.proofs.Laws.{length-setWord}
 use Rattle.region.specs.Answer.{done, badThread, badItem, unreadable, notPermitted, threadBusy, noFreeCell, _unless_otherwise_}
 use Rattle.region.specs.Inner.{Within}
 use Rattle.region.specs.Pick.{pick}
-use Rattle.region.specs.Place.{placeNumber}
 use Rattle.region.specs.Record.{greatestKey, greatestTag}
 use Rattle.region.specs.Shape.{between}
 use Rattle.region.specs.Shared.{cellIn, setCellIn, threadIn, setThreadIn}
-use Rattle.region.specs.Thread.{begunPut, begunTake}
+use Rattle.region.specs.Thread.{atPlace, begunPut, isIdle}
 use Rattle.region.specs.declared.frame.Frame.{Frame}
+use Rattle.region.specs.declared.place.Place.{Place}
 use Rattle.region.specs.declared.record.Cell.{Cell}
 use Rattle.region.specs.declared.record.Item.{Item}
 use Rattle.region.specs.declared.thread.Thread.{Thread}
 use Rattle.region.proofs.Views.{length-setCellIn}
 use Rattle.readable.specs.Readable.{frameIn, readable}
 use Rattle.readable.proofs.Laws.{readable-within}
-use Rattle.begin.specs.Begin.{PutBegun, PutBegunIn, TakeBegun, TakeBegunIn, isIdle, isItem, mayPut, mayTake, acceptedPut, hasFreeCell, putBytes, putBytesIn, putRefusal, putRefusalIn, takeBytes, takeBytesIn, takeRefusal, takeRefusalIn}
+use Rattle.begin.specs.Begin.{PutBegun, PutBegunIn, TakeBegun, TakeBegunIn, isItem, mayPut, mayTake, acceptedPut, hasFreeCell, putBytes, putBytesIn, putRefusal, putRefusalIn, takeBytes, takeBytesIn, takeRefusal, takeRefusalIn}
 
 -- What a beginning asks of a thread and an item.
 module _ (i : Item) where
@@ -34,10 +34,6 @@ module _ (i : Item) where
   pub some-key : i .key ≤ greatestKey → leb (i .tag) greatestTag ≡ isItem i
   unfolding isItem
   some-key h = rw (le-leb (i .key) greatestKey h) refl
-
-pub idle-test : (t : Thread) (n : ℕ) → n ≡ placeNumber (t .place) → eqb n 0 ≡ isIdle t
-unfolding isIdle
-idle-test t n e = ap (λ k. eqb k 0) e
 
 -- The last refusals of a put, then all: the first test that fails decides.
 abbrev lastOfPut : Frame → List ℕ → Thread → ℕ
@@ -136,16 +132,16 @@ module _ (f : Frame) (b : List ℕ) (t : ℕ) where
     unfolding putBytesIn pick
     put-begins d b′ eb = record { answer = e; bytes = rw (← e, eq-eqb r done d) eb }
 
-  module _ (r : ℕ) (e : r ≡ takeRefusalIn f b t) where
-    pub take-refused : (r ≡ done → ⊥) → TakeBegunIn f b b t r
+  module _ (p : Place) (r : ℕ) (e : r ≡ takeRefusalIn f b t) where
+    pub take-refused : (r ≡ done → ⊥) → TakeBegunIn f b b t p r
     unfolding takeBytesIn pick
     take-refused n = record { answer = e; bytes = rw (← e, ne-eqb r done n) refl }
 
-    pub take-begins : r ≡ done → (b′ : List ℕ) (x y : Thread) → x ≡ threadIn f b t → y ≡ begunTake x → b′ ≡ setThreadIn f b t y
-        → TakeBegunIn f b b′ t r
+    pub take-begins : r ≡ done → (b′ : List ℕ) (x y : Thread) → x ≡ threadIn f b t → y ≡ atPlace x p → b′ ≡ setThreadIn f b t y
+        → TakeBegunIn f b b′ t p r
     unfolding takeBytesIn pick
     take-begins d b′ x y ex ey eb =
-        record { answer = e; bytes = rw (← e, eq-eqb r done d) (eb ∙ ap (setThreadIn f b t) (ey ∙ ap begunTake ex)) }
+        record { answer = e; bytes = rw (← e, eq-eqb r done d) (eb ∙ ap (setThreadIn f b t) (ey ∙ ap (λ z. atPlace z p) ex)) }
 
 -- The calls: the region is not readable, or the beginning is that of its frame.
 module _ (b : List ℕ) (t : ℕ) (q : Bool) (eq : q ≡ readable b) where
@@ -153,9 +149,9 @@ module _ (b : List ℕ) (t : ℕ) (q : Bool) (eq : q ≡ readable b) where
   unfolding putRefusal putBytes pick
   put-unreadable i n = record { answer = rw (← eq, not-true q n) refl; bytes = rw (← eq, not-true q n) refl }
 
-  pub take-unreadable : not q ≡ true → TakeBegun b b t unreadable
+  pub take-unreadable : (p : Place) → not q ≡ true → TakeBegun b b t p unreadable
   unfolding takeRefusal takeBytes pick
-  take-unreadable n = record { answer = rw (← eq, not-true q n) refl; bytes = rw (← eq, not-true q n) refl }
+  take-unreadable p n = record { answer = rw (← eq, not-true q n) refl; bytes = rw (← eq, not-true q n) refl }
 
   module _ (gq : not q ≡ false) where
     pub read-well : readable b ≡ true
@@ -174,10 +170,10 @@ module _ (b : List ℕ) (t : ℕ) (q : Bool) (eq : q ≡ readable b) where
               bytes = rw read-well (h .bytes ∙ ap (λ g. putBytesIn g b t i) ef);
             }
 
-        pub take-begun : TakeBegunIn f b b′ t r → TakeBegun b b′ t r
+        pub take-begun : (p : Place) → TakeBegunIn f b b′ t p r → TakeBegun b b′ t p r
         unfolding takeRefusal takeBytes takeBytesIn pick
-        take-begun h =
+        take-begun p h =
             record {
               answer = rw read-well (h .answer ∙ ap (λ g. takeRefusalIn g b t) ef);
-              bytes = rw read-well (h .bytes ∙ ap (λ g. takeBytesIn g b t) ef);
+              bytes = rw read-well (h .bytes ∙ ap (λ g. takeBytesIn g b t p) ef);
             }

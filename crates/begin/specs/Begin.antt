@@ -1,4 +1,5 @@
--- Beginning a put and a take (document 01, The sixteen places and the refusals), under a frame and on a whole region that holds one queue.
+-- Beginning a put, a take of one item and a take of the root's list (document 01, The sixteen places and the refusals; document 02, request 1),
+-- under a frame and on a whole region that holds one queue.
 use Prim.Native.Nat.{ℕ, _/_, _%_}
 use mathlib.Core.Path.{_≡_}
 use mathlib.Core.Bool.{Bool, not, _&&_}
@@ -8,12 +9,13 @@ use Rattle.words.specs.Word.{word, setWord}
 use Rattle.region.specs.Answer.{done, badThread, badItem, unreadable, notPermitted, threadBusy, noFreeCell, _unless_otherwise_}
 use Rattle.region.specs.Frame.{frameOf}
 use Rattle.region.specs.Pick.{pick}
-use Rattle.region.specs.Place.{placeNumber}
 use Rattle.region.specs.Record.{greatestKey, greatestTag}
 use Rattle.region.specs.Shape.{between}
 use Rattle.region.specs.Shared.{cellIn, setCellIn, threadIn, setThreadIn}
-use Rattle.region.specs.Thread.{begunPut, begunTake}
+use Rattle.region.specs.Thread.{atPlace, begunPut, isIdle}
 use Rattle.region.specs.declared.frame.Frame.{Frame}
+use Rattle.region.specs.declared.place.Place.{Place}
+use Rattle.region.specs.declared.place.Place.the-variants.{ReadRoot, ListReadRoot}
 use Rattle.region.specs.declared.record.Item.{Item}
 use Rattle.region.specs.declared.thread.Thread.{Thread}
 use Rattle.readable.specs.Readable.{frameIn, readable}
@@ -24,9 +26,6 @@ mayPut t = eqb (t .permission % 2) 1
 
 unfoldable pub mayTake : Thread → Bool
 mayTake t = eqb (t .permission / 2 % 2) 1
-
-unfoldable pub isIdle : Thread → Bool
-isIdle t = eqb (placeNumber (t .place)) 0
 
 -- "Keys are 0 to 4,294,967,294.", "Tags are 0 to 65,535."
 unfoldable pub isItem : Item → Bool
@@ -70,7 +69,12 @@ unfoldable pub putBytes : List ℕ → ℕ → Item → List ℕ
 unfolding acceptedPut
 putBytes b t i = pick (eqb (putRefusal b t i) done) (acceptedPut (frameIn b) b t i) b
 
--- "Take 7, 3, 8, 9.": under a frame all but 7
+-- where a take begins: at E1 for one item, at 17 for the root's list (request 1)
+pub data BeginsAt : Place → Type 0 where
+  one-item : BeginsAt ReadRoot
+  whole-list : BeginsAt ListReadRoot
+
+-- "Take 7, 3, 8, 9.": under a frame all but 7. The take of a list "begins with the checks of a take" (request 1)
 unfoldable pub takeRefusalIn : Frame → List ℕ → ℕ → ℕ
 takeRefusalIn f b t =
     badThread unless between 1 t (f .shape .threads)
@@ -82,15 +86,15 @@ unfoldable pub takeRefusal : List ℕ → ℕ → ℕ
 unfolding takeRefusalIn frameOf
 takeRefusal b t = unreadable unless readable b otherwise takeRefusalIn (frameIn b) b t
 
--- what a take leaves
-abbrev pub acceptedTake : Frame → List ℕ → ℕ → List ℕ
-acceptedTake f b t = setThreadIn f b t (begunTake (threadIn f b t))
+-- what a take leaves that begins at place p
+abbrev pub acceptedTake : Frame → List ℕ → ℕ → Place → List ℕ
+acceptedTake f b t p = setThreadIn f b t (atPlace (threadIn f b t) p)
 
-unfoldable pub takeBytesIn : Frame → List ℕ → ℕ → List ℕ
-takeBytesIn f b t = pick (eqb (takeRefusalIn f b t) done) (acceptedTake f b t) b
+unfoldable pub takeBytesIn : Frame → List ℕ → ℕ → Place → List ℕ
+takeBytesIn f b t p = pick (eqb (takeRefusalIn f b t) done) (acceptedTake f b t p) b
 
-unfoldable pub takeBytes : List ℕ → ℕ → List ℕ
-takeBytes b t = pick (eqb (takeRefusal b t) done) (acceptedTake (frameIn b) b t) b
+unfoldable pub takeBytes : List ℕ → ℕ → Place → List ℕ
+takeBytes b t p = pick (eqb (takeRefusal b t) done) (acceptedTake (frameIn b) b t p) b
 
 -- what the calls answer and leave, under a frame and on a whole region
 pub record PutBegunIn (f : Frame) (b b′ : List ℕ) (t : ℕ) (i : Item) (r : ℕ) : Type 0 where
@@ -101,10 +105,10 @@ pub record PutBegun (b b′ : List ℕ) (t : ℕ) (i : Item) (r : ℕ) : Type 0 
   pub answer : r ≡ putRefusal b t i
   pub bytes : b′ ≡ putBytes b t i
 
-pub record TakeBegunIn (f : Frame) (b b′ : List ℕ) (t r : ℕ) : Type 0 where
+pub record TakeBegunIn (f : Frame) (b b′ : List ℕ) (t : ℕ) (p : Place) (r : ℕ) : Type 0 where
   pub answer : r ≡ takeRefusalIn f b t
-  pub bytes : b′ ≡ takeBytesIn f b t
+  pub bytes : b′ ≡ takeBytesIn f b t p
 
-pub record TakeBegun (b b′ : List ℕ) (t r : ℕ) : Type 0 where
+pub record TakeBegun (b b′ : List ℕ) (t : ℕ) (p : Place) (r : ℕ) : Type 0 where
   pub answer : r ≡ takeRefusal b t
-  pub bytes : b′ ≡ takeBytes b t
+  pub bytes : b′ ≡ takeBytes b t p

@@ -1,2 +1,2 @@
--- Beginning a put and a take.
+-- Beginning a put and both kinds of take.
 pub mod Begin

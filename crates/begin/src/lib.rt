@@ -1,10 +1,12 @@
-// Beginning a put and a take: what cannot begin is refused, and then no byte changes. First under a frame, for any region that
+// Beginning a put and both kinds of take: what cannot begin is refused, and then no byte changes. First under a frame, for any region that
 // has a queue in it; then as calls on a whole region that holds one queue.
 ghost use mathlib.Core.Path.{_≡_};
 ghost use lib.ListN.{length};
 ghost use Rattle.region.specs.Answer.{done, threadBusy, noFreeCell, _unless_otherwise_};
 ghost use Rattle.region.specs.Inner.{Within};
-ghost use Rattle.begin.specs.Begin.{PutBegun, PutBegunIn, TakeBegun, TakeBegunIn, isIdle, isItem, mayPut, mayTake, acceptedPut, hasFreeCell, putRefusalIn, takeRefusalIn};
+ghost use Rattle.region.specs.Thread.{isIdle};
+ghost use Rattle.region.specs.declared.place.Place.the-variants.{ReadRoot, ListReadRoot};
+ghost use Rattle.begin.specs.Begin.{PutBegun, PutBegunIn, TakeBegun, TakeBegunIn, isItem, mayPut, mayTake, acceptedPut, hasFreeCell, putRefusalIn, takeRefusalIn};
 use region::BAD_ITEM;
 use region::BAD_THREAD;
 use region::Cell;
@@ -13,6 +15,7 @@ use region::Frame;
 use region::Item;
 use region::NO_FREE_CELL;
 use region::NOT_PERMITTED;
+use region::Place;
 use region::THREAD_BUSY;
 use region::Thread;
 use region::UNREADABLE;
@@ -29,13 +32,6 @@ fn may_take(t: Thread) -> bool
     t.permission / 2 % 2 == 1
 }
 
-fn is_idle(t: Thread) -> bool
-    ensures { λ r. ⌜ r ≡ isIdle t ⌝ }
-{
-    let place = t.place;
-    place.number() == 0
-}
-
 fn is_item(i: Item) -> bool
     ensures { λ r. ⌜ r ≡ isItem i ⌝ }
 {
@@ -50,7 +46,7 @@ fn put_busy(f: Frame, b: &[u8], t: Thread) -> u32
     requires { ⌜ Within f (length (now b)) ⌝ }
     ensures { λ r. ⌜ r ≡ (threadBusy unless isIdle t otherwise noFreeCell unless hasFreeCell f (now (b .entry)) otherwise done) ⌝ }
 {
-    if !is_idle(t) {
+    if !t.is_idle() {
         return THREAD_BUSY;
     }
     if f.load_free(b) == 0 {
@@ -127,32 +123,46 @@ fn take_refusal(f: Frame, b: &[u8], thread: u32) -> u32
     if !may_take(t) {
         return NOT_PERMITTED;
     }
-    if !is_idle(t) {
+    if !t.is_idle() {
         return THREAD_BUSY;
     }
     DONE
 }
 
-// Begins a take by a thread under a frame: 0 if begun, else the refusal (3, 8, 9).
-pub fn begin_take_in(f: Frame, b: &mut [u8], thread: u32) -> u32
+// Begins a take by a thread under a frame, at this place: 0 if begun, else the refusal (3, 8, 9).
+pub fn begin_take_in(f: Frame, b: &mut [u8], thread: u32, place: Place) -> u32
     requires { ⌜ Within f (length (now b)) ⌝ }
-    ensures { λ r. ⌜ TakeBegunIn f (now (b .entry)) (now (b .exit)) thread r ⌝ }
+    ensures { λ r. ⌜ TakeBegunIn f (now (b .entry)) (now (b .exit)) thread place r ⌝ }
 {
     let refused = take_refusal(f, b, thread);
     if refused == DONE {
         let t = f.load_thread(b, thread);
-        f.store_thread(b, thread, t.begun_take());
+        f.store_thread(b, thread, t.at_place(place));
     }
     refused
 }
 
-// Begins a take by a thread: 0 if begun, else the refusal (7, 3, 8, 9).
-pub fn begin_take(b: &mut [u8], thread: u32) -> u32
-    ensures { λ r. ⌜ TakeBegun (now (b .entry)) (now (b .exit)) thread r ⌝ }
+// Begins a take by a thread at this place: 0 if begun, else the refusal (7, 3, 8, 9).
+fn begin_take_at(b: &mut [u8], thread: u32, place: Place) -> u32
+    ensures { λ r. ⌜ TakeBegun (now (b .entry)) (now (b .exit)) thread place r ⌝ }
 {
     if !readable::is_readable(b) {
         return UNREADABLE;
     }
     let f = readable::frame_of(b);
-    begin_take_in(f, b, thread)
+    begin_take_in(f, b, thread, place)
+}
+
+// Begins a take of one item.
+pub fn begin_take(b: &mut [u8], thread: u32) -> u32
+    ensures { λ r. ⌜ TakeBegun (now (b .entry)) (now (b .exit)) thread ReadRoot r ⌝ }
+{
+    begin_take_at(b, thread, Place::ReadRoot)
+}
+
+// Begins a take of the root's whole list.
+pub fn begin_list(b: &mut [u8], thread: u32) -> u32
+    ensures { λ r. ⌜ TakeBegun (now (b .entry)) (now (b .exit)) thread ListReadRoot r ⌝ }
+{
+    begin_take_at(b, thread, Place::ListReadRoot)
 }

@@ -1,2 +1,2 @@
--- The two places of a take.
+-- The places of both kinds of take.
 pub mod Extract

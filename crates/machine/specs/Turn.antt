@@ -11,7 +11,7 @@ use Rattle.region.specs.declared.answer.Answer.{Answer}
 use Rattle.region.specs.declared.answer.Answer.the-variants.{Idle, Refused}
 use Rattle.region.specs.declared.frame.Frame.{Frame}
 use Rattle.region.specs.declared.place.Place.{Place}
-use Rattle.region.specs.declared.place.Place.the-variants.{Idle as AtRest, ReadDepth, ReadLeaf, ReadAncestor, GrowDepth, ReadTarget, InsertAtRoot, ReadParent, InsertBelow, ReadRoot, RemoveHead, MendReadNode, MendReadDepth, MendReadLeft, MendReadRight, MendSwap, MendClean}
+use Rattle.region.specs.declared.place.Place.the-variants.{Idle as AtRest, ReadDepth, ReadLeaf, ReadAncestor, GrowDepth, ReadTarget, InsertAtRoot, ReadParent, InsertBelow, ReadRoot, RemoveHead, MendReadNode, MendReadDepth, MendReadLeft, MendReadRight, MendSwap, MendClean, ListReadRoot, RemoveList, HandOut}
 use Rattle.region.specs.declared.shape.Shape.{Shape}
 use Rattle.region.specs.declared.thread.Thread.{Thread}
 use Rattle.access.specs.Effect.{effectBytes}
@@ -20,7 +20,7 @@ use Rattle.access.specs.declared.effect.Effect.the-variants.{Nothing}
 use Rattle.access.specs.declared.plan.Plan.{Plan}
 use Rattle.readable.specs.Readable.{frameIn, readable}
 use Rattle.insert.specs.Insert.{readDepth, readLeaf, readAncestor, growDepth, readTarget, insertAtRoot, readParent, insertBelow}
-use Rattle.extract.specs.Extract.{readRoot, removeHead}
+use Rattle.extract.specs.Extract.{readRoot, removeHead, listReadRoot, removeList, handOut}
 use Rattle.moundify.specs.Moundify.{mendReadNode, mendReadDepth, mendReadLeft, mendReadRight, mendSwap, mendClean}
 
 -- the plan at a place; an idle thread answers idle
@@ -42,6 +42,9 @@ decideAt s m t c (MendReadLeft w) = mendReadLeft s m t w
 decideAt s m t c (MendReadRight w) = mendReadRight s m t w
 decideAt s m t c (MendSwap w) = mendSwap s m t w
 decideAt s m t c (MendClean w) = mendClean m t w
+decideAt s m t c ListReadRoot = listReadRoot m t
+decideAt s m t c RemoveList = removeList m t
+decideAt s m t c HandOut = handOut m t
 
 -- the plan of a thread's turn, c its choice
 unfoldable pub decide : Shape → Shared → Thread → ℕ → Plan

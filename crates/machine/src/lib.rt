@@ -38,6 +38,9 @@ pub fn turn(f: Frame, b: &mut [u8], n: u32, choice: u32) -> Answer
         Place::MendReadRight(w) => turns::turn_mend_read_right(f, b, n, w),
         Place::MendSwap(w) => turns::turn_mend_swap(f, b, n, w),
         Place::MendClean(w) => turns::turn_mend_clean(f, b, n, w),
+        Place::ListReadRoot => turns::turn_list_read_root(f, b, n),
+        Place::RemoveList => turns::turn_remove_list(f, b, n),
+        Place::HandOut => turns::turn_hand_out(f, b, n),
     }
 }
 

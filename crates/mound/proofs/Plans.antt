@@ -32,7 +32,7 @@ use Rattle.access.specs.Order.{itemLe, itemLt, topItem, val, valueOf}
 use Rattle.access.specs.Plan.{changesNothing, moved, onTo, plan, refused}
 use Rattle.access.specs.Read.{isDirty, isLevel, isNode, isSpent, readNode, sameNode, updated}
 use Rattle.access.specs.declared.effect.Effect.{Effect}
-use Rattle.access.specs.declared.effect.Effect.the-variants.{Nothing, Grow, Push, Pop, Exchange, Clean}
+use Rattle.access.specs.declared.effect.Effect.the-variants.{Nothing, Grow, Push, Pop, Exchange, Clean, Detach, Free}
 use Rattle.access.specs.declared.plan.Plan.{Plan}
 use Rattle.access.proofs.OrderLaws.{item-not-less, item-refl, item-total, item-trans}
 use Rattle.access.proofs.ReadLaws.{is-clean, is-dirty, same-node}

@@ -19,7 +19,7 @@ use Rattle.access.specs.Effect.{effectShared}
 use Rattle.access.specs.Order.{topItem, val, valueOf}
 use Rattle.access.specs.Read.{readNode}
 use Rattle.access.specs.declared.effect.Effect.{Effect}
-use Rattle.access.specs.declared.effect.Effect.the-variants.{Nothing, Grow, Push, Pop, Exchange, Clean}
+use Rattle.access.specs.declared.effect.Effect.the-variants.{Nothing, Grow, Push, Pop, Exchange, Clean, Detach, Free}
 use Rattle.access.specs.declared.plan.Plan.{Plan}
 use Rattle.access.proofs.OrderLaws.{item-less, item-trans}
 use Rattle.mound.specs.Ledger.{Operation, none, putting, taking, holding, Ledger, Follows, still, put-begins, take-begins, put-decides, take-decides, empty-decides, take-answers, oneMore, oneLess}

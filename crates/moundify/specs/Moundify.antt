@@ -10,7 +10,8 @@ use Rattle.region.specs.Shared.{Shared}
 use Rattle.region.specs.Thread.{atPlace, goneIdle, mending, withDepth, withFirst, withSecond, withThird}
 use Rattle.region.specs.declared.answer.Answer.{Answer}
 use Rattle.region.specs.declared.answer.Answer.the-variants.{Moved, Took}
-use Rattle.region.specs.declared.place.Place.the-variants.{ReadRoot, MendReadNode, MendReadDepth, MendReadLeft, MendReadRight, MendSwap, MendClean}
+use Rattle.region.specs.declared.place.Place.{Place}
+use Rattle.region.specs.declared.place.Place.the-variants.{ReadRoot, MendReadNode, MendReadDepth, MendReadLeft, MendReadRight, MendSwap, MendClean, ListReadRoot, HandOut}
 use Rattle.region.specs.declared.record.Item.{Item}
 use Rattle.region.specs.declared.record.Node.{Node}
 use Rattle.region.specs.declared.shape.Shape.{Shape}
@@ -22,14 +23,18 @@ use Rattle.access.specs.declared.effect.Effect.{Effect}
 use Rattle.access.specs.declared.effect.Effect.the-variants.{Nothing, Exchange, Clean}
 use Rattle.access.specs.declared.plan.Plan.{Plan}
 
--- "Return: M1 at the deepest waiting level's ancestor, whose mark is cleared; if none waits, by after" ("0 back to E1, 1 answer"): the
--- record afterwards, with the waiting levels w
+-- where a mending that does not answer goes, by after: "0 back to E1", "2 for back to 17, 3 for on to 19" (request 1)
+unfoldable pub placeAfter : ℕ → Place
+placeAfter after = pick (eqb after 2) ListReadRoot (pick (eqb after 3) HandOut ReadRoot)
+
+-- "Return: M1 at the deepest waiting level's ancestor, whose mark is cleared; if none waits, by after" ("1 answer"): the record afterwards,
+-- with the waiting levels w
 unfoldable pub returned : Thread → ℕ → Thread
-unfolding mending goneIdle atPlace pick
+unfolding mending goneIdle atPlace placeAfter pick
 returned t w =
     pick
     (eqb w 0)
-    (pick (eqb (t .after) 1) (goneIdle t) (atPlace t ReadRoot))
+    (pick (eqb (t .after) 1) (goneIdle t) (atPlace t (placeAfter (t .after))))
     (mending t (ancestor (t .node) (level w)) (w - mark (level w)))
 
 -- and what the turn that returns answers

@@ -5,7 +5,7 @@ ghost use lib.ListN.{length};
 ghost use Rattle.region.specs.Inner.{Within};
 ghost use Rattle.region.specs.Pick.{pick};
 ghost use Rattle.region.specs.Shared.{sharedIn};
-ghost use Rattle.moundify.specs.Moundify.{nodeAndChildSame, childLess, afterChildrenRead, cleanAt, afterDepthRead, exchangeAt, exchangeWith, marked, mendClean, mendReadDepth, mendReadLeft, mendReadNode, mendReadRight, mendSwap, returnAnswer, returned, returning};
+ghost use Rattle.moundify.specs.Moundify.{nodeAndChildSame, childLess, afterChildrenRead, cleanAt, afterDepthRead, exchangeAt, exchangeWith, marked, mendClean, mendReadDepth, mendReadLeft, mendReadNode, mendReadRight, mendSwap, placeAfter, returnAnswer, returned, returning};
 ghost use Rattle.moundify.specs.Inner.{HasChildren};
 use access::Effect;
 use access::Plan;
@@ -17,6 +17,19 @@ use region::Place;
 use region::Thread;
 use region::UNREADABLE;
 
+// Where a mending that does not answer goes, by after.
+fn place_after(after: u32) -> Place
+    ensures { λ r. ⌜ r ≡ placeAfter after ⌝ }
+{
+    if after == 2 {
+        return Place::ListReadRoot;
+    }
+    if after == 3 {
+        return Place::HandOut;
+    }
+    Place::ReadRoot
+}
+
 // The record after the return from mending, with these levels waiting.
 fn returned(t: Thread, w: u32) -> Thread
     ensures { λ r. ⌜ r ≡ returned t w ⌝ }
@@ -25,7 +38,7 @@ fn returned(t: Thread, w: u32) -> Thread
         if t.after == 1 {
             return t.gone_idle();
         }
-        return t.at_place(Place::ReadRoot);
+        return t.at_place(place_after(t.after));
     }
     let deepest = region::level_of(w);
     let node = region::ancestor_at(t.node, deepest);

@@ -18,7 +18,7 @@ use Rattle.region.proofs.Shapes.{sizes}
 use Rattle.region.proofs.Views.{threads-outside}
 use Rattle.access.specs.Effect.{effectShared, effectBytes}
 use Rattle.access.specs.declared.effect.Effect.{Effect}
-use Rattle.access.specs.declared.effect.Effect.the-variants.{Nothing, Grow, Push, Pop, Exchange, Clean}
+use Rattle.access.specs.declared.effect.Effect.the-variants.{Nothing, Grow, Push, Pop, Exchange, Clean, Detach, Free}
 use Rattle.access.proofs.EffectLaws.{EffectFits, effect-shared, effect-word, length-effect}
 use Rattle.readable.proofs.Laws.{Good}
 use Rattle.readable.proofs.Stores.{CellGood, Keeps, NodeGood, SharedGood, good-shared, make-good, threads-pass}

@@ -14,7 +14,7 @@ use Rattle.region.specs.declared.frame.Frame.{Frame}
 use Rattle.region.specs.declared.record.Item.{Item}
 use Rattle.access.specs.Order.{itemLt, topItem}
 use Rattle.access.specs.declared.effect.Effect.{Effect}
-use Rattle.access.specs.declared.effect.Effect.the-variants.{Nothing, Grow, Push, Pop, Exchange, Clean}
+use Rattle.access.specs.declared.effect.Effect.the-variants.{Nothing, Grow, Push, Pop, Exchange, Clean, Detach, Free}
 use Rattle.readable.specs.Readable.{frameIn, readable, shapeIn}
 use Rattle.begin.specs.Begin.{putBytes, takeBytes}
 use Rattle.machine.specs.Turn.{turnBytes, turnPlan}
@@ -79,6 +79,8 @@ OutsideEffect f (Push n v c x) j = Apart (entry (nodesOf f) n) nodeSize j × Apa
 OutsideEffect f (Pop v c) j = Apart (entry (nodesOf f) 1) nodeSize j × Apart (entry (cellsOf f) c) cellSize j × (j ≡ f .free → ⊥)
 OutsideEffect f (Exchange n v k w) j = Apart (entry (nodesOf f) n) nodeSize j × Apart (entry (nodesOf f) k) nodeSize j
 OutsideEffect f (Clean n v) j = Apart (entry (nodesOf f) n) nodeSize j
+OutsideEffect f (Detach v) j = Apart (entry (nodesOf f) 1) nodeSize j
+OutsideEffect f (Free c) j = Apart (entry (cellsOf f) c) cellSize j × (j ≡ f .free → ⊥)
 
 -- and every word outside its effect and its own record
 abbrev pub TurnLeavesWords : Type 0

@@ -2,6 +2,7 @@
 // or yes, any other answer is the refusal's number; a run answers its counts beside it. No call requires anything of its
 // caller; what it cannot do it refuses.
 ghost use mathlib.Core.Path.{_≡_};
+ghost use Rattle.region.specs.declared.place.Place.the-variants.{ReadRoot, ListReadRoot};
 ghost use Rattle.layout.specs.Layout.{LaidOut};
 ghost use Rattle.readable.specs.Readable.{checkAnswer};
 ghost use Rattle.begin.specs.Begin.{PutBegun, TakeBegun};
@@ -42,12 +43,21 @@ pub extern "C" fn mound_put(region: &mut [u8], thread: u32, key: u32, tag: u32) 
     begin::begin_put(region, thread, Item { key, tag })
 }
 
-// Begins a take by a thread: 0 if begun. Refusals 7, 3, 8, 9.
+// Begins a take of the least item by a thread: 0 if begun. Refusals 7, 3, 8, 9.
 #[no_mangle]
 pub extern "C" fn mound_take(region: &mut [u8], thread: u32) -> u32
-    ensures { λ r. ⌜ TakeBegun (now (region .entry)) (now (region .exit)) thread r ⌝ }
+    ensures { λ r. ⌜ TakeBegun (now (region .entry)) (now (region .exit)) thread ReadRoot r ⌝ }
 {
     begin::begin_take(region, thread)
+}
+
+// Begins a take of all items at the root by a thread: 0 if begun. Its turns hand them out one by one, the least first. Refusals
+// 7, 3, 8, 9.
+#[no_mangle]
+pub extern "C" fn mound_list(region: &mut [u8], thread: u32) -> u32
+    ensures { λ r. ⌜ TakeBegun (now (region .entry)) (now (region .exit)) thread ListReadRoot r ⌝ }
+{
+    begin::begin_list(region, thread)
 }
 
 // A run's three numbers in one.

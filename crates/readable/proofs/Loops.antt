@@ -147,18 +147,18 @@ module _ (s : Shape) (place : ℕ) where
   unfolding greatestTries pick
   tries-else n = rw (ne-eqb place 2 n) refl
 
-module _ (place node : ℕ) where
-  pub not-mending : place < 11 → 0 ≡ greatestWaiting place node
+module _ (place node : ℕ) (q : Bool) (eq : q ≡ between 11 place 16) where
+  pub not-mending : not q ≡ true → 0 ≡ greatestWaiting place node
   unfolding greatestWaiting pick
-  not-mending h = rw (lt-leb 11 place h) refl
+  not-mending h = rw (← eq, not-true q h) refl
 
-  module _ (h : 11 ≤ place) (l : ℕ) (e : l ≡ level node) where
+  module _ (h : not q ≡ false) (l : ℕ) (e : l ≡ level node) where
     few-levels : l ≤ 32
     few-levels = omega (arith, level-most node)
 
     pub mending-none : l ≡ 0 → 0 ≡ greatestWaiting place node
     unfolding greatestWaiting pick
-    mending-none z = rw (le-leb 11 place h, ← e, z) refl
+    mending-none z = rw (← eq, not-false q h, ← e, z) refl
 
     module _ (n : l ≡ 0 → ⊥) where
       pub mark-shift : l - 1 < 32
@@ -169,7 +169,7 @@ module _ (place node : ℕ) where
 
       pub mending-marks : (1 * 2 ^ (l - 1)) % 2 ^ 32 - 1 ≡ greatestWaiting place node
       unfolding greatestWaiting pick
-      mending-marks = rw (shifted 32 (l - 1) mark-shift, le-leb 11 place h, ← e) refl
+      mending-marks = rw (shifted 32 (l - 1) mark-shift, ← eq, not-false q h, ← e) refl
 
 -- A thread's record: the first test that fails decides.
 module _ (s : Shape) (b : List ℕ) (at : ℕ) (q : Bool) (ms : List ℕ) (g : ThreadWithin s b at ms) (eq : q ≡ bounded b at ms) where

@@ -10,7 +10,7 @@ use mathlib.Core.Bool.{Bool, true, false, _&&_, and-assoc}
 use mathlib.Core.List.{List, [], _∷_, _++_}
 use borrow.Author.Tests.{leb-true, le-leb}
 use lib.Dec.{leb}
-use lib.ListN.{length, getD}
+use lib.ListN.{length, getD, set}
 use lib.Pow.{pow-mono}
 use Rattle.words.specs.Word.{word, wordsAt}
 use Rattle.words.specs.Inner.{Fit}
@@ -26,7 +26,7 @@ use Rattle.region.specs.Shared.{Shared, entry, loadEntry, nodeIn, cellIn, threa
 use Rattle.region.specs.Thread.{threadSize, placeWord, triesWord, nodeWord, waitingWord, firstCopyWord, secondCopyWord, thirdCopyWord, greatestPermission, fieldWords, threadWords, idleThread, threadAt}
 use Rattle.region.specs.declared.frame.Frame.{Frame}
 use Rattle.region.specs.declared.place.Place.{Place}
-use Rattle.region.specs.declared.place.Place.the-variants.{Idle, ReadDepth, ReadLeaf, ReadAncestor, GrowDepth, ReadTarget, InsertAtRoot, ReadParent, InsertBelow, ReadRoot, RemoveHead, MendReadNode, MendReadDepth, MendReadLeft, MendReadRight, MendSwap, MendClean}
+use Rattle.region.specs.declared.place.Place.the-variants.{Idle, ReadDepth, ReadLeaf, ReadAncestor, GrowDepth, ReadTarget, InsertAtRoot, ReadParent, InsertBelow, ReadRoot, RemoveHead, MendReadNode, MendReadDepth, MendReadLeft, MendReadRight, MendSwap, MendClean, ListReadRoot, RemoveList, HandOut}
 use Rattle.region.specs.declared.record.Cell.{Cell}
 use Rattle.region.specs.declared.record.Node.{Node}
 use Rattle.region.specs.declared.record.NodeCopy.{NodeCopy}
@@ -68,22 +68,22 @@ pub record FieldsGood (s : Shape) (t : Thread) : Type 0 where
   pub lo : t .search .lo ≤ s .depth
   pub hi : t .search .hi ≤ s .depth
   pub node : t .node ≤ nodeCount s
-  pub after : t .after ≤ 1
+  pub after : t .after ≤ 3
   pub result-key : t .result .key < 2 ^ 32
   pub result-tag : t .result .tag ≤ greatestTag
   pub first : CopyGood (s .cells) (t .copies .first)
   pub second : CopyGood (s .cells) (t .copies .second)
   pub third : CopyGood (s .cells) (t .copies .third)
 
+abbrev greatestPlace : ℕ
+greatestPlace = placeNumber HandOut
+
 -- the words before the copies and those of a copy, at their greatest, and the greatest place
 abbrev fieldMaxima : Shape → List ℕ
-fieldMaxima s = fieldWords (greatestThread s)
+fieldMaxima s = set (fieldWords (greatestThread s)) placeWord greatestPlace
 
 abbrev copyMaxima : ℕ → List ℕ
 copyMaxima cells = copyWords (greatestCopy cells)
-
-abbrev greatestPlace : ℕ
-greatestPlace = placeNumber (MendClean anyWord)
 
 -- levels above the node's
 abbrev pub WaitsAbove : ℕ → ℕ → Type 0
@@ -108,6 +108,9 @@ PlaceGood s t (MendReadLeft w) = WaitsAbove (t .node) w
 PlaceGood s t (MendReadRight w) = WaitsAbove (t .node) w
 PlaceGood s t (MendSwap w) = WaitsAbove (t .node) w
 PlaceGood s t (MendClean w) = WaitsAbove (t .node) w
+PlaceGood s t ListReadRoot = Unit
+PlaceGood s t RemoveList = Unit
+PlaceGood s t HandOut = Unit
 
 pub record ThreadGood (s : Shape) (t : Thread) : Type 0 where
   pub fields : FieldsGood s t
@@ -154,6 +157,9 @@ number-most (MendReadLeft w) = omega arith
 number-most (MendReadRight w) = omega arith
 number-most (MendSwap w) = omega arith
 number-most (MendClean w) = omega arith
+number-most ListReadRoot = omega arith
+number-most RemoveList = omega arith
+number-most HandOut = omega arith
 
 -- the two rules that depend on the place
 tries-rule : (s : Shape) (t : Thread) (p : Place) → t .search .tries ≤ s .threshold → PlaceGood s t p
@@ -176,9 +182,12 @@ tries-rule s t (MendReadLeft w) h g = h
 tries-rule s t (MendReadRight w) h g = h
 tries-rule s t (MendSwap w) h g = h
 tries-rule s t (MendClean w) h g = h
+tries-rule s t ListReadRoot h g = h
+tries-rule s t RemoveList h g = h
+tries-rule s t HandOut h g = h
 
 waiting-rule : (s : Shape) (t : Thread) (p : Place) → PlaceGood s t p → waitingLevels p ≤ greatestWaiting (placeNumber p) (t .node)
-unfolding greatestWaiting pick
+unfolding greatestWaiting between pick
 waiting-rule s t Idle g = omega arith
 waiting-rule s t ReadDepth g = omega arith
 waiting-rule s t ReadLeaf g = omega arith
@@ -196,6 +205,9 @@ waiting-rule s t (MendReadLeft w) g = g
 waiting-rule s t (MendReadRight w) g = g
 waiting-rule s t (MendSwap w) g = g
 waiting-rule s t (MendClean w) g = g
+waiting-rule s t ListReadRoot g = omega arith
+waiting-rule s t RemoveList g = omega arith
+waiting-rule s t HandOut g = omega arith
 
 waiting-few : (s : Shape) (t : Thread) (p : Place) → PlaceGood s t p → waitingLevels p ≤ anyWord
 unfolding greatestWaiting
@@ -346,7 +358,7 @@ make-good f b r framed m ts =
 -- A thread's record: in range as words, in range as a record.
 place-good : (s : Shape) (t : Thread) → 1 ≤ s .threshold → (p w : ℕ) → p ≤ greatestPlace → t .search .tries ≤ greatestTries s p
     → w ≤ greatestWaiting p (t .node) → PlaceGood s t (placeOf p w)
-unfolding greatestTries greatestWaiting pick
+unfolding greatestTries greatestWaiting between pick
 place-good s t h zero w l gt gw = tt
 place-good s t h (suc zero) w l gt gw = tt
 place-good s t h (suc (suc zero)) w l gt gw = omega arith
@@ -364,8 +376,10 @@ place-good s t h (suc (suc (suc (suc (suc (suc (suc (suc (suc (suc (suc (suc (su
 place-good s t h (suc (suc (suc (suc (suc (suc (suc (suc (suc (suc (suc (suc (suc (suc zero)))))))))))))) w l gt gw = gw
 place-good s t h (suc (suc (suc (suc (suc (suc (suc (suc (suc (suc (suc (suc (suc (suc (suc zero))))))))))))))) w l gt gw = gw
 place-good s t h (suc (suc (suc (suc (suc (suc (suc (suc (suc (suc (suc (suc (suc (suc (suc (suc zero)))))))))))))))) w l gt gw = gw
-place-good s t h (suc (suc (suc (suc (suc (suc (suc (suc (suc (suc (suc (suc (suc (suc (suc (suc (suc n))))))))))))))))) w l gt gw =
-    absurd (omega arith)
+place-good s t h (suc (suc (suc (suc (suc (suc (suc (suc (suc (suc (suc (suc (suc (suc (suc (suc (suc zero))))))))))))))))) w l gt gw = tt
+place-good s t h (suc (suc (suc (suc (suc (suc (suc (suc (suc (suc (suc (suc (suc (suc (suc (suc (suc (suc zero)))))))))))))))))) w l gt gw = tt
+place-good s t h (suc (suc (suc (suc (suc (suc (suc (suc (suc (suc (suc (suc (suc (suc (suc (suc (suc (suc (suc zero))))))))))))))))))) w l gt gw = tt
+place-good s t h (suc (suc (suc (suc (suc (suc (suc (suc (suc (suc (suc (suc (suc (suc (suc (suc (suc (suc (suc (suc n)))))))))))))))))))) w l gt gw = absurd (omega arith)
 
 fit : {n : ℕ} → n ≤ anyWord → n < 2 ^ 32
 fit h = omega arith

@@ -4,7 +4,7 @@ use Prim.Native.Nat.{ℕ, zero, suc, _+_, _-_, _*_, _^_}
 use mathlib.Core.Bool.{Bool, true, _&&_}
 use mathlib.Core.List.{List, [], _∷_}
 use lib.Dec.{leb, eqb}
-use lib.ListN.{length}
+use lib.ListN.{length, set}
 use Rattle.words.specs.Word.{word}
 use Rattle.region.specs.Answer.{done, unreadable, _unless_otherwise_}
 use Rattle.region.specs.Frame.{frameOf}
@@ -15,7 +15,7 @@ use Rattle.region.specs.Record.{nodeSize, cellSize, nodeWords, cellWords, great
 use Rattle.region.specs.Shape.{between, shapeFits, nodeCount, regionWords}
 use Rattle.region.specs.Thread.{threadWords, greatestPermission, placeWord, triesWord, nodeWord, waitingWord}
 use Rattle.region.specs.declared.frame.Frame.{Frame}
-use Rattle.region.specs.declared.place.Place.the-variants.{ReadLeaf, MendReadNode, MendClean}
+use Rattle.region.specs.declared.place.Place.the-variants.{ReadLeaf, MendReadNode, MendClean, HandOut}
 use Rattle.region.specs.declared.record.Cell.{Cell}
 use Rattle.region.specs.declared.record.Item.{Item}
 use Rattle.region.specs.declared.record.Node.{Node}
@@ -45,7 +45,7 @@ abbrev pub greatestThread : Shape → Thread
 greatestThread s =
     record {
       permission = greatestPermission;  -- "permission 0..3"
-      place = MendClean anyWord;  -- "place 0..16": M6 is place 16; any waiting levels
+      place = MendClean anyWord;  -- any waiting levels; the place's own maximum follows
       item = greatestItem;  -- any key, "tags in range"
       own = s .cells;  -- "cell 0..C"
       depth = s .depth;  -- "d, lo and hi 0..D"
@@ -57,7 +57,7 @@ greatestThread s =
             hi = s .depth;  -- "d, lo and hi 0..D"
           };
       node = nodeCount s;  -- "node or leaf 0..2^D − 1"
-      after = 1;  -- "dirty and after 0 or 1"
+      after = 3;  -- "dirty and after 0 or 1"; request 1 has 2 and 3 too
       result = greatestItem;  -- any key, "tags in range"
       copies = record { first = greatestCopy (s .cells); second = greatestCopy (s .cells); third = greatestCopy (s .cells) };
     }
@@ -69,8 +69,9 @@ nodeMaxima cells = nodeWords (greatestNode cells)
 abbrev pub cellMaxima : ℕ → List ℕ
 cellMaxima cells = cellWords (greatestCell cells)
 
+-- "place 0..16", with request 1 0..19: no place of the greatest number has waiting levels, so it is written over M6's
 abbrev pub threadMaxima : Shape → List ℕ
-threadMaxima s = threadWords (greatestThread s)
+threadMaxima s = set (threadWords (greatestThread s)) placeWord (placeNumber HandOut)
 
 -- "and below H at I2"
 unfoldable pub greatestTries : Shape → ℕ → ℕ
@@ -78,7 +79,9 @@ greatestTries s place = pick (eqb place (placeNumber ReadLeaf)) (s .threshold - 
 
 -- "waiting marks only at M places and levels above the node's (none at node 0)": bit j − 1 for level j
 unfoldable pub greatestWaiting : ℕ → ℕ → ℕ
-greatestWaiting place node = pick (leb (placeNumber (MendReadNode 0)) place) (2 ^ (level node - 1) - 1) 0
+unfolding between
+greatestWaiting place node =
+    pick (between (placeNumber (MendReadNode 0)) place (placeNumber (MendClean 0))) (2 ^ (level node - 1) - 1) 0
 
 -- the words from word `at` on are at most their greatest values
 unfoldable pub bounded : List ℕ → ℕ → List ℕ → Bool

@@ -87,7 +87,7 @@ fn greatest_tries(shape: Shape, place: u32) -> u32
 fn greatest_waiting(place: u32, node: u32) -> u32
     ensures { λ r. ⌜ r ≡ greatestWaiting place node ⌝ }
 {
-    if place < 11 {
+    if !region::is_between(11, place, 16) {
         return 0;
     }
     let level = region::level_of(node);
@@ -140,7 +140,7 @@ fn thread_maxima(shape: Shape) -> [u32; 33]
     let d = shape.depth;
     [
         3,
-        16,
+        19,
         ANY_WORD,
         GREATEST_TAG,
         c,
@@ -151,7 +151,7 @@ fn thread_maxima(shape: Shape) -> [u32; 33]
         d,
         nodes,
         ANY_WORD,
-        1,
+        3,
         ANY_WORD,
         GREATEST_TAG,
         c,

@@ -4,12 +4,13 @@ use Prim.Native.Nat.{ℕ, suc, _+_, _≤_, _<_}
 use native.Mathlib.Omega.{arith}
 use mathlib.Core.Path.{_≡_, refl, sym, ap, _∙_}
 use mathlib.Core.List.{List, [], _∷_, _++_}
+use lib.Dec.{eqb}
 use lib.ListN.{getD}
 use Rattle.words.specs.Word.{word, wordsAt, setWords}
 use Rattle.words.proofs.Laws.{word-among, setWords-behind}
 use Rattle.region.specs.Place.{placeOf, placeNumber, waitingLevels}
 use Rattle.region.specs.Record.{nodeSize, copySize, nodeAt, cellAt, itemOf, copyOf, copyWords, copyAt, setCopyAt}
-use Rattle.region.specs.Thread.{threadSize, placeWord, waitingWord, firstCopyWord, secondCopyWord, thirdCopyWord, searchOf, fieldWords, threadOf, threadWords, threadAt, setThreadAt}
+use Rattle.region.specs.Thread.{threadSize, placeWord, waitingWord, firstCopyWord, secondCopyWord, thirdCopyWord, searchOf, fieldWords, threadOf, threadWords, threadAt, setThreadAt, isIdle}
 use Rattle.region.specs.declared.place.Place.{Place}
 use Rattle.region.specs.declared.record.NodeCopy.{NodeCopy}
 use Rattle.region.specs.declared.thread.Thread.{Thread}
@@ -124,3 +125,8 @@ thread-stored b b₁ b₂ b₃ b′ at t n w en ew e₁ e₂ e₃ e₄ =
     (setWords-behind (fieldWords t) (q ++ (r ++ s)) b at
     ∙ setWords-behind q (r ++ s) (setWords b at (fieldWords t)) (at + firstCopyWord)
     ∙ setWords-behind r s (setWords (setWords b at (fieldWords t)) (at + firstCopyWord) q) (at + firstCopyWord + copySize))
+
+-- place 0 is idle
+pub idle-test : (t : Thread) (n : ℕ) → n ≡ placeNumber (t .place) → eqb n 0 ≡ isIdle t
+unfolding isIdle
+idle-test t n e = ap (λ k. eqb k 0) e

@@ -1,11 +1,12 @@
--- The places' numbers (document 01, The sixteen places): "numbered 1 to 16 in the order below (0 is idle)".
+-- The places' numbers (document 01, The sixteen places): "numbered 1 to 16 in the order below (0 is idle)"; and 17 to 19 (request 1):
+-- "Places 17 and 18 read and empty the root (failure: 17), 19 hands out".
 use Prim.Native.Nat.{ℕ}
 use mathlib.Core.List.{List, [], _∷_}
 use lib.ListN.{getD}
 use Rattle.region.specs.declared.place.Place.{Place}
-use Rattle.region.specs.declared.place.Place.the-variants.{Idle, ReadDepth, ReadLeaf, ReadAncestor, GrowDepth, ReadTarget, InsertAtRoot, ReadParent, InsertBelow, ReadRoot, RemoveHead, MendReadNode, MendReadDepth, MendReadLeft, MendReadRight, MendSwap, MendClean}
+use Rattle.region.specs.declared.place.Place.the-variants.{Idle, ReadDepth, ReadLeaf, ReadAncestor, GrowDepth, ReadTarget, InsertAtRoot, ReadParent, InsertBelow, ReadRoot, RemoveHead, MendReadNode, MendReadDepth, MendReadLeft, MendReadRight, MendSwap, MendClean, ListReadRoot, RemoveList, HandOut}
 
--- idle, then I1 to I8, E1, E2 and M1 to M6; w are the waiting levels of a mending place
+-- idle, then I1 to I8, E1, E2, M1 to M6 and 17 to 19; w are the waiting levels of a mending place
 abbrev pub places : ℕ → List Place
 places w =
     Idle
@@ -25,9 +26,12 @@ places w =
     ∷ MendReadRight w
     ∷ MendSwap w
     ∷ MendClean w
+    ∷ ListReadRoot
+    ∷ RemoveList
+    ∷ HandOut
     ∷ []
 
--- the place with number n, idle past 16
+-- the place with number n, idle past 19
 abbrev pub placeOf : ℕ → ℕ → Place
 placeOf n w = getD (places w) n Idle
 
@@ -49,6 +53,9 @@ placeNumber (MendReadLeft w) = 13
 placeNumber (MendReadRight w) = 14
 placeNumber (MendSwap w) = 15
 placeNumber (MendClean w) = 16
+placeNumber ListReadRoot = 17
+placeNumber RemoveList = 18
+placeNumber HandOut = 19
 
 -- "waiting levels (bit j−1 for level j)", "waiting marks only at M places"
 abbrev pub waitingLevels : Place → ℕ
@@ -69,3 +76,6 @@ waitingLevels (MendReadLeft w) = w
 waitingLevels (MendReadRight w) = w
 waitingLevels (MendSwap w) = w
 waitingLevels (MendClean w) = w
+waitingLevels ListReadRoot = 0
+waitingLevels RemoveList = 0
+waitingLevels HandOut = 0

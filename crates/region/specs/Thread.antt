@@ -1,12 +1,14 @@
 -- The thread's record as words, and the records that its methods give (document 01, The region).
 use Prim.Native.Nat.{ℕ, _+_}
+use mathlib.Core.Bool.{Bool}
 use mathlib.Core.List.{List, [], _∷_, _++_}
+use lib.Dec.{eqb}
 use lib.ListN.{getD}
 use Rattle.words.specs.Word.{wordsAt, setWords}
 use Rattle.region.specs.Place.{placeOf, placeNumber, waitingLevels}
 use Rattle.region.specs.Record.{copySize, itemOf, copyOf, copyWords, zeroItem, zeroCopy}
 use Rattle.region.specs.declared.place.Place.{Place}
-use Rattle.region.specs.declared.place.Place.the-variants.{Idle, ReadDepth, ReadRoot, MendReadNode}
+use Rattle.region.specs.declared.place.Place.the-variants.{Idle, ReadDepth, MendReadNode}
 use Rattle.region.specs.declared.record.Item.{Item}
 use Rattle.region.specs.declared.record.NodeCopy.{NodeCopy}
 use Rattle.region.specs.declared.thread.Copies.{Copies}
@@ -174,14 +176,14 @@ unfoldable pub withThird : Thread → NodeCopy → Thread
 unfolding withCopies
 withThird t x = withCopies t (record { first = t .copies .first; second = t .copies .second; third = x })
 
--- "Beginning sets the place (I1 or E1) and, for a put, key, tag and own cell."
+-- "0 is idle"
+unfoldable pub isIdle : Thread → Bool
+isIdle t = eqb (placeNumber (t .place)) 0
+
+-- "Beginning sets the place (I1 or E1) and, for a put, key, tag and own cell." A take sets its place alone, E1 or request 1's 17.
 unfoldable pub begunPut : Thread → Item → ℕ → Thread
 unfolding atPlace withItem withOwn
 begunPut t i own = atPlace (withOwn (withItem t i) own) ReadDepth
-
-unfoldable pub begunTake : Thread → Thread
-unfolding atPlace
-begunTake t = atPlace t ReadRoot
 
 -- "Mend n": to M1 at node n, with these levels waiting
 unfoldable pub mending : Thread → ℕ → ℕ → Thread

@@ -2,8 +2,8 @@
 ghost use mathlib.Core.Path.{_≡_};
 ghost use Rattle.region.specs.Place.{placeOf, placeNumber, waitingLevels};
 
-// "A thread stands idle or at one of sixteen places" (document 01, whose label stands beside each). The mending places
-// carry the levels whose nodes wait to be mended: bit j - 1 for level j.
+// "A thread stands idle or at one of sixteen places" (document 01, whose label stands beside each), or at one of request 1's
+// three. The mending places carry the levels whose nodes wait to be mended: bit j - 1 for level j.
 pub enum Place {
     Idle,
     // I1 to I8: put
@@ -15,7 +15,7 @@ pub enum Place {
     InsertAtRoot,
     ReadParent,
     InsertBelow,
-    // E1 and E2: take
+    // E1 and E2: take of one item
     ReadRoot,
     RemoveHead,
     // M1 to M6: mending
@@ -25,9 +25,13 @@ pub enum Place {
     MendReadRight(u32),
     MendSwap(u32),
     MendClean(u32),
+    // 17 to 19: take of the root's whole list
+    ListReadRoot,
+    RemoveList,
+    HandOut,
 }
 
-// The place with this number; a mending place carries these waiting levels. A number past 16 is idle.
+// The place with this number; a mending place carries these waiting levels. A number past 19 is idle.
 pub fn place_of(number: u32, waiting: u32) -> Place
     ensures { λ r. ⌜ r ≡ placeOf number waiting ⌝ }
 {
@@ -48,6 +52,9 @@ pub fn place_of(number: u32, waiting: u32) -> Place
         14 => Place::MendReadRight(waiting),
         15 => Place::MendSwap(waiting),
         16 => Place::MendClean(waiting),
+        17 => Place::ListReadRoot,
+        18 => Place::RemoveList,
+        19 => Place::HandOut,
         _ => Place::Idle,
     }
 }
@@ -74,6 +81,9 @@ impl Place {
             Place::MendReadRight(_) => 14,
             Place::MendSwap(_) => 15,
             Place::MendClean(_) => 16,
+            Place::ListReadRoot => 17,
+            Place::RemoveList => 18,
+            Place::HandOut => 19,
         }
     }
 
@@ -99,6 +109,9 @@ impl Place {
             Place::MendReadRight(w) => w,
             Place::MendSwap(w) => w,
             Place::MendClean(w) => w,
+            Place::ListReadRoot => 0,
+            Place::RemoveList => 0,
+            Place::HandOut => 0,
         }
     }
 }

@@ -2,7 +2,7 @@
 ghost use mathlib.Core.Path.{_≡_};
 ghost use Prim.Native.Nat.{_+_, _*_, _≤_};
 ghost use lib.ListN.{length};
-ghost use Rattle.region.specs.Thread.{threadSize, idleThread, threadAt, setThreadAt, goneIdle, begunPut, begunTake, mending, atPlace, withItem, withOwn, withDepth, withSearch, withNode, withAfter, withResult, withFirst, withSecond, withThird};
+ghost use Rattle.region.specs.Thread.{threadSize, idleThread, threadAt, setThreadAt, goneIdle, isIdle, begunPut, mending, atPlace, withItem, withOwn, withDepth, withSearch, withNode, withAfter, withResult, withFirst, withSecond, withThird};
 use crate::place::Place;
 use crate::place::place_of;
 use crate::record::Item;
@@ -38,7 +38,7 @@ pub struct Thread {
     // bit 0 put, bit 1 take
     pub permission: u32,
     pub place: Place,
-    // what the put is to insert, and the cell that holds it
+    // what the put is to insert, and the cell that holds it; of a list, the first cell in hand
     pub item: Item,
     pub own: u32,
     // d of document 01: the tree's depth as last read
@@ -46,7 +46,7 @@ pub struct Thread {
     pub search: Search,
     // the node that a put changes or a mending mends
     pub node: u32,
-    // where a mending returns to: 0 back to E1, 1 answer
+    // where a mending returns to: 0 back to E1, 1 answer, 2 back to 17, 3 on to 19
     pub after: u32,
     pub result: Item,
     pub copies: Copies,
@@ -153,6 +153,13 @@ impl Thread {
         Thread::idle(self.permission)
     }
 
+    pub fn is_idle(self) -> bool
+        ensures { λ r. ⌜ r ≡ isIdle self ⌝ }
+    {
+        let place = self.place;
+        place.number() == 0
+    }
+
     // A put of item begins, with this cell of its own.
     pub fn begun_put(self, item: Item, own: u32) -> Thread
         ensures { λ r. ⌜ r ≡ begunPut self item own ⌝ }
@@ -163,13 +170,6 @@ impl Thread {
             own,
             ..self
         }
-    }
-
-    // A take begins.
-    pub fn begun_take(self) -> Thread
-        ensures { λ r. ⌜ r ≡ begunTake self ⌝ }
-    {
-        self.at_place(Place::ReadRoot)
     }
 
     // The mending of this node begins, with these levels waiting.

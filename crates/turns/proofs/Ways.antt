@@ -5,26 +5,26 @@ use mathlib.Core.Bool.{Bool, true, false}
 use mathlib.Core.List.{List}
 use Rattle.region.specs.Pick.{pick}
 use Rattle.region.specs.Shared.{Shared, setThreadIn, sharedIn, threadIn}
-use Rattle.region.specs.Thread.{goneIdle}
+use Rattle.region.specs.Thread.{goneIdle, isIdle}
 use Rattle.region.specs.declared.answer.Answer.{Answer}
 use Rattle.region.specs.declared.frame.Frame.{Frame}
 use Rattle.region.specs.declared.shape.Shape.{Shape}
 use Rattle.region.specs.declared.thread.Thread.{Thread}
 use Rattle.access.specs.Effect.{effectBytes}
 use Rattle.access.specs.Inner.{ofKind, reading}
-use Rattle.access.specs.Plan.{ends, changesNothing}
+use Rattle.access.specs.Plan.{changesNothing}
 use Rattle.access.specs.declared.effect.Effect.{Effect}
-use Rattle.access.specs.declared.effect.Effect.the-variants.{Nothing, Grow, Push, Pop, Exchange, Clean}
+use Rattle.access.specs.declared.effect.Effect.the-variants.{Nothing, Grow, Push, Pop, Exchange, Clean, Detach, Free}
 use Rattle.access.specs.declared.plan.Plan.{Plan}
 use Rattle.turns.specs.Inner.{Ended, Stored, recordBytes}
 
--- Storing a plan's record: none, that of an ended operation, or another.
+-- Storing a plan's record: none, an idle one, or another.
 module _ (f : Frame) (b : List ℕ) (n : ℕ) (p : Plan) (q : Bool) (eq : q ≡ changesNothing (p .answer)) where
   pub none-stored : q ≡ true → Stored f b b n p (p .answer)
   unfolding recordBytes pick
   none-stored g = record { answer = refl; bytes = rw (← eq, g) refl }
 
-  module _ (g : q ≡ false) (b′ : List ℕ) (w : Bool) (ew : w ≡ ends (p .answer)) where
+  module _ (g : q ≡ false) (b′ : List ℕ) (w : Bool) (ew : w ≡ isIdle (p .thread)) where
     pub idle-stored : w ≡ true → (u : Thread) → u ≡ goneIdle (p .thread) → b′ ≡ setThreadIn f b n u → Stored f b b′ n p (p .answer)
     unfolding recordBytes pick
     idle-stored z u eu e = record { answer = refl; bytes = rw (← eq, g, ← ew, z) (e ∙ ap (setThreadIn f b n) eu) }
@@ -44,6 +44,8 @@ no-effect f b (Push n v c x) = refl
 no-effect f b (Pop v c) = refl
 no-effect f b (Exchange n v c w) = refl
 no-effect f b (Clean n v) = refl
+no-effect f b (Detach v) = refl
+no-effect f b (Free c) = refl
 
 module _ (D : Shape → Shared → Thread → Plan) (f : Frame) (b b₁ : List ℕ) (n : ℕ) (x : Thread) (p : Plan)
     (r : Answer) (ex : x ≡ threadIn f b n) (ep : p ≡ D (f .shape) (sharedIn f b) x) (h : Stored f b b₁ n p r) where

@@ -1,13 +1,13 @@
-// A whole turn at each of the sixteen places: the thread's record is loaded, the place decides a plan, the record is stored and
+// A whole turn at each place: the thread's record is loaded, the place decides a plan, the record is stored and
 // the plan's effect carried out. The record is stored first, while the fields that the turn left alone are known to be in their
 // places. Each place has a function of its own, so that its compiled code reads and writes the fields that it needs and no others.
 ghost use mathlib.Core.Path.{_≡_};
 ghost use lib.ListN.{length};
 ghost use Rattle.region.specs.Inner.{Within};
 ghost use Rattle.region.specs.Shared.{sharedIn, threadIn};
-ghost use Rattle.access.specs.Inner.{cleaning, exchanging, growing, popping, pushing, reading};
-ghost use Rattle.access.specs.Plan.{ends, changesNothing};
-ghost use Rattle.extract.specs.Extract.{readRoot, removeHead};
+ghost use Rattle.access.specs.Inner.{cleaning, detaching, exchanging, freeing, growing, popping, pushing, reading};
+ghost use Rattle.access.specs.Plan.{changesNothing};
+ghost use Rattle.extract.specs.Extract.{handOut, listReadRoot, readRoot, removeHead, removeList};
 ghost use Rattle.insert.specs.Insert.{growDepth, insertAtRoot, insertBelow, readAncestor, readDepth, readLeaf, readParent, readTarget};
 ghost use Rattle.moundify.specs.Moundify.{mendClean, mendReadDepth, mendReadLeft, mendReadNode, mendReadRight, mendSwap};
 ghost use Rattle.turns.specs.Inner.{Ended, Stored};
@@ -29,23 +29,9 @@ fn changes_nothing(answer: Answer) -> bool
     }
 }
 
-// Whether an operation ends with this answer.
-fn ends(answer: Answer) -> bool
-    ensures { λ r. ⌜ r ≡ ends answer ⌝ }
-{
-    match answer {
-        Answer::Moved => false,
-        Answer::Idle => false,
-        Answer::Inserted => true,
-        Answer::Took(_) => true,
-        Answer::Empty => true,
-        Answer::Refused(_) => false,
-    }
-}
-
-// Stores the record of thread n as its plan has it; an idle or refused turn stores nothing. Answers what the plan answers. The
-// record of an ended operation is idle, and has a branch of its own, so that the compiled code of the other branch stores no
-// field that the turn left alone.
+// Stores the record of thread n as its plan has it; an idle or refused turn stores nothing. Answers what the plan answers. A
+// record that has become idle has a branch of its own, so that the compiled code of the other branch stores no field that the
+// turn left alone.
 fn store_record(f: Frame, b: &mut [u8], n: u32, plan: Plan) -> Answer
     requires { ⌜ Within f (length (now b)) ⌝ }
     ensures { λ r. ⌜ Stored f (now (b .entry)) (now (b .exit)) n plan r ⌝ }
@@ -55,7 +41,7 @@ fn store_record(f: Frame, b: &mut [u8], n: u32, plan: Plan) -> Answer
         return answer;
     }
     let record = plan.thread;
-    if ends(answer) {
+    if record.is_idle() {
         f.store_thread(b, n, record.gone_idle());
         return answer;
     }
@@ -222,5 +208,38 @@ pub fn turn_mend_clean(f: Frame, b: &mut [u8], n: u32, w: u32) -> Answer
     let effect = plan.effect;
     let answer = store_record(f, b, n, plan);
     access::carry_cleaning(f, b, effect);
+    answer
+}
+
+// 17
+pub fn turn_list_read_root(f: Frame, b: &mut [u8], n: u32) -> Answer
+    requires { ⌜ Within f (length (now b)) ⌝ }
+    ensures { λ r. ⌜ Ended reading f (now (b .entry)) (now (b .exit)) n (listReadRoot (sharedIn f (now (b .entry))) (threadIn f (now (b .entry)) n)) r ⌝ }
+{
+    let plan = extract::list_read_root(f, b, f.load_thread(b, n));
+    store_record(f, b, n, plan)
+}
+
+// 18
+pub fn turn_remove_list(f: Frame, b: &mut [u8], n: u32) -> Answer
+    requires { ⌜ Within f (length (now b)) ⌝ }
+    ensures { λ r. ⌜ Ended detaching f (now (b .entry)) (now (b .exit)) n (removeList (sharedIn f (now (b .entry))) (threadIn f (now (b .entry)) n)) r ⌝ }
+{
+    let plan = extract::remove_list(f, b, f.load_thread(b, n));
+    let effect = plan.effect;
+    let answer = store_record(f, b, n, plan);
+    access::carry_detaching(f, b, effect);
+    answer
+}
+
+// 19
+pub fn turn_hand_out(f: Frame, b: &mut [u8], n: u32) -> Answer
+    requires { ⌜ Within f (length (now b)) ⌝ }
+    ensures { λ r. ⌜ Ended freeing f (now (b .entry)) (now (b .exit)) n (handOut (sharedIn f (now (b .entry))) (threadIn f (now (b .entry)) n)) r ⌝ }
+{
+    let plan = extract::hand_out(f, b, f.load_thread(b, n));
+    let effect = plan.effect;
+    let answer = store_record(f, b, n, plan);
+    access::carry_freeing(f, b, effect);
     answer
 }

@@ -1,7 +1,7 @@
 -- `moundify::returned` meets its contract: none waits, or the deepest level's ancestor is next. Assumes nothing.
 use borrow.Author.Needs.{needs}
 use Rattle.moundify.proofs.returned.Statement.{statement}
-use Rattle.moundify.proofs.Returns.{goes-idle, back-to-root, some-level, few-levels, mark-within, to-ancestor}
+use Rattle.moundify.proofs.Returns.{goes-idle, goes-on, some-level, few-levels, mark-within, to-ancestor}
 use Rattle.moundify.proofs.returned.Tie as tie
 
 gone-idle-requires : tie.Need-gone-idle-requires
@@ -10,11 +10,14 @@ gone-idle-requires c κs = search needs
 returns : tie.Need-returns
 returns c = search goes-idle
 
+place-after-requires : tie.Need-place-after-requires
+place-after-requires c κs = search needs
+
 at-place-requires : tie.Need-at-place-requires
 at-place-requires c κs = search needs
 
 returns-2 : tie.Need-returns-2
-returns-2 c = search back-to-root
+returns-2 c = search goes-on
 
 level-of-requires : tie.Need-level-of-requires
 level-of-requires c κs = search needs
@@ -40,6 +43,7 @@ returned-spec =
     (tie.spec
     gone-idle-requires
     returns
+    place-after-requires
     at-place-requires
     returns-2
     level-of-requires

@@ -4,6 +4,9 @@ use Rattle.readable.proofs.greatest_waiting.Statement.{statement}
 use Rattle.readable.proofs.Loops.{not-mending, mending-none, mark-shift, mark-some, mending-marks}
 use Rattle.readable.proofs.greatest_waiting.Tie as tie
 
+is-between-requires : tie.Need-is-between-requires
+is-between-requires c κs = search needs
+
 returns : tie.Need-returns
 returns c = search not-mending
 
@@ -28,4 +31,4 @@ returns-3 c = search mending-marks
 pub greatest-waiting-spec : {M : Type 1} → statement M
 greatest-waiting-spec =
     tie.close
-    (tie.spec returns level-of-requires returns-2 sub-result shl-result sub-result-2 returns-3)
+    (tie.spec is-between-requires returns level-of-requires returns-2 sub-result shl-result sub-result-2 returns-3)

@@ -55,7 +55,16 @@ returns-16 : tie.Need-returns-16
 returns-16 c = ap (λ n. placeOf n (c .before .args .waiting)) (sym (c .match .keys16))
 
 returns-17 : tie.Need-returns-17
-returns-17 c = no-place (c .before .args .number) (c .before .args .waiting) (c .match .rest)
+returns-17 c = search needs
+
+returns-18 : tie.Need-returns-18
+returns-18 c = search needs
+
+returns-19 : tie.Need-returns-19
+returns-19 c = search needs
+
+returns-20 : tie.Need-returns-20
+returns-20 c = no-place (c .before .args .number) (c .before .args .waiting) (c .match .rest)
 
 pub place-of-spec : {M : Type 1} → statement M
 place-of-spec =
@@ -77,4 +86,7 @@ place-of-spec =
     returns-14
     returns-15
     returns-16
-    returns-17)
+    returns-17
+    returns-18
+    returns-19
+    returns-20)
