@@ -12,7 +12,7 @@ use Rattle.region.specs.Pick.{pick}
 use Rattle.region.specs.Shared.{Shared}
 use Rattle.region.specs.declared.record.Cell.{Cell}
 use Rattle.region.specs.declared.record.Item.{Item}
-use Rattle.mound.specs.Tree.{inList, listFrom, passing}
+use Rattle.mound.specs.Tree.{inList, itemsOf, listFrom, passing}
 
 -- from cell c by next cells to 0 these cells, owned by o
 pub data Chain (cell : ℕ → Cell) (own rank : ℕ → ℕ) (o : ℕ) : ℕ → List ℕ → Type 0 where
@@ -24,6 +24,11 @@ pub data Chain (cell : ℕ → Cell) (own rank : ℕ → ℕ) (o : ℕ) : ℕ �
 pub first-owned : {cell : ℕ → Cell} {own rank : ℕ → ℕ} {o c : ℕ} {cs : List ℕ} → Chain cell own rank o c cs → 1 ≤ c → own c ≡ o
 first-owned ends l = absurd (omega arith)
 first-owned (link c p eo er k) l = eo
+
+-- from cell 0 there is none
+pub no-cells : {cell : ℕ → Cell} {own rank : ℕ → ℕ} {o c : ℕ} {cs : List ℕ} → Chain cell own rank o c cs → c ≡ 0 → cs ≡ []
+no-cells ends e = refl
+no-cells (link c p eo er k) e = absurd (omega arith)
 
 -- what a change of cells, owners and ranks leaves of the cells of one owner with a rank below n, which may all get another owner
 abbrev pub Left : (ℕ → Cell) → (ℕ → Cell) → (ℕ → ℕ) → (ℕ → ℕ) → (ℕ → ℕ) → (ℕ → ℕ) → ℕ → ℕ → ℕ → Type 0
@@ -44,6 +49,12 @@ module _ (cell cell′ : ℕ → Cell) (own own′ rank rank′ : ℕ → ℕ) (
 unfoldable pub items : (ℕ → Cell) → List ℕ → List Item
 items cell [] = []
 items cell (c ∷ cs) = cell c .item ∷ items cell cs
+
+-- every cell has one
+pub length-items : (cell : ℕ → Cell) (cs : List ℕ) → length (items cell cs) ≡ length cs
+unfolding items
+length-items cell [] = refl
+length-items cell (c ∷ cs) = ap suc (length-items cell cs)
 
 -- from no cell there is no list, and nothing is counted
 list-none : (cell : ℕ → Cell) (n : ℕ) → listFrom cell n 0 ≡ []
@@ -88,6 +99,22 @@ abbrev pub HasItems : (ℕ → Cell) → ℕ → List Item → Type 0
 HasItems cell c [] = c ≡ 0
 HasItems cell c (i ∷ is) = (1 ≤ c) × (cell c .item ≡ i) × HasItems cell (cell c .next) is
 
+-- from a cell on there is at least one
+pub record SomeItems (cell : ℕ → Cell) (c : ℕ) : Type 0 where
+  pub first : Item
+  pub rest : List Item
+  pub has : HasItems cell c (first ∷ rest)
+
+-- walking from a cell lists these items
+pub list-items : (cell : ℕ → Cell) (n c : ℕ) (is : List Item) → HasItems cell c is → length is ≤ n → itemsOf (listFrom cell n c) ≡ is
+unfolding listFrom itemsOf pick
+list-items cell n c [] h few = ap (λ d. itemsOf (listFrom cell n d)) h ∙ ap itemsOf (list-none cell n)
+list-items cell zero c (i ∷ is) h few = absurd (omega arith)
+list-items cell (suc n) c (i ∷ is) h few =
+    rw
+    (ne-eqb c 0 (λ z. omega (arith, h .0)))
+    (cc (h .1, list-items cell n (cell c .next) is (h .2) (omega arith)))
+
 -- whatever these are, they stay so
 abbrev pub ItemsStay : (ℕ → Cell) → (ℕ → Cell) → ℕ → Type 0
 ItemsStay cell cell′ c = (is : List Item) → HasItems cell c is → HasItems cell′ c is
@@ -98,6 +125,10 @@ module _ {cell : ℕ → Cell} {own rank : ℕ → ℕ} {o : ℕ} where
   unfolding items
   has-items ends = refl
   has-items (link d p eo er k) = (p, refl, has-items k)
+
+  pub some-items : {c : ℕ} {cs : List ℕ} → Chain cell own rank o c cs → 1 ≤ c → SomeItems cell c
+  some-items ends l = absurd (omega arith)
+  some-items (link d {cs = ds} p eo er k) l = record { first = cell d .item; rest = items cell ds; has = (p, refl, has-items k) }
 
   pub only-items : {c : ℕ} {cs : List ℕ} → Chain cell own rank o c cs → (is : List Item) → HasItems cell c is → items cell cs ≡ is
   unfolding items

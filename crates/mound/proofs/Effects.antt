@@ -18,12 +18,12 @@ use Rattle.region.proofs.Picks.{upd-same, upd-other}
 use Rattle.access.specs.Effect.{effectShared}
 use Rattle.access.specs.Order.{val, valueOf}
 use Rattle.access.specs.Read.{readNode, updated}
-use Rattle.access.specs.declared.effect.Effect.the-variants.{Grow, Push, Pop, Exchange, Clean}
+use Rattle.access.specs.declared.effect.Effect.the-variants.{Grow, Push, Pop, Exchange, Clean, Detach, Free}
 use Rattle.access.proofs.OrderLaws.{item-refl, item-trans}
 use Rattle.access.proofs.ReadLaws.{updated-counter, updated-dirty, updated-first}
 use Rattle.mound.specs.Tree.{sameItem}
-use Rattle.mound.proofs.Chains.{ItemsStay}
-use Rattle.mound.proofs.Held.{Held, counted, first-owner, own-owner, free-owner, thread-items-stay, rest-stays, held-same, counted-same, held-begin, held-push, held-pop, held-exchange}
+use Rattle.mound.proofs.Chains.{ItemsStay, among, items}
+use Rattle.mound.proofs.Held.{Held, counted, first-owner, own-owner, free-owner, thread-items-stay, rest-stays, held-same, counted-same, held-begin, held-push, held-pop, held-exchange, held-detach, held-free}
 use Rattle.mound.proofs.Order.{Above, Ordered, above-le, push-ordered, pop-ordered, clean-ordered, exchange-ordered}
 use Rattle.mound.proofs.Sorted.{AtMost, Proper, valueAt}
 
@@ -173,6 +173,16 @@ pub record CleanAllowed (m : Shared) (n : ℕ) (v : Node) : Type 0 where
   pub least-right : AtMost (val m n) (val m (2 * n + 1))
   pub value : v ≡ updated (m .node n) (m .node n .first) 0
 
+pub record DetachAllowed (m : Shared) (own : ℕ → ℕ) (t : ℕ) (v : Node) : Type 0 where
+  pub clean : m .node 1 .dirty ≡ 0
+  pub some : 1 ≤ m .node 1 .first
+  pub hands : own t ≡ 0
+  pub value : v ≡ updated (m .node 1) 0 1
+
+pub record FreeAllowed (own : ℕ → ℕ) (t c : ℕ) : Type 0 where
+  pub mine : own t ≡ c
+  pub cell : 1 ≤ c
+
 -- nodes no deeper than the present depth are in the tree
 pub in-tree : (s : Shape) (m : Shared) (own : ℕ → ℕ) {all : ℕ} → Mound s m own all → (n : ℕ) → n < 2 ^ m .depth → n ≤ nodeCount s
 in-tree s m own g n h = omega (arith, pow-mono {i = m .depth} {j = s .depth} (g .depth-most))
@@ -306,6 +316,33 @@ module _ (s : Shape) (m : Shared) (own own′ : ℕ → ℕ) {all : ℕ} (g : Mo
         kept = λ u ne. thread-items-stay s m own (g .held) (pushed .cell) c push-cells u (λ e. ne (omega (arith, e, push-owner)));
       }
 
+-- Every node reads as before.
+reads-mound : (s : Shape) (m m′ : Shared) (own own′ : ℕ → ℕ) {all : ℕ} → Mound s m own all → m′ .depth ≡ m .depth
+    → ((x : ℕ) → 1 ≤ x → readNode m′ x ≡ readNode m x) → Held s m′ own′ all → Mound s m′ own′ all
+reads-mound s m m′ own own′ g depth reads held =
+    still-mound s m m′ own own′ g depth
+    (λ y h. let there = root-there s m own g in node-of-read m m′ y (reads y (omega arith))) held
+    (λ a x p h z.
+    subst₂ (λ u w. AtMost u w) (sym (ap valueOf (reads a p))) (sym (ap valueOf (reads x (omega (arith, p, above-le a x h)))))
+    (g .ordered a x p h (ap (λ n. n .dirty) (sym (node-of-read m m′ a (reads a p))) ∙ z)))
+
+-- The root gets another list and becomes dirty.
+module _ (s : Shape) (m m′ : Shared) (own own′ : ℕ → ℕ) {all : ℕ} (g : Mound s m own all) (first : ℕ) (depth : m′ .depth ≡ m .depth)
+    (root : m′ .node 1 ≡ updated (m .node 1) first 1) (others : (y : ℕ) → 1 ≤ y → (y ≡ 1 → ⊥) → readNode m′ y ≡ readNode m y)
+    (held : Held s m′ own′ all) where
+  root-mound : Mound s m′ own′ all
+  root-mound =
+      still-mound s m m′ own own′ g depth
+      (λ y h. let there = root-there s m own g in node-of-read m m′ y (others y (omega arith) (λ z. omega arith))) held
+      (pop-ordered AtMost item-refl item-trans (val m) (val m′) (λ y. m .node y .dirty) (λ y. m′ .node y .dirty) (g .ordered)
+      (λ y p ne. ap valueOf (others y p ne)) (λ y p ne. ap (λ z. z .dirty) (node-of-read m m′ y (others y p ne)))
+      (ap (λ z. z .dirty) root ∙ updated-dirty (m .node 1) first 1))
+
+  root-relies : Rely m m′
+  root-relies =
+      let up : m′ .node 1 .counter ≡ m .node 1 .counter + 1 = ap (λ y. y .counter) root ∙ updated-counter (m .node 1) first 1 in
+      relies m m′ 1 1 (omega arith) up up (λ y p ne _. others y p ne) (λ p e z. absurd (omega arith)) (λ p e z. absurd (omega arith))
+
 -- Popping.
 module _ (s : Shape) (m : Shared) (own : ℕ → ℕ) {all : ℕ} (g : Mound s m own all) (v : Node) (c : ℕ) (a : PopAllowed m v c) where
   abbrev popped : Shared
@@ -345,19 +382,11 @@ module _ (s : Shape) (m : Shared) (own : ℕ → ℕ) {all : ℕ} (g : Mound s m
 
   pop-mound : Mound s popped own all
   unfolding effectShared
-  pop-mound =
-      still-mound s m popped own own g refl (λ y h. upd-other (m .node) 1 y v (λ z. omega (arith, h, z, root-there s m own g))) (pop-holds .0)
-      (pop-ordered AtMost item-refl item-trans (val m) (val popped) (λ y. m .node y .dirty) (λ y. popped .node y .dirty) (g .ordered)
-      (λ y p ne. ap valueOf (pop-others y p ne)) (λ y p ne. ap (λ z. z .dirty) (upd-other (m .node) 1 y v ne))
-      (ap (λ z. z .dirty) (pop-node ∙ a .value) ∙ updated-dirty (m .node 1) (m .cell c .next) 1))
+  pop-mound = root-mound s m popped own own g (m .cell c .next) refl (pop-node ∙ a .value) pop-others (pop-holds .0)
 
   pop-relies : Rely m popped
   unfolding effectShared
-  pop-relies =
-      let up : popped .node 1 .counter ≡ m .node 1 .counter + 1 =
-      ap (λ y. y .counter) (pop-node ∙ a .value) ∙ updated-counter (m .node 1) (m .cell c .next) 1 in
-      relies m popped 1 1 (omega arith) up up (λ y p ne _. pop-others y p ne) (λ p e z. absurd (omega arith))
-      (λ p e z. absurd (omega arith))
+  pop-relies = root-relies s m popped own own g (m .cell c .next) refl (pop-node ∙ a .value) pop-others (pop-holds .0)
 
   pub pop-counts : (i : Item) → counted s m i ≡ counted s popped i + pick (sameItem i (m .cell c .item)) 1 0
   pop-counts = pop-holds .1
@@ -510,12 +539,7 @@ module _ (s : Shape) (m m′ : Shared) (own own′ : ℕ → ℕ) {all : ℕ} (g
   begin-holds = held-begin s m m′ own own′ (g .held) t c lt ut some free others onto left nodes now still
 
   begin-mound : Mound s m′ own′ all
-  begin-mound =
-      still-mound s m m′ own own′ g depth (λ y h. ap (λ f. f y) nodes) (begin-holds .0)
-      (λ a x p h z.
-      subst₂ (λ u w. AtMost u w) (sym (ap valueOf (begin-reads a p)))
-      (sym (ap valueOf (begin-reads x (omega (arith, p, above-le a x h)))))
-      (g .ordered a x p h (ap (λ f. f a .dirty) (sym nodes) ∙ z)))
+  begin-mound = reads-mound s m m′ own own′ g depth begin-reads (begin-holds .0)
 
   pub begin-counts : (i : Item) → counted s m′ i ≡ counted s m i
   begin-counts = begin-holds .1
@@ -526,4 +550,90 @@ module _ (s : Shape) (m m′ : Shared) (own own′ : ℕ → ℕ) {all : ℕ} (g
         mound = begin-mound;
         rely = begin-relies;
         kept = λ u n. thread-items-stay s m own (g .held) (m′ .cell) c others u (λ e. omega (arith, e, begin-owner));
+      }
+
+-- Detaching the root's list to thread t.
+module _ (s : Shape) (m : Shared) (own own′ : ℕ → ℕ) {all : ℕ} (g : Mound s m own all) (t : ℕ) (v : Node) (lt : 1 ≤ t) (ut : t ≤ s .threads)
+    (a : DetachAllowed m own t v) (now : own′ t ≡ m .node 1 .first) (still : (u : ℕ) → (u ≡ t → ⊥) → own′ u ≡ own u) where
+  abbrev detached : Shared
+  detached = effectShared m (Detach v)
+
+  detach-others : (y : ℕ) → 1 ≤ y → (y ≡ 1 → ⊥) → readNode detached y ≡ readNode m y
+  unfolding effectShared
+  detach-others y p ne = read-same m detached y (upd-other (m .node) 1 y v ne) refl
+
+  detach-node : detached .node 1 ≡ updated (m .node 1) 0 1
+  unfolding effectShared
+  detach-node = upd-same (m .node) 1 v ∙ a .value
+
+  detach-holds : Held s detached own′ all
+      × ((i : Item) → counted s m i ≡ counted s detached i + among (sameItem i) (items (m .cell) (g .held .list 2)))
+  unfolding effectShared
+  detach-holds =
+      held-detach s m detached own own′ (g .held) t lt ut (in-tree s m own g 1 (root-there s m own g)) (a .hands) refl refl
+      (ap (λ z. z .first) detach-node ∙ updated-first (m .node 1) 0 1) (λ y ne. ap (λ z. z .first) (upd-other (m .node) 1 y v ne)) now still
+
+  pub detach-counts : (i : Item) → counted s m i ≡ counted s detached i + among (sameItem i) (items (m .cell) (g .held .list 2))
+  detach-counts = detach-holds .1
+
+  pub detach-keeps : Keeps s m detached own own′ all t
+  unfolding effectShared
+  detach-keeps =
+      record {
+        mound = root-mound s m detached own own′ g 0 refl detach-node detach-others (detach-holds .0);
+        rely = root-relies s m detached own own′ g 0 refl detach-node detach-others (detach-holds .0);
+        kept = λ u n is h. h;
+      }
+
+-- Freeing the first cell that thread t holds.
+module _ (s : Shape) (m : Shared) (own own′ : ℕ → ℕ) {all : ℕ} (g : Mound s m own all) (t c : ℕ) (lt : 1 ≤ t) (ut : t ≤ s .threads)
+    (a : FreeAllowed own t c) (left : own′ t ≡ m .cell c .next) (still : (u : ℕ) → (u ≡ t → ⊥) → own′ u ≡ own u) where
+  abbrev freed-one : Shared
+  freed-one = effectShared m (Free c)
+
+  -- the cell is the thread's, so no other chain has it
+  free-cell-owner : g .held .owner c ≡ 2 * t + 1
+  free-cell-owner =
+      subst (λ y. g .held .owner y ≡ 2 * t + 1) (a .mine) (own-owner s m own (g .held) t (omega (arith, a .mine, a .cell)))
+
+  free-cells : (d : ℕ) → (d ≡ c → ⊥) → freed-one .cell d ≡ m .cell d
+  unfolding effectShared
+  free-cells d ne = upd-other (m .cell) c d _ ne
+
+  free-others : (y : ℕ) → 1 ≤ y → readNode freed-one y ≡ readNode m y
+  unfolding effectShared
+  free-others y p = read-same m freed-one y refl (free-cells (m .node y .first) apart)
+    where
+      apart : m .node y .first ≡ c → ⊥
+      apart e =
+          let o = first-owner s m own (g .held) y p (omega (arith, e, a .cell)) in
+          omega (arith, o, free-cell-owner, ap (g .held .owner) e)
+
+  free-holds : Held s freed-one own′ all × ((i : Item) → counted s freed-one i ≡ counted s m i)
+  unfolding effectShared
+  free-holds =
+      held-free s m freed-one own own′ (g .held) t c lt ut (a .cell) (a .mine) free-cells (ap (λ z. z .next) (upd-same (m .cell) c _)) refl refl
+      left still
+
+  pub free-counts : (i : Item) → counted s freed-one i ≡ counted s m i
+  free-counts = free-holds .1
+
+  -- what the thread still holds
+  pub free-rest : ItemsStay (m .cell) (freed-one .cell) (m .cell c .next)
+  free-rest =
+      subst (λ y. ItemsStay (m .cell) (freed-one .cell) (m .cell y .next)) (a .mine)
+      (rest-stays s m own (g .held) (freed-one .cell) t (omega (arith, a .mine, a .cell))
+      (λ d ne. free-cells d (λ z. ne (z ∙ sym (a .mine)))))
+
+  free-mound : Mound s freed-one own′ all
+  unfolding effectShared
+  free-mound = reads-mound s m freed-one own own′ g refl free-others (free-holds .0)
+
+  pub free-keeps : Keeps s m freed-one own own′ all t
+  unfolding effectShared
+  free-keeps =
+      record {
+        mound = free-mound;
+        rely = rely-same m freed-one (omega arith) free-others;
+        kept = λ u ne. thread-items-stay s m own (g .held) (freed-one .cell) c free-cells u (λ e. ne (omega (arith, e, free-cell-owner)));
       }

@@ -5,14 +5,11 @@ use native.Mathlib.Omega.{arith}
 use mathlib.Core.Path.{_≡_, refl, sym, ap, subst, _∙_}
 use mathlib.Core.Bool.{true, false}
 use mathlib.Core.List.{List, [], _∷_}
-use lib.Dec.{eqb}
 use lib.Pow.{pow-mono}
 use Rattle.region.specs.Level.{level}
-use Rattle.region.specs.Pick.{pick}
-use Rattle.region.specs.Shape.{between}
 use Rattle.region.specs.Shared.{Shared}
 use Rattle.region.specs.declared.place.Place.{Place}
-use Rattle.region.specs.declared.place.Place.the-variants.{Idle, ReadDepth, ReadLeaf, ReadAncestor, GrowDepth, ReadTarget, InsertAtRoot, ReadParent, InsertBelow, ReadRoot, RemoveHead, MendReadNode, MendReadDepth, MendReadLeft, MendReadRight, MendSwap, MendClean}
+use Rattle.region.specs.declared.place.Place.the-variants.{Idle, ReadDepth, ReadLeaf, ReadAncestor, GrowDepth, ReadTarget, InsertAtRoot, ReadParent, InsertBelow, ReadRoot, RemoveHead, MendReadNode, MendReadDepth, MendReadLeft, MendReadRight, MendSwap, MendClean, ListReadRoot, RemoveList, HandOut}
 use Rattle.region.specs.declared.record.Item.{Item}
 use Rattle.region.specs.declared.record.NodeCopy.{NodeCopy}
 use Rattle.region.specs.declared.shape.Shape.{Shape}
@@ -21,8 +18,7 @@ use Rattle.region.specs.declared.thread.Search.{Search}
 use Rattle.region.specs.declared.thread.Thread.{Thread}
 use Rattle.access.specs.Order.{itemLe, val, valueOf}
 use Rattle.access.specs.Read.{readNode}
-use Rattle.mound.specs.Account.{isPutPlace}
-use Rattle.mound.specs.Ledger.{Operation, none, putting, taking, holding}
+use Rattle.mound.specs.Ledger.{Operation, none, putting, taking, listing, owing}
 use Rattle.mound.proofs.Chains.{HasItems, ItemsStay}
 use Rattle.mound.proofs.Effects.{Rely}
 use Rattle.mound.proofs.Sorted.{AtMost, Proper}
@@ -59,9 +55,20 @@ pub record Taking (m : Shared) (permission own : ℕ) (at op : Operation) : Type
   pub permitted : 1 ≤ permission
   pub has : HasItems (m .cell) own []
 
+-- a take of a list that has decided: the chain from its own cell has the items that it still owes
+pub record Handing (m : Shared) (permission own : ℕ) (op : Operation) : Type 0 where
+  pub first : Item
+  pub rest : List Item
+  pub operation : op ≡ owing first rest
+  pub permitted : 1 ≤ permission
+  pub has : HasItems (m .cell) own (first ∷ rest)
+
 -- the operation of a thread that mends: by after
-abbrev pub mendingFor : ℕ → Item → Operation
-mendingFor after result = pick (eqb after 1) (holding result) taking
+pub data MendsFor (m : Shared) (permission own : ℕ) (result : Item) (op : Operation) (after : ℕ) : Type 0 where
+  for-take : after ≡ 0 → Taking m permission own taking op → MendsFor m permission own result op after
+  for-answer : after ≡ 1 → Taking m permission own (owing result []) op → MendsFor m permission own result op after
+  for-list : after ≡ 2 → Taking m permission own listing op → MendsFor m permission own result op after
+  for-hands : after ≡ 3 → Handing m permission own op → MendsFor m permission own result op after
 
 -- node n exists and is no deeper than the present depth
 abbrev pub InTree : Shared → ℕ → Type 0
@@ -127,8 +134,14 @@ Puts m t op = Putting m (t .permission) (t .own) (t .item) op
 abbrev pub Takes : Shared → Thread → Operation → Operation → Type 0
 Takes m t at op = Taking m (t .permission) (t .own) at op
 
+abbrev pub Hands : Shared → Thread → Operation → Type 0
+Hands m t op = Handing m (t .permission) (t .own) op
+
+abbrev pub Purpose : Shared → Thread → Operation → Type 0
+Purpose m t op = MendsFor m (t .permission) (t .own) (t .result) op (t .after)
+
 abbrev pub Mends : Shared → Thread → Operation → Type 0
-Mends m t op = Takes m t (mendingFor (t .after) (t .result)) op × InTree m (t .node)
+Mends m t op = Purpose m t op × InTree m (t .node)
 
 -- what holds at each place
 abbrev pub At : Shape → Shared → Thread → Operation → Place → Type 0
@@ -152,30 +165,9 @@ At s m t op (MendReadRight w) =
     Mends m t op × Inner m (t .node) (t .copies .first) × ChildRead m (t .node) (t .copies .first) (2 * t .node) (t .copies .second)
 At s m t op (MendSwap w) = Mends m t op × Inner m (t .node) (t .copies .first) × Swappable m (t .node) (t .copies)
 At s m t op (MendClean w) = Mends m t op × Dirty m (t .node) (t .copies .first) × Mended m (t .node) (t .copies .first)
-
--- what a thread holds, by the items of the chain from its own cell: its put's item at I1 to I8, nothing elsewhere
-unfoldable pub heldItems : Thread → Place → List Item
-heldItems t p = pick (isPutPlace p) (t .item ∷ []) []
-
-pub held-items : (s : Shape) (m : Shared) (t : Thread) (op : Operation) (p : Place) → At s m t op p → HasItems (m .cell) (t .own) (heldItems t p)
-unfolding heldItems isPutPlace between pick
-held-items s m t op Idle h = h .1
-held-items s m t op ReadDepth h = h .has
-held-items s m t op ReadLeaf h = h .0 .has
-held-items s m t op ReadAncestor h = h .0 .has
-held-items s m t op GrowDepth h = h .0 .has
-held-items s m t op ReadTarget h = h .0 .has
-held-items s m t op InsertAtRoot h = h .0 .has
-held-items s m t op ReadParent h = h .0 .has
-held-items s m t op InsertBelow h = h .0 .has
-held-items s m t op ReadRoot h = h .has
-held-items s m t op RemoveHead h = h .0 .has
-held-items s m t op (MendReadNode w) h = h .0 .has
-held-items s m t op (MendReadDepth w) h = h .0 .0 .has
-held-items s m t op (MendReadLeft w) h = h .0 .0 .has
-held-items s m t op (MendReadRight w) h = h .0 .0 .has
-held-items s m t op (MendSwap w) h = h .0 .0 .has
-held-items s m t op (MendClean w) h = h .0 .0 .has
+At s m t op ListReadRoot = Takes m t listing op
+At s m t op RemoveList = Takes m t listing op × RootRead m (t .copies .first)
+At s m t op HandOut = Hands m t op
 
 pub sound-read : (m : Shared) (n : ℕ) → Sound m n (readNode m n)
 unfolding readNode
@@ -266,8 +258,27 @@ module _ (m m′ : Shared) (r : Rely m m′) where
     takes-stay : (at : Operation) → Takes m t at op → Takes m′ t at op
     takes-stay at h = record { operation = h .operation; permitted = h .permitted; has = kept [] (h .has) }
 
+    hands-stay : Hands m t op → Hands m′ t op
+    hands-stay h =
+        record {
+          first = h .first;
+          rest = h .rest;
+          operation = h .operation;
+          permitted = h .permitted;
+          has = kept (h .first ∷ h .rest) (h .has);
+        }
+
+    purpose-stays : Purpose m t op → Purpose m′ t op
+    purpose-stays (for-take e h) = for-take e (takes-stay taking h)
+    purpose-stays (for-answer e h) = for-answer e (takes-stay (owing (t .result) []) h)
+    purpose-stays (for-list e h) = for-list e (takes-stay listing h)
+    purpose-stays (for-hands e h) = for-hands e (hands-stay h)
+
     mends-stay : Mends m t op → Mends m′ t op
-    mends-stay h = (takes-stay _ (h .0), in-tree-stays (t .node) (h .1))
+    mends-stay h = (purpose-stays (h .0), in-tree-stays (t .node) (h .1))
+
+    root-read-stays : RootRead m (t .copies .first) → RootRead m′ (t .copies .first)
+    root-read-stays h = record { sound = sound-stays 1 (t .copies .first) (omega arith) (h .sound); clean = h .clean; some = h .some }
 
     pub stays : (s : Shape) (p : Place) → At s m t op p → At s m′ t op p
     stays s Idle h = (h .0, kept [] (h .1))
@@ -294,10 +305,7 @@ module _ (m m′ : Shared) (r : Rely m m′) where
       record { sound = sound-stays (t .node / 2) (t .copies .second) (omega (arith, h .2)) (h .4 .sound); most = h .4 .most },
     )
     stays s ReadRoot h = takes-stay taking h
-    stays s RemoveHead h = (
-      takes-stay taking (h .0),
-      record { sound = sound-stays 1 (t .copies .first) (omega arith) (h .1 .sound); clean = h .1 .clean; some = h .1 .some },
-    )
+    stays s RemoveHead h = (takes-stay taking (h .0), root-read-stays (h .1))
     stays s (MendReadNode w) h = mends-stay h
     stays s (MendReadDepth w) h = (mends-stay (h .0), sound-stays (t .node) (t .copies .first) (h .0 .1 .0) (h .1))
     stays s (MendReadLeft w) h = (mends-stay (h .0), inner-stays (t .node) (t .copies .first) (h .0 .1 .0) (h .1))
@@ -316,3 +324,6 @@ module _ (m m′ : Shared) (r : Rely m m′) where
       dirty-stays (t .node) (t .copies .first) (h .0 .1 .0) (h .1),
       mended-stays (t .node) (t .copies .first) (h .0 .1 .0) (h .1 .sound) (h .2),
     )
+    stays s ListReadRoot h = takes-stay listing h
+    stays s RemoveList h = (takes-stay listing (h .0), root-read-stays (h .1))
+    stays s HandOut h = hands-stay h

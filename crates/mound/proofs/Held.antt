@@ -1,11 +1,11 @@
 -- Which list, thread or free chain holds a cell: none is held twice, lists never fall, and no effect changes how many cells are held.
--- What a beginning, a push, a pop and an exchange make of it, and of the tree's count. Assumes nothing.
+-- What a beginning, a push, a pop, an exchange, a detaching and a freeing make of it, and of the tree's count. Assumes nothing.
 use Prim.Native.Nat.{ℕ, _+_, _*_, _≤_}
 use native.Mathlib.Decide.{ℕ-discrete}
 use native.Mathlib.Omega.{arith}
 use mathlib.Core.Path.{_≡_, refl, sym, ap, subst, _∙_}
 use mathlib.Core.Bool.{Bool}
-use mathlib.Core.List.{List, _∷_}
+use mathlib.Core.List.{List, [], _∷_}
 use lib.ListN.{length}
 use Rattle.region.specs.Pick.{pick}
 use Rattle.region.specs.Shape.{nodeCount}
@@ -17,7 +17,7 @@ use Rattle.access.specs.Order.{topItem, val, valueOf}
 use Rattle.access.specs.Read.{readNode}
 use Rattle.mound.specs.Tree.{inNodes, sameItem}
 use Rattle.mound.proofs.Cells.{Chains, Moved, Exchanged, move, exchange}
-use Rattle.mound.proofs.Chains.{Chain, ItemsStay, among, first-owned, items, items-stay, tail-stays}
+use Rattle.mound.proofs.Chains.{Chain, ItemsStay, among, first-owned, items, items-stay, no-cells, tail-stays}
 use Rattle.mound.proofs.Counts.{inChain, tree-counts}
 use Rattle.mound.proofs.Holders.{Holder, free-holds, head-free, head-node, head-still, head-thread, heads, node-holds, over-has, over-two, overAll, thread-holds}
 use Rattle.mound.proofs.Sorted.{AtMost, Proper, Sorted, from-head, head-least, head-proper, head-counted, top-value}
@@ -173,6 +173,16 @@ module _ (s : Shape) (m m′ : Shared) (own own′ : ℕ → ℕ) {all : ℕ} (h
           (subst Sorted (mv .items-o) (subst (λ x. Sorted (items (m .cell) (h .list x))) e (h .sorted n p)) .2)
       go n p (no a) (no b) = subst Sorted (sym (mv .items-x (2 * n) b a)) (h .sorted n p)
 
+  -- between two holders that are no nodes: the tree's count stays
+  pub aside-counted : ((n : ℕ) → 1 ≤ n → 2 * n ≡ o → ⊥) → ((n : ℕ) → 1 ≤ n → 2 * n ≡ q → ⊥) → (i : Item) → counted s m′ i ≡ counted s m i
+  unfolding inChain held-moved
+  aside-counted no-o no-q i =
+      let same = sameItem i in
+      counts s m′ own′ held-moved same
+      ∙ sum-same (inChain (m .cell) (h .list) same) (inChain (m′ .cell) (mv .lists) same) (nodeCount s)
+      (λ k l u. ap (among same) (mv .items-x (2 * k) (no-o k l) (no-q k l)))
+      ∙ sym (counts s m own h same)
+
 -- Holders o and q exchange their chains, which are sorted where the new holder is a node.
 module _ (s : Shape) (m m′ : Shared) (own own′ : ℕ → ℕ) {all : ℕ} (h : Held s m own all) (o q : ℕ) (one : Holder s o) (other : Holder s q)
     (apart : o ≡ q → ⊥) (cells : m′ .cell ≡ m .cell) (ex : Exchanged (m .cell) (heads (m′ .free) (m′ .node) own′) (h .list) o q)
@@ -218,21 +228,40 @@ module _ (s : Shape) (m m′ : Shared) (own own′ : ℕ → ℕ) {all : ℕ} (h
       (λ x n k. head-still (m .free) (m .node) own (m′ .free) (m′ .node) own′ x (λ z. absurd (n z)) (λ y p e. ap (λ f. f y .first) nodes)
       (λ u e. still u (λ z. k (e ∙ ap (λ y. 2 * y + 1) z))))
 
-  begin-held : Held s m′ own′ all
-  begin-held =
-      held-moved s m m′ own own′ h 0 (2 * t + 1) c free-holds (thread-holds t lt ut) (λ z. omega arith) begin-move (λ n p e. absurd (omega arith))
-
-  begin-counted : (i : Item) → counted s m′ i ≡ counted s m i
-  unfolding inChain held-moved begin-held begin-move
-  begin-counted i =
-      let same = sameItem i in
-      counts s m′ own′ begin-held same
-      ∙ sum-same (inChain (m .cell) (h .list) same) (inChain (m′ .cell) (begin-move .lists) same) (nodeCount s)
-      (λ k l u. ap (among same) (begin-move .items-x (2 * k) (λ z. omega arith) (λ z. omega arith)))
-      ∙ sym (counts s m own h same)
+  begin-fits : (n : ℕ) → 1 ≤ n → 2 * t + 1 ≡ 2 * n → Sorted (m′ .cell c .item ∷ items (m .cell) (h .list (2 * t + 1)))
+  begin-fits n p e = absurd (omega arith)
 
   pub held-begin : Held s m′ own′ all × ((i : Item) → counted s m′ i ≡ counted s m i)
-  held-begin = (begin-held, begin-counted)
+  held-begin = (
+    held-moved s m m′ own own′ h 0 (2 * t + 1) c free-holds (thread-holds t lt ut) (λ z. omega arith) begin-move begin-fits,
+    aside-counted s m m′ own own′ h 0 (2 * t + 1) c free-holds (thread-holds t lt ut) (λ z. omega arith) begin-move begin-fits
+        (λ n p z. omega arith) (λ n p z. omega arith),
+  )
+
+-- A freeing: the head c of thread t's chain goes to the front of the free chain.
+module _ (s : Shape) (m m′ : Shared) (own own′ : ℕ → ℕ) {all : ℕ} (h : Held s m own all) (t c : ℕ) (lt : 1 ≤ t) (ut : t ≤ s .threads) (some : 1 ≤ c)
+    (mine : own t ≡ c) (others : (d : ℕ) → (d ≡ c → ⊥) → m′ .cell d ≡ m .cell d) (onto : m′ .cell c .next ≡ m .free)
+    (free : m′ .free ≡ c) (nodes : m′ .node ≡ m .node) (left : own′ t ≡ m .cell c .next)
+    (still : (u : ℕ) → (u ≡ t → ⊥) → own′ u ≡ own u) where
+  free-move : Moved (m .cell) (m′ .cell) (heads (m′ .free) (m′ .node) own′) (h .list) (2 * t + 1) 0 c
+  free-move =
+      move (m .cell) (m′ .cell) (h .owner) (h .rank) (heads (m .free) (m .node) own) (heads (m′ .free) (m′ .node) own′)
+      (h .list) (h .chains)
+      (2 * t + 1) 0 c (λ z. omega arith) some (head-thread (m .free) (m .node) own t ∙ mine) others
+      (onto ∙ sym (head-free (m .free) (m .node) own))
+      (head-thread (m′ .free) (m′ .node) own′ t ∙ left) (head-free (m′ .free) (m′ .node) own′ ∙ free)
+      (λ x n k. head-still (m .free) (m .node) own (m′ .free) (m′ .node) own′ x (λ z. absurd (k z)) (λ y p e. ap (λ f. f y .first) nodes)
+      (λ u e. still u (λ z. n (e ∙ ap (λ y. 2 * y + 1) z))))
+
+  free-fits : (n : ℕ) → 1 ≤ n → 0 ≡ 2 * n → Sorted (m′ .cell c .item ∷ items (m .cell) (h .list 0))
+  free-fits n p e = absurd (omega arith)
+
+  pub held-free : Held s m′ own′ all × ((i : Item) → counted s m′ i ≡ counted s m i)
+  held-free = (
+    held-moved s m m′ own own′ h (2 * t + 1) 0 c (thread-holds t lt ut) free-holds (λ z. omega arith) free-move free-fits,
+    aside-counted s m m′ own own′ h (2 * t + 1) 0 c (thread-holds t lt ut) free-holds (λ z. omega arith) free-move free-fits
+        (λ n p z. omega arith) (λ n p z. omega arith),
+  )
 
 -- A push: the head c of thread t's chain becomes that of node n's list.
 module _ (s : Shape) (m m′ : Shared) (own own′ : ℕ → ℕ) {all : ℕ} (h : Held s m own all) (t n c : ℕ) (lt : 1 ≤ t) (ut : t ≤ s .threads) (ln : 1 ≤ n)
@@ -343,3 +372,43 @@ module _ (s : Shape) (m m′ : Shared) (own : ℕ → ℕ) {all : ℕ} (h : Held
 
   pub held-exchange : Held s m′ own all × ((i : Item) → counted s m′ i ≡ counted s m i)
   held-exchange = (exchange-held, exchange-counted)
+
+-- A detaching: the root's list becomes what thread t holds, which held nothing.
+module _ (s : Shape) (m m′ : Shared) (own own′ : ℕ → ℕ) {all : ℕ} (h : Held s m own all) (t : ℕ) (lt : 1 ≤ t) (ut : t ≤ s .threads)
+    (root : 1 ≤ nodeCount s) (none : own t ≡ 0) (cells : m′ .cell ≡ m .cell) (free : m′ .free ≡ m .free) (emptied : m′ .node 1 .first ≡ 0)
+    (elsewhere : (x : ℕ) → (x ≡ 1 → ⊥) → m′ .node x .first ≡ m .node x .first) (now : own′ t ≡ m .node 1 .first)
+    (still : (u : ℕ) → (u ≡ t → ⊥) → own′ u ≡ own u) where
+  detach-lists : Exchanged (m .cell) (heads (m′ .free) (m′ .node) own′) (h .list) 2 (2 * t + 1)
+  detach-lists =
+      exchange (m .cell) (h .owner) (h .rank) (heads (m .free) (m .node) own) (heads (m′ .free) (m′ .node) own′) (h .list) (h .chains)
+      2 (2 * t + 1) (λ z. omega arith)
+      (head-node (m′ .free) (m′ .node) own′ 1 (omega arith) ∙ emptied ∙ sym none ∙ sym (head-thread (m .free) (m .node) own t))
+      (head-thread (m′ .free) (m′ .node) own′ t ∙ now ∙ sym (head-node (m .free) (m .node) own 1 (omega arith)))
+      (λ x a b. head-still (m .free) (m .node) own (m′ .free) (m′ .node) own′ x (λ z. free)
+      (λ y p e. elsewhere y (λ z. a (e ∙ ap (λ k. 2 * k) z))) (λ u e. still u (λ z. b (e ∙ ap (λ k. 2 * k + 1) z))))
+
+  held-nothing : h .list (2 * t + 1) ≡ []
+  held-nothing = no-cells (thread-chain s m own h t) none
+
+  detach-held : Held s m′ own′ all
+  unfolding items
+  detach-held =
+      held-exchanged s m m′ own own′ h 2 (2 * t + 1) (node-holds 1 (omega arith) root) (thread-holds t lt ut) (λ z. omega arith) cells detach-lists
+      (λ n p e. subst (λ l. Sorted (items (m .cell) l)) (sym held-nothing) tt) (λ n p e. absurd (omega arith))
+
+  -- the list's copies leave the count
+  detach-counted : (i : Item) → counted s m i ≡ counted s m′ i + among (sameItem i) (items (m .cell) (h .list 2))
+  unfolding inChain sum among items held-exchanged detach-held detach-lists
+  detach-counted i =
+      let same = sameItem i in
+      let a = sum-but (inChain (m .cell) (h .list) same) (inChain (m .cell) (detach-lists .lists) same) (nodeCount s) 1 (omega arith) root
+      (λ x p q. ap (λ l. among same (items (m .cell) l)) (detach-lists .list-x (2 * x) (λ z. q (omega arith)) (λ z. omega arith))) in
+      let b : inChain (m .cell) (detach-lists .lists) same 1 ≡ 0 =
+      ap (λ l. among same (items (m .cell) l)) (detach-lists .list-o ∙ held-nothing) in
+      let c : counted s m′ i ≡ sum (inChain (m .cell) (detach-lists .lists) same) (nodeCount s) =
+      counts s m′ own′ detach-held same
+      ∙ ap (λ cell. sum (λ x. among same (items cell (detach-lists .lists (2 * x)))) (nodeCount s)) cells in
+      omega (arith, c, counts s m own h same, a, b)
+
+  pub held-detach : Held s m′ own′ all × ((i : Item) → counted s m i ≡ counted s m′ i + among (sameItem i) (items (m .cell) (h .list 2)))
+  held-detach = (detach-held, detach-counted)

@@ -5,6 +5,7 @@ use native.Mathlib.Nat.{div-le-self, le-div-iff-mul-le, mod-lt, pow-suc}
 use native.Mathlib.Omega.{arith}
 use mathlib.Core.Path.{_≡_, refl, sym, ap, subst, _∙_}
 use mathlib.Core.Bool.{Bool, true, false, not, _&&_, _||_, true≢false}
+use mathlib.Core.List.{List, [], _∷_}
 use mathlib.Core.Logic.{_⊎_, inl, inr}
 use borrow.Author.Tests.{ltb-true, eqb-true, eqb-false, ne-eqb, lt-ltb, le-ltb}
 use lib.Dec.{ltb, eqb}
@@ -15,11 +16,11 @@ use Rattle.region.specs.Pick.{pick}
 use Rattle.region.specs.Shape.{between, nodeCount}
 use Rattle.region.specs.Inner.{InRange}
 use Rattle.region.specs.Shared.{Shared}
-use Rattle.region.specs.Thread.{goneIdle, mending, atPlace, withDepth, withSearch, withNode, withAfter, withResult, withCopies, withFirst, withSecond, withThird}
+use Rattle.region.specs.Thread.{goneIdle, mending, atPlace, withOwn, withDepth, withSearch, withNode, withAfter, withResult, withCopies, withFirst, withSecond, withThird}
 use Rattle.region.specs.declared.answer.Answer.{Answer}
 use Rattle.region.specs.declared.answer.Answer.the-variants.{Moved, Idle as AnswersIdle, Inserted, Took, Empty, Refused}
 use Rattle.region.specs.declared.place.Place.{Place}
-use Rattle.region.specs.declared.place.Place.the-variants.{Idle, ReadDepth, ReadLeaf, ReadAncestor, GrowDepth, ReadTarget, InsertAtRoot, ReadParent, InsertBelow, ReadRoot, RemoveHead, MendReadNode, MendReadDepth, MendReadLeft, MendReadRight, MendSwap, MendClean}
+use Rattle.region.specs.declared.place.Place.the-variants.{Idle, ReadDepth, ReadLeaf, ReadAncestor, GrowDepth, ReadTarget, InsertAtRoot, ReadParent, InsertBelow, ReadRoot, RemoveHead, MendReadNode, MendReadDepth, MendReadLeft, MendReadRight, MendSwap, MendClean, ListReadRoot, RemoveList, HandOut}
 use Rattle.region.specs.declared.record.Item.{Item}
 use Rattle.region.specs.declared.record.Node.{Node}
 use Rattle.region.specs.declared.record.NodeCopy.{NodeCopy}
@@ -38,13 +39,14 @@ use Rattle.access.proofs.OrderLaws.{item-not-less, item-refl, item-total, item-
 use Rattle.access.proofs.ReadLaws.{is-clean, is-dirty, same-node}
 use Rattle.insert.specs.Insert.{searching, readDepth, searchOn, leafOf, nextTries, failedPlace, afterFailedTry, afterLeafRead, readLeaf, afterAncestorRead, middleLevel, hasMiddle, readAncestor, growDepth, targetPlace, readTarget, insertAt, insertAtRoot, readParent, nodeAndParentSame, insertBelow}
 use Rattle.insert.proofs.Laws.{node-same, parent-same}
-use Rattle.extract.specs.Extract.{afterRootRead, readRoot, afterRemoval, removeHead}
-use Rattle.moundify.specs.Moundify.{returning, mendReadNode, afterDepthRead, mendReadDepth, mendReadLeft, marked, lessBelow, childLess, afterChildrenRead, mendReadRight, exchangeAt, nodeAndChildSame, exchangeWith, mendSwap, cleanAt, mendClean, returned, returnAnswer}
+use Rattle.extract.specs.Extract.{afterListRemoval, afterRemoval, afterRootRead, casRoot, handOut, handedOut, listReadRoot, readRoot, removeHead, removeList}
+use Rattle.moundify.specs.Moundify.{returning, mendReadNode, afterDepthRead, mendReadDepth, mendReadLeft, marked, lessBelow, childLess, afterChildrenRead, mendReadRight, exchangeAt, nodeAndChildSame, exchangeWith, mendSwap, cleanAt, mendClean, placeAfter, returned, returnAnswer}
 use Rattle.machine.specs.Turn.{decide, decideAt}
-use Rattle.mound.specs.Ledger.{Operation, none, putting, taking, holding}
-use Rattle.mound.proofs.Effects.{Mound, PushAllowed, PopAllowed, ExchangeAllowed, CleanAllowed, in-tree}
-use Rattle.mound.proofs.Facts.{At, AnyValue, Child, ChildRead, Dirty, InTree, Inner, LevelRead, Mended, Mends, Parent, Puts, RootRead, Searching, Sound, Swappable, Takes, Target, mendingFor, sound-read}
-use Rattle.mound.proofs.Held.{val-top}
+use Rattle.mound.specs.Ledger.{Operation, Undecided, none, one-item, owing, putting, listing, stillOwing, taking, whole-list}
+use Rattle.mound.proofs.Chains.{HasItems, some-items}
+use Rattle.mound.proofs.Effects.{Mound, PushAllowed, PopAllowed, ExchangeAllowed, CleanAllowed, DetachAllowed, FreeAllowed, in-tree}
+use Rattle.mound.proofs.Facts.{At, AnyValue, Child, ChildRead, Dirty, Hands, InTree, Inner, LevelRead, Mended, Mends, Parent, Purpose, Puts, RootRead, Searching, Sound, Swappable, Takes, Target, for-answer, for-hands, for-list, for-take, sound-read}
+use Rattle.mound.proofs.Held.{node-chain, val-top}
 use Rattle.mound.proofs.Order.{Above, below-children}
 use Rattle.mound.proofs.Sorted.{AtMost, valueAt}
 
@@ -56,6 +58,8 @@ Allowed s m own t (Push n v c x) = PushAllowed m own t n v c x
 Allowed s m own t (Pop v c) = PopAllowed m v c
 Allowed s m own t (Exchange n v k w) = (j : ℕ) × ExchangeAllowed m n v k w j
 Allowed s m own t (Clean n v) = CleanAllowed m n v
+Allowed s m own t (Detach v) = DetachAllowed m own t v
+Allowed s m own t (Free c) = FreeAllowed own t c
 
 -- the thread's operation before and after a turn with this effect and this answer
 pub data OperationAfter (m : Shared) (op op′ : Operation) : Effect → Answer → Type 0 where
@@ -65,10 +69,14 @@ pub data OperationAfter (m : Shared) (op op′ : Operation) : Effect → Answer 
   cleans : {n : ℕ} {v : Node} → op′ ≡ op → OperationAfter m op op′ (Clean n v) Moved
   inserts : {n c x : ℕ} {v : Node} (i : Item) → op ≡ putting i → m .cell c .item ≡ i → op′ ≡ none
       → OperationAfter m op op′ (Push n v c x) Inserted
-  removes : {v : Node} {c : ℕ} → op ≡ taking → op′ ≡ holding (m .cell c .item) → OperationAfter m op op′ (Pop v c) Moved
-  empties : op ≡ taking → op′ ≡ none → m .node 1 .dirty ≡ 0 → m .node 1 .first ≡ 0 → OperationAfter m op op′ Nothing Empty
-  answers : {i : Item} → op ≡ holding i → op′ ≡ none → OperationAfter m op op′ Nothing (Took i)
-  cleans-answers : {n : ℕ} {v : Node} {i : Item} → op ≡ holding i → op′ ≡ none → OperationAfter m op op′ (Clean n v) (Took i)
+  removes : {v : Node} {c : ℕ} → op ≡ taking → op′ ≡ owing (m .cell c .item) [] → OperationAfter m op op′ (Pop v c) Moved
+  detaches : {v : Node} (i : Item) (is : List Item) → op ≡ listing → HasItems (m .cell) (m .node 1 .first) (i ∷ is) → op′ ≡ owing i is
+      → OperationAfter m op op′ (Detach v) Moved
+  empties : {o : Operation} → op ≡ o → Undecided o → op′ ≡ none → m .node 1 .dirty ≡ 0 → m .node 1 .first ≡ 0
+      → OperationAfter m op op′ Nothing Empty
+  answers : {i : Item} → op ≡ owing i [] → op′ ≡ none → OperationAfter m op op′ Nothing (Took i)
+  cleans-answers : {n : ℕ} {v : Node} {i : Item} → op ≡ owing i [] → op′ ≡ none → OperationAfter m op op′ (Clean n v) (Took i)
+  hands-out : {c : ℕ} {i : Item} (is : List Item) → op ≡ owing i is → op′ ≡ stillOwing is → OperationAfter m op op′ (Free c) (Took i)
 
 -- a turn with such an effect and answer is carried out
 pub operation-moves : {m : Shared} {op op′ : Operation} {e : Effect} {a : Answer} → OperationAfter m op op′ e a → changesNothing a ≡ false
@@ -78,11 +86,13 @@ operation-moves (swaps k) = refl
 operation-moves (cleans k) = refl
 operation-moves (inserts i x y z) = refl
 operation-moves (removes x y) = refl
-operation-moves (empties x y z w) = refl
+operation-moves (detaches i is x y z) = refl
+operation-moves (empties x y z w u) = refl
 operation-moves (answers x y) = refl
 operation-moves (cleans-answers x y) = refl
+operation-moves (hands-out is x y) = refl
 
--- the own cell afterwards: a push takes it and leaves the one behind it, nothing else changes it
+-- the own cell afterwards: a push or a freeing takes it and leaves the one behind it, a detaching gives the root's first, nothing else changes it
 abbrev pub OwnAfter : Shared → Effect → ℕ → ℕ → Type 0
 OwnAfter m Nothing o o′ = o′ ≡ o
 OwnAfter m (Grow d) o o′ = o′ ≡ o
@@ -90,6 +100,8 @@ OwnAfter m (Push n v c x) o o′ = o′ ≡ m .cell c .next
 OwnAfter m (Pop v c) o o′ = o′ ≡ o
 OwnAfter m (Exchange n v k w) o o′ = o′ ≡ o
 OwnAfter m (Clean n v) o o′ = o′ ≡ o
+OwnAfter m (Detach v) o o′ = o′ ≡ m .node 1 .first
+OwnAfter m (Free c) o o′ = o′ ≡ m .cell c .next
 
 pub data Planned (s : Shape) (m : Shared) (own : ℕ → ℕ) (t : ℕ) (o : ℕ) (op : Operation) (p : Plan) : Type 0 where
   rests : p .effect ≡ Nothing → p .answer ≡ AnswersIdle → Planned s m own t o op p
@@ -151,6 +163,9 @@ module _ (s : Shape) (r : InRange s) (m : Shared) (own : ℕ → ℕ) {all : ℕ
   at-place u o (MendReadRight w) h = h
   at-place u o (MendSwap w) h = h
   at-place u o (MendClean w) h = h
+  at-place u o ListReadRoot h = h
+  at-place u o RemoveList h = h
+  at-place u o HandOut h = h
 
   -- plans of each kind
   goes-on : (u : Thread) (x : Place) → u .own ≡ th .own → At s m u op x → Fits (onTo u x)
@@ -161,7 +176,7 @@ module _ (s : Shape) (r : InRange s) (m : Shared) (own : ℕ → ℕ) {all : ℕ
   unfolding refused plan
   is-refused u = refuses refl refl
 
-  mends-on : (u : Thread) (n w : ℕ) → u .own ≡ th .own → Takes m u (mendingFor (u .after) (u .result)) op → InTree m n
+  mends-on : (u : Thread) (n w : ℕ) → u .own ≡ th .own → Purpose m u op → InTree m n
       → Fits (moved (mending u n w))
   unfolding moved plan mending atPlace withNode
   mends-on u n w e h k = moves op tt (reads refl) e (h, k)
@@ -350,65 +365,137 @@ module _ (s : Shape) (r : InRange s) (m : Shared) (own : ℕ → ℕ) {all : ℕ
       neither true q e z = e
       neither false q e z = z
 
-  -- E1
-  root-planned : Takes m th taking op → Fits (readRoot m th)
-  unfolding readRoot afterRootRead withFirst withCopies withAfter plan goneIdle readNode pick
-  root-planned h =
+  -- E1 and 17: o is the operation, whose mending comes back here
+  root-read-planned : (o : Operation) → Undecided o → (after : ℕ) (next : Place) → Takes m th o op
+      → Purpose m (withAfter (withFirst th (readNode m 1)) after) op
+      → (RootRead m (readNode m 1) → At s m (withFirst th (readNode m 1)) op next) → Fits (afterRootRead th (readNode m 1) after next)
+  unfolding afterRootRead withFirst withCopies withAfter plan goneIdle readNode
+  root-read-planned o un after next h back there =
       let q = readNode m 1 in
       pick-good Fits (isDirty (q .node))
-      (λ e. mends-on (withAfter (withFirst th q) 0) 1 0 refl h root-in-tree)
+      (λ e. mends-on (withAfter (withFirst th q) after) 1 0 refl back root-in-tree)
       (λ e. pick-good Fits (eqb (q .node .first) 0)
-      (λ z. moves none tt (empties (h .operation) refl (is-clean (q .node) e) (eqb-true (q .node .first) 0 z)) (sym (h .has))
+      (λ z. moves none tt (empties (h .operation) un refl (is-clean (q .node) e) (eqb-true (q .node .first) 0 z)) (sym (h .has))
       (refl, refl))
       (λ z. let ne = eqb-false (q .node .first) 0 z in
-      goes-on (withFirst th q) RemoveHead refl (h, record { sound = sound-read m 1; clean = is-clean (q .node) e; some = omega arith })))
+      goes-on (withFirst th q) next refl (there (record { sound = sound-read m 1; clean = is-clean (q .node) e; some = omega arith }))))
 
-  -- E2
-  head-planned : Takes m th taking op → RootRead m (th .copies .first) → Fits (removeHead m th)
-  unfolding removeHead afterRemoval plan mending atPlace withNode withAfter withResult pick
-  head-planned h a =
+  root-planned : Takes m th taking op → Fits (readRoot m th)
+  unfolding readRoot withFirst withCopies withAfter
+  root-planned h = root-read-planned taking one-item 0 RemoveHead h (for-take refl h) (λ a. (h, a))
+
+  list-root-planned : Takes m th listing op → Fits (listReadRoot m th)
+  unfolding listReadRoot withFirst withCopies withAfter
+  list-root-planned h = root-read-planned listing whole-list 2 RemoveList h (for-list refl h) (λ a. (h, a))
+
+  -- E2 and 18: the copy is found, or the thread goes back
+  root-cas-planned : (back : Place) (removed : Plan) → RootRead m (th .copies .first) → At s m th op back
+      → (readNode m 1 ≡ th .copies .first → Fits removed) → Fits (casRoot m th back removed)
+  unfolding casRoot
+  root-cas-planned back removed a h there =
       let q = th .copies .first in
       pick-good Fits (sameNode (m .node 1) (q .node))
       (λ y. pick-good Fits (eqb (q .node .first) 0) (λ e. absurd (let z = eqb-true (q .node .first) 0 e in omega (arith, z, a .some)))
-      (λ e. pick-good Fits (isSpent (q .node)) (λ z. is-refused th)
-      (λ z. let f = found 1 q (a .sound) y in
-      let fn = found-node 1 q f in
+      (λ e. pick-good Fits (isSpent (q .node)) (λ z. is-refused th) (λ z. there (found 1 q (a .sound) y))))
+      (λ y. goes-on th back refl h)
+
+  head-planned : Takes m th taking op → RootRead m (th .copies .first) → Fits (removeHead m th)
+  unfolding removeHead afterRemoval plan mending atPlace withNode withAfter withResult
+  head-planned h a =
+      let q = th .copies .first in
+      root-cas-planned ReadRoot _ a h
+      (λ f. let fn = found-node 1 q f in
       let fh = found-head 1 q f in
-      moves (holding (q .head .item))
+      moves (owing (q .head .item) [])
       (record {
         clean = ap (λ x. x .dirty) fn ∙ a .clean;
         head = ap (λ x. x .first) fn;
         cell = a .some;
         value = ap (λ x. updated x (q .head .next) 1) (sym fn) ∙ ap (λ c. updated (m .node 1) (c .next) 1) (sym fh);
       })
-      (removes (h .operation) (ap (λ c. holding (c .item)) (sym fh))) refl
-      (record { operation = refl; permitted = h .permitted; has = h .has }, root-in-tree))))
-      (λ y. goes-on th ReadRoot refl h)
+      (removes (h .operation) (ap (λ c. owing (c .item) []) (sym fh))) refl
+      (for-answer refl (record { operation = refl; permitted = h .permitted; has = h .has }), root-in-tree))
+
+  -- the root's list, which the thread will have in hand
+  list-planned : Takes m th listing op → RootRead m (th .copies .first) → Fits (removeList m th)
+  unfolding removeList afterListRemoval plan mending atPlace withNode withAfter withOwn
+  list-planned h a =
+      let q = th .copies .first in
+      root-cas-planned ListReadRoot _ a h
+      (λ f. let fn = found-node 1 q f in
+      let first : m .node 1 .first ≡ q .node .first = ap (λ x. x .first) fn in
+      let some : 1 ≤ m .node 1 .first = omega (arith, first, a .some) in
+      let l = some-items (node-chain s m own (g .held) 1 (omega arith)) some in
+      moves (owing (l .first) (l .rest))
+      (record {
+        clean = ap (λ x. x .dirty) fn ∙ a .clean;
+        some = some;
+        hands = mine ∙ h .has;
+        value = ap (λ x. updated x 0 1) (sym fn);
+      })
+      (detaches (l .first) (l .rest) (h .operation) (l .has) refl) (sym first) (
+        for-hands refl
+            (record {
+              first = l .first;
+              rest = l .rest;
+              operation = refl;
+              permitted = h .permitted;
+              has = subst (λ c. HasItems (m .cell) c (l .first ∷ l .rest)) first (l .has);
+            }),
+        root-in-tree,
+      ))
+
+  -- 19: an item of several, or the last
+  hand-planned : Hands m th op → Fits (handOut m th)
+  unfolding handOut handedOut plan goneIdle atPlace withOwn
+  hand-planned h =
+      let c = th .own in
+      pick-good Fits (eqb c 0) (λ e. absurd (let z = eqb-true c 0 e in omega (arith, z, h .has .0)))
+      (λ e. pick-good (λ v. Fits (record { effect = Free c; thread = v; answer = Took (m .cell c .item) })) (eqb (m .cell c .next) 0)
+      (λ z. last (h .rest) (h .has .2) (h .operation) (eqb-true (m .cell c .next) 0 z))
+      (λ z. further (h .rest) (h .has .2) (h .operation) (eqb-false (m .cell c .next) 0 z)))
+    where
+      allowed : FreeAllowed own t (th .own)
+      allowed = record { mine = mine; cell = h .has .0 }
+
+      owes : (is : List Item) → op ≡ owing (h .first) is → op ≡ owing (m .cell (th .own) .item) is
+      owes is e = e ∙ ap (λ i. owing i is) (sym (h .has .1))
+
+      last : (is : List Item) → HasItems (m .cell) (m .cell (th .own) .next) is → op ≡ owing (h .first) is → m .cell (th .own) .next ≡ 0
+          → Fits (record { effect = Free (th .own); thread = goneIdle th; answer = Took (m .cell (th .own) .item) })
+      last [] k e z = moves none allowed (hands-out [] (owes [] e) refl) (sym z) (refl, refl)
+      last (i ∷ is) k e z = absurd (omega (arith, k .0, z))
+
+      further : (is : List Item) → HasItems (m .cell) (m .cell (th .own) .next) is → op ≡ owing (h .first) is → (m .cell (th .own) .next ≡ 0 → ⊥)
+          → Fits
+          (record { effect = Free (th .own); thread = atPlace (withOwn th (m .cell (th .own) .next)) HandOut; answer = Took (m .cell (th .own) .item) })
+      further [] k e n = absurd (n k)
+      further (i ∷ is) k e n =
+          moves (owing i is) allowed (hands-out (i ∷ is) (owes (i ∷ is) e) refl) refl
+          (record { first = i; rest = is; operation = refl; permitted = h .permitted; has = k })
 
   -- Mending, with the waiting levels w.
   module _ (w : ℕ) where
     -- a return, after no effect or a cleaning
     return-planned : (e : Effect) (u : Thread) → u .own ≡ th .own → Mends m u op → Allowed s m own t e
         → ((o : ℕ) → o ≡ th .own → OwnAfter m e (th .own) o) → ((o : Operation) → o ≡ op → OperationAfter m op o e Moved)
-        → ((i : Item) → op ≡ holding i → OperationAfter m op none e (Took i)) → Fits (returning e u w)
-    unfolding returning returned returnAnswer plan mending atPlace withNode goneIdle pick
-    return-planned e u eo h al ow quiet tell = go (eqb w 0) refl (eqb (u .after) 1) refl
+        → ((i : Item) → op ≡ owing i [] → OperationAfter m op none e (Took i)) → Fits (returning e u w)
+    unfolding returning returned returnAnswer placeAfter plan mending atPlace withNode goneIdle pick
+    return-planned e u eo h al ow quiet tell = go (eqb w 0) refl (h .0)
       where
         few : u .node < 2 ^ 32
         few = few-nodes (u .node) (h .1 .1)
 
-        for : (a : Bool) → eqb (u .after) 1 ≡ a → op ≡ pick a (holding (u .result)) taking
-        for a ea = h .0 .operation ∙ ap (λ x. pick x (holding (u .result)) taking) ea
+        returnsBy : Bool → Bool → Place → Plan
+        returnsBy q a p =
+            plan e (pick q (pick a (goneIdle u) (atPlace u p)) (mending u (ancestor (u .node) (level w)) (w - mark (level w))))
+            (pick (q && a) (Took (u .result)) Moved)
 
-        go : (q : Bool) → eqb w 0 ≡ q → (a : Bool) → eqb (u .after) 1 ≡ a
-            → Fits (plan e (pick q (pick a (goneIdle u) (atPlace u ReadRoot))
-            (mending u (ancestor (u .node) (level w)) (w - mark (level w))))
-            (pick (q && a) (Took (u .result)) Moved))
-        go true eq true ea = moves none al (tell (u .result) (for true ea)) (ow 0 (sym (sym eo ∙ h .0 .has))) (refl, refl)
-        go true eq false ea =
-            moves op al (quiet op refl) (ow (u .own) eo)
-            (record { operation = for false ea; permitted = h .0 .permitted; has = h .0 .has })
-        go false eq a ea =
+        on : (p : Place) → At s m u op p → Fits (plan e (atPlace u p) Moved)
+        on p k = moves op al (quiet op refl) (ow (u .own) eo) (at-place u op p k)
+
+        go : (q : Bool) → eqb w 0 ≡ q → Purpose m u op → Fits (returnsBy q (eqb (u .after) 1) (placeAfter (u .after)))
+        go false eq k =
             let nw = eqb-false w 0 eq in
             moves op al (quiet op refl) (ow (u .own) eo) (
               h .0,
@@ -417,6 +504,12 @@ module _ (s : Shape) (r : InRange s) (m : Shared) (own : ℕ → ℕ) {all : ℕ
                 omega (arith, ancestor-most (u .node) (level w), h .1 .1),
               ),
             )
+        go true eq (for-take ea k) = subst (λ a. Fits (returnsBy true (eqb a 1) (placeAfter a))) (sym ea) (on ReadRoot k)
+        go true eq (for-answer ea k) =
+            subst (λ a. Fits (returnsBy true (eqb a 1) (placeAfter a))) (sym ea)
+            (moves none al (tell (u .result) (k .operation)) (ow 0 (sym (sym eo ∙ k .has))) (refl, refl))
+        go true eq (for-list ea k) = subst (λ a. Fits (returnsBy true (eqb a 1) (placeAfter a))) (sym ea) (on ListReadRoot k)
+        go true eq (for-hands ea k) = subst (λ a. Fits (returnsBy true (eqb a 1) (placeAfter a))) (sym ea) (on HandOut k)
 
     -- M1
     node-planned : Mends m th op → Fits (mendReadNode m th w)
@@ -680,6 +773,9 @@ module _ (s : Shape) (r : InRange s) (m : Shared) (own : ℕ → ℕ) {all : ℕ
   place-planned choice (MendReadRight v) h = right-planned v (h .0) (h .1) (h .2)
   place-planned choice (MendSwap v) h = swap-planned v (h .0) (h .1) (h .2)
   place-planned choice (MendClean v) h = clean-planned v (h .0) (h .1) (h .2)
+  place-planned choice ListReadRoot h = list-root-planned h
+  place-planned choice RemoveList h = list-planned (h .0) (h .1)
+  place-planned choice HandOut h = hand-planned h
 
   pub planned : At s m th op (th .place) → (choice : ℕ) → Fits (decide s m th choice)
   unfolding decide

@@ -1,16 +1,19 @@
--- The invariant of shared memory, threads and ledger together. A turn keeps it and the ledger follows what the turn tells; so do the two
+-- The invariant of shared memory, threads and ledger together. A turn keeps it and the ledger follows what the turn tells; so do the
 -- beginnings. Assumes nothing.
 use Prim.Native.Nat.{ℕ, _+_, _-_, _≤_}
 use native.Mathlib.Decide.{ℕ-discrete}
 use native.Mathlib.Omega.{arith}
 use mathlib.Core.Path.{_≡_, refl, sym, ap, subst, fun-ext, _∙_}
 use mathlib.Core.Bool.{Bool, true, false, true≢false}
+use mathlib.Core.List.{List, [], _∷_}
+use lib.ListN.{length}
 use Rattle.region.specs.Pick.{pick, upd}
 use Rattle.region.specs.Shared.{Shared, setCell, setFree}
-use Rattle.region.specs.Thread.{atPlace, begunPut, begunTake, withItem, withOwn}
+use Rattle.region.specs.Thread.{atPlace, begunPut, withItem, withOwn}
 use Rattle.region.specs.declared.answer.Answer.{Answer}
 use Rattle.region.specs.declared.answer.Answer.the-variants.{Moved, Idle, Inserted, Took, Empty, Refused}
-use Rattle.region.specs.declared.place.Place.the-variants.{Idle as AtRest}
+use Rattle.region.specs.declared.place.Place.{Place}
+use Rattle.region.specs.declared.place.Place.the-variants.{Idle as AtRest, ReadRoot, ListReadRoot}
 use Rattle.region.specs.declared.record.Item.{Item}
 use Rattle.region.specs.declared.shape.Shape.{Shape}
 use Rattle.region.specs.declared.thread.Thread.{Thread}
@@ -22,15 +25,15 @@ use Rattle.access.specs.declared.effect.Effect.{Effect}
 use Rattle.access.specs.declared.effect.Effect.the-variants.{Nothing, Grow, Push, Pop, Exchange, Clean, Detach, Free}
 use Rattle.access.specs.declared.plan.Plan.{Plan}
 use Rattle.access.proofs.OrderLaws.{item-less, item-trans}
-use Rattle.mound.specs.Ledger.{Operation, none, putting, taking, holding, Ledger, Follows, still, put-begins, take-begins, put-decides, take-decides, empty-decides, take-answers, oneMore, oneLess}
-use Rattle.mound.specs.Told.{Told, nothing, beginsPut, beginsTake, decidesPut, decidesTake, decidesEmpty, answersTook}
-use Rattle.mound.specs.Tree.{sameItem}
-use Rattle.mound.proofs.Chains.{ItemsStay}
-use Rattle.mound.proofs.Effects.{Keeps, Mound, in-tree, root-there, value-there, rely-same, begin-keeps, begin-counts, grow-keeps, grow-counts, push-keeps, push-counts, push-rest, pop-keeps, pop-counts, pop-items-stay, exchange-keeps, exchange-counts, clean-keeps, clean-counts}
-use Rattle.mound.proofs.Facts.{At, stays}
-use Rattle.mound.proofs.Held.{counted, held-by, head-held}
+use Rattle.mound.specs.Ledger.{Operation, none, putting, taking, listing, owing, stillOwing, Ledger, Follows, still, put-begins, take-begins, list-begins, put-decides, take-decides, list-decides, empty-decides, take-answers, HoldsAll, Least, listLess, oneMore, oneLess}
+use Rattle.mound.specs.Told.{Told, nothing, beginsPut, beginsTake, beginsList, decidesPut, decidesTake, decidesList, decidesEmpty, answersTook}
+use Rattle.mound.specs.Tree.{itemsOf, listFrom, sameItem}
+use Rattle.mound.proofs.Chains.{HasItems, ItemsStay, among, items, length-items, list-items, only-items}
+use Rattle.mound.proofs.Effects.{Keeps, Mound, in-tree, root-there, value-there, rely-same, begin-keeps, begin-counts, grow-keeps, grow-counts, push-keeps, push-counts, push-rest, pop-keeps, pop-counts, pop-items-stay, exchange-keeps, exchange-counts, clean-keeps, clean-counts, detach-keeps, detach-counts, free-keeps, free-counts, free-rest}
+use Rattle.mound.proofs.Facts.{At, Takes, stays}
+use Rattle.mound.proofs.Held.{counted, few-cells, held-by, head-held, node-chain}
 use Rattle.mound.proofs.Order.{root-above}
-use Rattle.mound.proofs.Plans.{Allowed, OwnAfter, OperationAfter, reads, grows, swaps, cleans, inserts, removes, empties, answers, cleans-answers}
+use Rattle.mound.proofs.Plans.{Allowed, OwnAfter, OperationAfter, reads, grows, swaps, cleans, inserts, removes, detaches, empties, answers, cleans-answers, hands-out}
 use Rattle.mound.proofs.Sorted.{AtMost, Proper, same-item, item-same, valueAt}
 
 -- each thread's own cell
@@ -72,6 +75,28 @@ one-less bag i j = ap (λ q. pick q (bag j - 1) (bag j)) (same-item-either i j) 
     go true = refl
     go false = omega arith
 
+-- a list leaves the bag where the bag holds as many copies of each of its items
+less-all : (bag : Item → ℕ) (is : List Item) (j : Item) → listLess bag is j ≡ bag j - among (sameItem j) is
+unfolding listLess among
+less-all bag [] j = omega arith
+less-all bag (i ∷ is) j = omega (arith, less-all (oneLess bag i) is j, one-less bag i j)
+
+holds-all : (bag : Item → ℕ) (is : List Item) → ((j : Item) → among (sameItem j) is ≤ bag j) → HoldsAll bag is
+unfolding among pick
+holds-all bag [] h = tt
+holds-all bag (i ∷ is) h = (
+  let k = subst (λ q. pick {A = ℕ} q 1 0 + among (sameItem i) is ≤ bag i) (item-same i) (h i) in omega (arith, k),
+  holds-all (oneLess bag i) is (λ j. omega (arith, h j, one-less bag i j)),
+)
+
+-- the item of the root's head
+abbrev pub headOfRoot : Shared → Item
+headOfRoot m = m .cell (m .node 1 .first) .item
+
+-- the items of its list
+abbrev pub listOfRoot : Shape → Shared → List Item
+listOfRoot s m = itemsOf (listFrom (m .cell) (s .cells) (m .node 1 .first))
+
 -- What a clean root tells of the tree.
 module _ (s : Shape) (m : Shared) (own : ℕ → ℕ) {all : ℕ} (g : Mound s m own all) (clean : m .node 1 .dirty ≡ 0) where
   root-least : (n : ℕ) → 1 ≤ n → AtMost (val m 1) (val m n)
@@ -106,6 +131,25 @@ module _ (s : Shape) (m : Shared) (own : ℕ → ℕ) {all : ℕ} (g : Mound s m
       subst (λ i. AtMost i j) (value-there (m .cell) (m .node 1 .first) (m .cell (m .node 1 .first) .item) h refl)
       (least-of-all s m own g clean j c)
 
+  -- so it is the least item of a bag that holds what the tree holds
+  root-least-of : m .node 1 .dirty ≡ 0 → 1 ≤ m .node 1 .first → (bag : Item → ℕ) → ((i : Item) → bag i ≡ counted s m i)
+      → Least bag (m .cell (m .node 1 .first) .item)
+  root-least-of clean some bag same =
+      let i = m .cell (m .node 1 .first) .item in
+      record {
+        held = subst (λ k. 1 ≤ k) (sym (same i)) (root-held some);
+        others-greater = λ j h. item-less i j (root-below clean some j (subst (λ k. 1 ≤ k) (same j) h));
+      }
+
+  -- the items from its first cell on, as they are walked and as they are counted
+  root-listed : (is : List Item) → HasItems (m .cell) (m .node 1 .first) is
+      → (listOfRoot s m ≡ is) × (items (m .cell) (g .held .list 2) ≡ is)
+  root-listed is h =
+      let k = node-chain s m own (g .held) 1 (omega arith) in
+      let e = only-items k is h in
+      let few = few-cells s m own (g .held) 1 (omega arith) (in-tree s m own g 1 (root-there s m own g)) in
+      (list-items (m .cell) (s .cells) (m .node 1 .first) is h (omega (arith, few, ap length e, length-items (m .cell) (g .held .list 2))), e)
+
 -- what a step leaves, beside the thread's own facts
 pub record Stepped (s : Shape) (m m′ : Shared) (own own′ : ℕ → ℕ) (l l′ : Ledger) (all t : ℕ) (op′ : Operation) : Type 0 where
   pub keeps : Keeps s m m′ own own′ all t
@@ -113,12 +157,8 @@ pub record Stepped (s : Shape) (m m′ : Shared) (own own′ : ℕ → ℕ) (l l
   pub now : l′ .operation t ≡ op′
   pub bag : (i : Item) → l′ .bag i ≡ counted s m′ i
 
--- the item of the root's head
-abbrev pub headOfRoot : Shared → Item
-headOfRoot m = m .cell (m .node 1 .first) .item
-
--- what thread t's effect and answer tell, i being the item of the root's head: a pushed cell is a successful I6 or I8, a popped one a
--- successful E2
+-- what thread t's effect and answer tell, i being the item of the root's head and is its list: a pushed cell is a successful I6 or I8, a popped
+-- one a successful E2, a detached list a successful 18
 abbrev pub quietTells : ℕ → Answer → Told
 quietTells t Moved = nothing
 quietTells t Idle = nothing
@@ -127,13 +167,15 @@ quietTells t (Took i) = answersTook t i
 quietTells t Empty = decidesEmpty t
 quietTells t (Refused n) = nothing
 
-abbrev pub effectTells : Item → ℕ → Answer → Effect → Told
-effectTells i t a Nothing = quietTells t a
-effectTells i t a (Grow d) = quietTells t a
-effectTells i t a (Push n v c x) = decidesPut t
-effectTells i t a (Pop v c) = decidesTake t i
-effectTells i t a (Exchange n v k w) = quietTells t a
-effectTells i t a (Clean n v) = quietTells t a
+abbrev pub effectTells : Item → List Item → ℕ → Answer → Effect → Told
+effectTells i is t a Nothing = quietTells t a
+effectTells i is t a (Grow d) = quietTells t a
+effectTells i is t a (Push n v c x) = decidesPut t
+effectTells i is t a (Pop v c) = decidesTake t i
+effectTells i is t a (Exchange n v k w) = quietTells t a
+effectTells i is t a (Clean n v) = quietTells t a
+effectTells i is t a (Detach v) = decidesList t is
+effectTells i is t a (Free c) = quietTells t a
 
 -- all own cells as before
 same-own : (own own′ : ℕ → ℕ) (t : ℕ) → ((u : ℕ) → (u ≡ t → ⊥) → own′ u ≡ own u) → own′ t ≡ own t → own′ ≡ own
@@ -164,7 +206,7 @@ module _ (s : Shape) (m : Shared) (own own′ : ℕ → ℕ) (l : Ledger) {all :
 
   pub record Step (e : Effect) (a : Answer) (op′ : Operation) : Type 0 where
     pub after : Ledger
-    pub follows : Follows (effectTells (headOfRoot m) t a e) l after
+    pub follows : Follows (effectTells (headOfRoot m) (listOfRoot s m) t a e) l after
     pub stepped : Stepped s m (effectShared m e) own own′ l after all t op′
     -- what the thread still holds is as before
     pub mine : ItemsStay (m .cell) (effectShared m e .cell) (own′ t)
@@ -233,18 +275,13 @@ module _ (s : Shape) (m : Shared) (own own′ : ℕ → ℕ) (l : Ledger) {all :
         let i = headOfRoot m in
         let ic : m .cell c .item ≡ i = ap (λ k. m .cell k .item) (sym (al .head)) in
         record {
-          after = record { bag = oneLess (l .bag) i; operation = upd (l .operation) t (holding i) };
-          follows = take-decides (is ∙ eo)
-              (record {
-                held = subst (λ k. 1 ≤ k) (sym (bag i)) (root-held s m own g (omega (arith, al .head, al .cell)));
-                others-greater = λ j h. item-less i j
-                    (root-below s m own g (al .clean) (omega (arith, al .head, al .cell)) j (subst (λ k. 1 ≤ k) (bag j) h));
-              });
+          after = record { bag = oneLess (l .bag) i; operation = upd (l .operation) t (owing i []) };
+          follows = take-decides (is ∙ eo) (root-least-of s m own g (al .clean) (omega (arith, al .head, al .cell)) (l .bag) bag);
           stepped =
               record {
                 keeps = subst (λ o. Keeps s m (effectShared m (Pop v c)) own o all t) (sym (same-own own own′ t still-own ow)) (pop-keeps s m own g v c al t);
-                others = λ u y. upd-other (l .operation) t u (holding i) y;
-                now = upd-same (l .operation) t (holding i) ∙ ap holding (sym ic) ∙ sym en;
+                others = λ u y. upd-other (l .operation) t u (owing i []) y;
+                now = upd-same (l .operation) t (owing i []) ∙ ap (λ k. owing k []) (sym ic) ∙ sym en;
                 bag = λ j.
                     let p = pop-counts s m own g v c al j in
                     let q = one-copy j (m .cell c .item) i ic in
@@ -252,10 +289,46 @@ module _ (s : Shape) (m : Shared) (own own′ : ℕ → ℕ) (l : Ledger) {all :
               };
           mine = subst (ItemsStay (m .cell) (effectShared m (Pop v c) .cell)) (sym ow) (pop-items-stay s m own g v c al t);
         }
-    step Nothing Empty al (empties eo en clean nobody) ow =
+    step (Detach v) Moved al (detaches i rest eo has en) ow =
+        let listed = root-listed s m own g (i ∷ rest) has in
+        let counts : (j : Item) → counted s m j ≡ counted s (effectShared m (Detach v)) j + among (sameItem j) (i ∷ rest) =
+        λ j. detach-counts s m own own′ g t v lt ut al ow still-own j
+        ∙ ap (λ x. counted s (effectShared m (Detach v)) j + among (sameItem j) x) (listed .1) in
+        record {
+          after = record { bag = listLess (l .bag) (i ∷ rest); operation = upd (l .operation) t (owing i rest) };
+          follows =
+              subst
+              (λ x. Follows (decidesList t x) l (record { bag = listLess (l .bag) (i ∷ rest); operation = upd (l .operation) t (owing i rest) }))
+              (sym (listed .0))
+              (list-decides (is ∙ eo)
+              (subst (Least (l .bag)) (has .1) (root-least-of s m own g (al .clean) (al .some) (l .bag) bag))
+              (holds-all (l .bag) (i ∷ rest) (λ j. omega (arith, counts j, bag j))));
+          stepped =
+              record {
+                keeps = detach-keeps s m own own′ g t v lt ut al ow still-own;
+                others = λ u y. upd-other (l .operation) t u (owing i rest) y;
+                now = upd-same (l .operation) t (owing i rest) ∙ sym en;
+                bag = λ j. omega (arith, less-all (l .bag) (i ∷ rest) j, bag j, counts j);
+              };
+          mine = λ is h. h;
+        }
+    step (Free c) (Took i) al (hands-out rest eo en) ow =
+        record {
+          after = later (stillOwing rest);
+          follows = take-answers (is ∙ eo);
+          stepped =
+              record {
+                keeps = free-keeps s m own own′ g t c lt ut al ow still-own;
+                others = λ u y. upd-other (l .operation) t u (stillOwing rest) y;
+                now = upd-same (l .operation) t (stillOwing rest) ∙ sym en;
+                bag = λ j. bag j ∙ sym (free-counts s m own own′ g t c lt ut al ow still-own j);
+              };
+          mine = subst (ItemsStay (m .cell) (effectShared m (Free c) .cell)) (sym ow) (free-rest s m own own′ g t c lt ut al ow still-own);
+        }
+    step Nothing Empty al (empties eo un en clean nobody) ow =
         record {
           after = later none;
-          follows = empty-decides (is ∙ eo) (λ j. bag j ∙ empty-tree s m own g clean nobody j);
+          follows = empty-decides (is ∙ eo) un (λ j. bag j ∙ empty-tree s m own g clean nobody j);
           stepped =
               quiet Nothing (later none) op′ ow nothing-keeps (λ i. refl) (λ i. refl) (λ u y. upd-other (l .operation) t u none y)
               (upd-same (l .operation) t none ∙ sym en);
@@ -321,7 +394,7 @@ module _ (s : Shape) (m : Shared) (th : ℕ → Thread) (l : Ledger) {all : ℕ}
   pub turn-moves : (p : Plan) (op′ : Operation) → Allowed s m (owns th) t (p .effect)
       → OperationAfter m (l .operation t) op′ (p .effect) (p .answer) → OwnAfter m (p .effect) (th t .own) (p .thread .own)
       → At s m (p .thread) op′ (p .thread .place)
-      → NextState s l all (effectTells (headOfRoot m) t (p .answer) (p .effect)) (effectShared m (p .effect)) (upd th t (p .thread))
+      → NextState s l all (effectTells (headOfRoot m) (listOfRoot s m) t (p .answer) (p .effect)) (effectShared m (p .effect)) (upd th t (p .thread))
   turn-moves p op′ al sp ow at =
       let v = p .thread in
       let st = step s m (owns th) (owns (upd th t v)) l (inv .mound) (inv .bag) t lt ut (own-still v) (l .operation t) op′ refl (p .effect)
@@ -341,29 +414,39 @@ module _ (s : Shape) (m : Shared) (th : ℕ → Thread) (l : Ledger) {all : ℕ}
     begins : Operation → Ledger
     begins op = record { bag = l .bag; operation = upd (l .operation) t op }
 
-    -- a take begins
-    pub take-begun : NextState s l all (beginsTake t) m (upd th t (begunTake (th t)))
-    unfolding begins begunTake atPlace
-    take-begun =
-        let v = begunTake (th t) in
-        record {
-          next = begins taking;
-          follows = take-begins (resting .0);
-          holds =
-              stepped-invariant s m m th l (begins taking) t v taking (inv .at)
-              (record {
-                keeps =
-                    record {
-                      mound = subst (λ o. Mound s m o all) (sym (same-own (owns th) (owns (upd th t v)) t (own-still v) (own-now v))) (inv .mound);
-                      rely = rely-same m m (omega arith) (λ y p. refl);
-                      kept = λ u n is h. h;
-                    };
-                others = λ u n. upd-other (l .operation) t u taking n;
-                now = upd-same (l .operation) t taking;
-                bag = inv .bag;
-              })
-              (record { operation = refl; permitted = may; has = resting .1 });
-        }
+    -- a take of either kind begins: at place p, with the operation op
+    module _ (p : Place) (op : Operation) (told : Told) (follows : Follows told l (begins op))
+        (there : Takes m (th t) op op → At s m (atPlace (th t) p) op p) where
+      take-begun-at : NextState s l all told m (upd th t (atPlace (th t) p))
+      unfolding begins atPlace
+      take-begun-at =
+          let v = atPlace (th t) p in
+          record {
+            next = begins op;
+            follows = follows;
+            holds =
+                stepped-invariant s m m th l (begins op) t v op (inv .at)
+                (record {
+                  keeps =
+                      record {
+                        mound = subst (λ o. Mound s m o all) (sym (same-own (owns th) (owns (upd th t v)) t (own-still v) (own-now v))) (inv .mound);
+                        rely = rely-same m m (omega arith) (λ y p. refl);
+                        kept = λ u n is h. h;
+                      };
+                  others = λ u n. upd-other (l .operation) t u op n;
+                  now = upd-same (l .operation) t op;
+                  bag = inv .bag;
+                })
+                (there (record { operation = refl; permitted = may; has = resting .1 }));
+          }
+
+    pub take-begun : NextState s l all (beginsTake t) m (upd th t (atPlace (th t) ReadRoot))
+    unfolding begins atPlace
+    take-begun = take-begun-at ReadRoot taking (beginsTake t) (take-begins (resting .0)) (λ h. h)
+
+    pub list-begun : NextState s l all (beginsList t) m (upd th t (atPlace (th t) ListReadRoot))
+    unfolding begins atPlace
+    list-begun = take-begun-at ListReadRoot listing (beginsList t) (list-begins (resting .0)) (λ h. h)
 
     -- a put of i begins: the first free cell becomes the thread's own, with the item
     module _ (i : Item) (proper : Proper i) (free : 1 ≤ m .free) where

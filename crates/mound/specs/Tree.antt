@@ -23,6 +23,11 @@ unfoldable pub listFrom : (ℕ → Cell) → ℕ → ℕ → List Listed
 listFrom cell zero c = []
 listFrom cell (suc n) c = pick (eqb c 0) [] (record { cell = c; item = cell c .item } ∷ listFrom cell n (cell c .next))
 
+-- the items of a list, in its order
+unfoldable pub itemsOf : List Listed → List Item
+itemsOf [] = []
+itemsOf (x ∷ xs) = x .item ∷ itemsOf xs
+
 -- how many items of a list pass the test
 unfoldable pub passing : (Item → Bool) → List Listed → ℕ
 passing test [] = 0
