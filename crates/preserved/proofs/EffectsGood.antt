@@ -4,6 +4,7 @@ use native.Mathlib.Omega.{arith}
 use mathlib.Core.Path.{sym, subst}
 use mathlib.Core.List.{List}
 use lib.ListN.{length}
+use Rattle.words.specs.Word.{word}
 use Rattle.words.specs.Inner.{Fit}
 use Rattle.region.specs.Pick.{upd}
 use Rattle.region.specs.Record.{nodeWords, cellWords, zeroItem}
@@ -22,7 +23,7 @@ use Rattle.access.specs.declared.effect.Effect.the-variants.{Nothing, Grow, Pus
 use Rattle.access.proofs.EffectLaws.{EffectFits, effect-shared, effect-word, length-effect}
 use Rattle.readable.proofs.Laws.{Good}
 use Rattle.readable.proofs.Stores.{CellGood, Keeps, NodeGood, SharedGood, good-shared, make-good, threads-pass}
-use Rattle.preserved.proofs.PlansGood.{EffectGood, some-nodes}
+use Rattle.preserved.proofs.PlansGood.{EffectGood, NodeIn, some-nodes}
 
 module _ (s : Shape) (m : Shared) (g : SharedGood s m) where
   set-node : (n : ℕ) (v : Node) → NodeGood (s .cells) v → (k : ℕ) → NodeGood (s .cells) (upd (m .node) n v k)
@@ -30,6 +31,9 @@ module _ (s : Shape) (m : Shared) (g : SharedGood s m) where
 
   pub set-cell : (c : ℕ) (v : Cell) → CellGood (s .cells) v → (k : ℕ) → CellGood (s .cells) (upd (m .cell) c v k)
   set-cell c v h = upd-good (CellGood (s .cells)) (m .cell) c v (g .cell) h
+
+  freed-good : CellGood (s .cells) (record { item = zeroItem; next = m .free })
+  freed-good = record { key = omega arith; tag = omega arith; next = g .free }
 
   pub effect-good : (e : Effect) → EffectGood s e → SharedGood s (effectShared m e)
   unfolding effectShared
@@ -39,12 +43,11 @@ module _ (s : Shape) (m : Shared) (g : SharedGood s m) where
       let linked : CellGood (s .cells) (record { item = m .cell c .item; next = x }) =
       record { key = g .cell c .key; tag = g .cell c .tag; next = h .3 } in
       search (set-node n v (h .2), set-cell c _ linked)
-  effect-good (Pop v c) h =
-      let freed : CellGood (s .cells) (record { item = zeroItem; next = m .free }) =
-      record { key = omega arith; tag = omega arith; next = g .free } in
-      search (set-node 1 v (h .1), set-cell c _ freed)
+  effect-good (Pop v c) h = search (set-node 1 v (h .1), set-cell c _ freed-good)
   effect-good (Exchange n v k w) h = search (upd-good (NodeGood (s .cells)) (upd (m .node) n v) k w (set-node n v (h .2)) (h .3))
   effect-good (Clean n v) h = search (set-node n v (h .1))
+  effect-good (Detach v) h = search (set-node 1 v h)
+  effect-good (Free c) h = search (set-cell c _ freed-good)
 
 pub few-cells : (s : Shape) → InRange s → s .cells < 2 ^ 32
 few-cells s r = omega (arith, r .cells-most, sizes s (r .depth-most))
@@ -58,6 +61,13 @@ module _ (s : Shape) (r : InRange s) where
 
 -- An effect in range fits the words that it stores.
 module _ (f : Frame) (r : InRange (f .shape)) (b : List ℕ) (g : SharedGood (f .shape) (sharedIn f b)) where
+  root-in : NodeIn (f .shape) 1
+  root-in = (omega arith, some-nodes (f .shape) r (sharedIn f b) g)
+
+  free-fits : word b (f .free) < 2 ^ 32
+  unfolding sharedIn
+  free-fits = omega (arith, g .free, few-cells (f .shape) r)
+
   pub fits-of : (e : Effect) → EffectGood (f .shape) e → EffectFits f b e
   unfolding sharedIn
   fits-of Nothing h = tt
@@ -69,14 +79,11 @@ module _ (f : Frame) (r : InRange (f .shape)) (b : List ℕ) (g : SharedGood (f 
     cell-fit (f .shape) r (record { item = cellIn f b c .item; next = x })
         (record { key = g .cell c .key; tag = g .cell c .tag; next = h .3 }),
   )
-  fits-of (Pop v c) h = (
-    (omega arith, some-nodes (f .shape) r (sharedIn f b) g),
-    h .0,
-    node-fit (f .shape) r v (h .1),
-    omega (arith, g .free, few-cells (f .shape) r),
-  )
+  fits-of (Pop v c) h = (root-in, h .0, node-fit (f .shape) r v (h .1), free-fits)
   fits-of (Exchange n v k w) h = (h .0, h .1, node-fit (f .shape) r v (h .2), node-fit (f .shape) r w (h .3))
   fits-of (Clean n v) h = (h .0, node-fit (f .shape) r v (h .1))
+  fits-of (Detach v) h = (root-in, node-fit (f .shape) r v h)
+  fits-of (Free c) h = (h, free-fits)
 
 -- Bytes in range stay in range.
 pub keeps-effect : (f : Frame) (b : List ℕ) → Good f b → (e : Effect) → EffectGood (f .shape) e → Keeps f b (effectBytes f b e)

@@ -18,7 +18,7 @@ use Rattle.region.specs.Thread.{goneIdle, mending, atPlace, withItem, withOwn, 
 use Rattle.region.specs.declared.answer.Answer.{Answer}
 use Rattle.region.specs.declared.answer.Answer.the-variants.{Moved}
 use Rattle.region.specs.declared.place.Place.{Place}
-use Rattle.region.specs.declared.place.Place.the-variants.{Idle as AtRest, ReadDepth, ReadLeaf, ReadAncestor, GrowDepth, ReadTarget, InsertAtRoot, ReadParent, InsertBelow, ReadRoot, RemoveHead, MendReadNode, MendReadDepth, MendReadLeft, MendReadRight, MendSwap, MendClean}
+use Rattle.region.specs.declared.place.Place.the-variants.{Idle as AtRest, ReadDepth, ReadLeaf, ReadAncestor, GrowDepth, ReadTarget, InsertAtRoot, ReadParent, InsertBelow, ReadRoot, RemoveHead, MendReadNode, MendReadDepth, MendReadLeft, MendReadRight, MendSwap, MendClean, ListReadRoot, RemoveList, HandOut}
 use Rattle.region.specs.declared.record.Item.{Item}
 use Rattle.region.specs.declared.record.Node.{Node}
 use Rattle.region.specs.declared.record.NodeCopy.{NodeCopy}
@@ -36,8 +36,8 @@ use Rattle.access.specs.declared.effect.Effect.the-variants.{Nothing, Grow, Pus
 use Rattle.access.specs.declared.plan.Plan.{Plan}
 use Rattle.access.proofs.ReadLaws.{next-counter, updated-counter, updated-dirty, updated-first}
 use Rattle.insert.specs.Insert.{searching, readDepth, searchOn, leafOf, nextTries, failedPlace, afterFailedTry, afterLeafRead, readLeaf, afterAncestorRead, middleLevel, hasMiddle, readAncestor, growDepth, targetPlace, readTarget, insertAt, insertAtRoot, readParent, insertBelow}
-use Rattle.extract.specs.Extract.{afterRootRead, readRoot, afterRemoval, removeHead}
-use Rattle.moundify.specs.Moundify.{returning, mendReadNode, afterDepthRead, mendReadDepth, mendReadLeft, marked, childLess, afterChildrenRead, mendReadRight, exchangeAt, nodeAndChildSame, exchangeWith, mendSwap, cleanAt, mendClean, returned, returnAnswer}
+use Rattle.extract.specs.Extract.{afterRootRead, readRoot, listReadRoot, afterRemoval, afterListRemoval, casRoot, removeHead, removeList, handedOut, handOut}
+use Rattle.moundify.specs.Moundify.{returning, mendReadNode, afterDepthRead, mendReadDepth, mendReadLeft, marked, childLess, afterChildrenRead, mendReadRight, exchangeAt, nodeAndChildSame, exchangeWith, mendSwap, cleanAt, mendClean, placeAfter, returned, returnAnswer}
 use Rattle.readable.proofs.Stores.{NodeGood, CopyGood, FieldsGood, WaitsAbove, PlaceGood, ThreadGood, SharedGood, idle-good}
 use Rattle.preserved.proofs.TreeLevels.{waits-at-child, waits-marked, waits-returned}
 
@@ -63,6 +63,8 @@ EffectGood s (Push n v c x) = NodeIn s n × CellIn s c × NodeGood (s .cells) v 
 EffectGood s (Pop v c) = CellIn s c × NodeGood (s .cells) v
 EffectGood s (Exchange n v k w) = NodeIn s n × NodeIn s k × NodeGood (s .cells) v × NodeGood (s .cells) w
 EffectGood s (Clean n v) = NodeIn s n × NodeGood (s .cells) v
+EffectGood s (Detach v) = NodeGood (s .cells) v
+EffectGood s (Free c) = CellIn s c
 
 pub record PlanGood (s : Shape) (p : Plan) : Type 0 where
   pub effect : EffectGood s (p .effect)
@@ -88,6 +90,9 @@ place-same s t u (MendReadLeft w) et en h = subst (λ n. WaitsAbove n w) en h
 place-same s t u (MendReadRight w) et en h = subst (λ n. WaitsAbove n w) en h
 place-same s t u (MendSwap w) et en h = subst (λ n. WaitsAbove n w) en h
 place-same s t u (MendClean w) et en h = subst (λ n. WaitsAbove n w) en h
+place-same s t u ListReadRoot et en h = tt
+place-same s t u RemoveList et en h = tt
+place-same s t u HandOut et en h = tt
 
 -- Setters keep the fields in range: each field is as it was, or what the setter was given.
 module _ (s : Shape) (t : Thread) (g : FieldsGood s t) where
@@ -108,7 +113,7 @@ module _ (s : Shape) (t : Thread) (g : FieldsGood s t) where
   unfolding withNode
   fields-node n h = search
 
-  pub fields-after : (a : ℕ) → a ≤ 1 → FieldsGood s (withAfter t a)
+  pub fields-after : (a : ℕ) → a ≤ 3 → FieldsGood s (withAfter t a)
   unfolding withAfter
   fields-after a h = search
 
@@ -339,42 +344,84 @@ module _ (s : Shape) (r : InRange s) (m : Shared) (sm : SharedGood s m) where
         (own-cell (eqb-false (t .own) 0 (or-right (ltb (t .node) 2) (eqb (t .own) 0) h)))
         _)
 
-    -- E1 and E2
-    pub readRoot-good : PlanGood s (readRoot m t)
-    unfolding readRoot afterRootRead
-    readRoot-good =
-        let q = readNode m 1 in
-        let f = fields-first s t g q (read-good 1) in
+    -- E1 and 17
+    pub afterRootRead-good : (q : NodeCopy) → CopyGood (s .cells) q → (after : ℕ) → after ≤ 3 → (next : Place)
+        → PlaceGood s (withFirst t q) next → PlanGood s (afterRootRead t q after next)
+    unfolding afterRootRead
+    afterRootRead-good q hq after ha next hn =
+        let f = fields-first s t g q hq in
         pick-good (PlanGood s) (isDirty (q .node))
-        (λ h. moved-good s _ (mending-good s _ (fields-after s (withFirst t q) f 0 (omega arith)) 1 0 some-nodes (omega arith)))
+        (λ h. moved-good s _ (mending-good s _ (fields-after s (withFirst t q) f after ha) 1 0 some-nodes (omega arith)))
         (λ h. pick-good (PlanGood s) (eqb (q .node .first) 0)
         (λ k. plan-good s Nothing (goneIdle t) _ tt (gone-good s t g))
-        (λ k. onTo-good s (withFirst t q) f RemoveHead tt))
+        (λ k. onTo-good s (withFirst t q) f next hn))
+
+    pub readRoot-good : PlanGood s (readRoot m t)
+    unfolding readRoot
+    readRoot-good = afterRootRead-good (readNode m 1) (read-good 1) 0 (omega arith) RemoveHead tt
+
+    pub listReadRoot-good : PlanGood s (listReadRoot m t)
+    unfolding listReadRoot
+    listReadRoot-good = afterRootRead-good (readNode m 1) (read-good 1) 2 (omega arith) RemoveList tt
+
+    -- E2 and 18
+    pub casRoot-good : (back : Place) → PlaceGood s t back → (removed : Plan)
+        → ((t .copies .first .node .first ≡ 0 → ⊥) → isSpent (t .copies .first .node) ≡ false → PlanGood s removed)
+        → PlanGood s (casRoot m t back removed)
+    unfolding casRoot
+    casRoot-good back hb removed hr =
+        let q = t .copies .first in
+        pick-good (PlanGood s) (sameNode (m .node 1) (q .node))
+        (λ k. pick-good (PlanGood s) (eqb (q .node .first) 0) (λ h. refused-good s t gt unreadable)
+        (λ h. pick-good (PlanGood s) (isSpent (q .node)) (λ e. refused-good s t gt counterSpent)
+        (λ e. hr (eqb-false (q .node .first) 0 h) e)))
+        (λ k. onTo-good s t g back hb)
 
     pub removeHead-good : PlanGood s (removeHead m t)
     unfolding removeHead afterRemoval
     removeHead-good =
         let q = t .copies .first in
         let f = fields-result s t g (q .head .item) (g .first .head .key) (g .first .head .tag) in
-        pick-good (PlanGood s) (sameNode (m .node 1) (q .node))
-        (λ k. pick-good (PlanGood s) (eqb (q .node .first) 0) (λ h. refused-good s t gt unreadable)
-        (λ h. pick-good (PlanGood s) (isSpent (q .node)) (λ e. refused-good s t gt counterSpent)
-        (λ e. let ne = eqb-false (q .node .first) 0 h in
+        casRoot-good ReadRoot tt _ λ ne e.
         plan-good s (Pop (updated (q .node) (q .head .next) 1) (q .node .first)) _ Moved
         ((omega arith, g .first .node .first), updated-good (q .node) (q .head .next) 1 (g .first .node) e (g .first .head .next) (omega arith))
-        (mending-good s _ (fields-after s _ f 1 (omega arith)) 1 0 some-nodes (omega arith)))))
-        (λ k. onTo-good s t g ReadRoot tt)
+        (mending-good s _ (fields-after s _ f 1 (omega arith)) 1 0 some-nodes (omega arith))
+
+    pub removeList-good : PlanGood s (removeList m t)
+    unfolding removeList afterListRemoval
+    removeList-good =
+        let q = t .copies .first in
+        let f = fields-own s t g (q .node .first) (g .first .node .first) in
+        casRoot-good ListReadRoot tt _ λ ne e.
+        plan-good s (Detach (updated (q .node) 0 1)) _ Moved
+        (updated-good (q .node) 0 1 (g .first .node) e (omega arith) (omega arith))
+        (mending-good s _ (fields-after s _ f 3 (omega arith)) 1 0 some-nodes (omega arith))
+
+    -- 19
+    pub handOut-good : PlanGood s (handOut m t)
+    unfolding handOut handedOut
+    handOut-good =
+        let c = m .cell (t .own) in
+        let f = fields-own s t g (c .next) (sm .cell (t .own) .next) in
+        pick-good (PlanGood s) (eqb (t .own) 0) (λ h. refused-good s t gt unreadable)
+        (λ h. plan-good s (Free (t .own)) _ _ (own-cell (eqb-false (t .own) 0 h))
+        (pick-good (ThreadGood s) (eqb (c .next) 0) (λ k. gone-good s t g) (λ k. at-good s (withOwn t (c .next)) f HandOut tt)))
 
     -- Mending, with the waiting levels w above the node's.
     module _ (w : ℕ) (hw : WaitsAbove (t .node) w) where
       few-nodes : nodeCount s < 2 ^ 32
       few-nodes = omega (arith, sizes s (r .depth-most))
 
+      after-good : (u : Thread) (a : ℕ) → PlaceGood s u (placeAfter a)
+      unfolding placeAfter
+      after-good u a = pick-good (PlaceGood s u) (eqb a 2) (λ h. tt) (λ h. pick-good (PlaceGood s u) (eqb a 3) (λ k. tt) (λ k. tt))
+
       pub returned-good : (u : Thread) → FieldsGood s u → u .node ≡ t .node → ThreadGood s (returned u w)
       unfolding returned
       returned-good u gu en =
           pick-good (ThreadGood s) (eqb w 0)
-          (λ h. pick-good (ThreadGood s) (eqb (u .after) 1) (λ k. gone-good s u gu) (λ k. at-good s u gu ReadRoot tt))
+          (λ h. pick-good (ThreadGood s) (eqb (u .after) 1) (λ k. gone-good s u gu)
+          (λ k. at-good s u gu (placeAfter (u .after)) (after-good u (u .after))))
           (λ h. mending-good s u gu _ _ (ancestor-few (u .node) (level w) (gu .node))
           (waits-returned (u .node) w (omega (arith, gu .node, few-nodes)) (eqb-false w 0 h) (subst (λ n. WaitsAbove n w) (sym en) hw)))
 

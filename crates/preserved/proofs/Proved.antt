@@ -21,7 +21,7 @@ use Rattle.region.specs.Thread.{atPlace, begunPut, idleThread, isIdle}
 use Rattle.region.specs.declared.answer.Answer.the-variants.{Idle as AnswerIdle}
 use Rattle.region.specs.declared.frame.Frame.{Frame}
 use Rattle.region.specs.declared.place.Place.{Place}
-use Rattle.region.specs.declared.place.Place.the-variants.{Idle, ReadDepth, ReadLeaf, ReadAncestor, GrowDepth, ReadTarget, InsertAtRoot, ReadParent, InsertBelow, ReadRoot, RemoveHead, MendReadNode, MendReadDepth, MendReadLeft, MendReadRight, MendSwap, MendClean}
+use Rattle.region.specs.declared.place.Place.the-variants.{Idle, ReadDepth, ReadLeaf, ReadAncestor, GrowDepth, ReadTarget, InsertAtRoot, ReadParent, InsertBelow, ReadRoot, RemoveHead, MendReadNode, MendReadDepth, MendReadLeft, MendReadRight, MendSwap, MendClean, ListReadRoot, RemoveList, HandOut}
 use Rattle.region.specs.declared.record.Cell.{Cell}
 use Rattle.region.specs.declared.record.Item.{Item}
 use Rattle.region.specs.declared.shape.Shape.{Shape}
@@ -40,12 +40,12 @@ use Rattle.access.proofs.OrderLaws.{item-below-top}
 use Rattle.readable.specs.Readable.{readable, frameIn}
 use Rattle.readable.proofs.Laws.{Good, good}
 use Rattle.readable.proofs.Stores.{CellGood, FieldsGood, Keeps, PlaceGood, SharedGood, ThreadGood, good-shared, good-thread, keeps-more, keeps-same, keeps-setThread, make-good, readable-kept, shape-kept, thread-fit, threads-pass}
-use Rattle.begin.specs.Begin.{isItem, mayPut, mayTake, acceptedPut, acceptedTake, hasFreeCell, putBytes, putBytesIn, putRefusalIn, takeBytes, takeBytesIn, takeRefusalIn}
+use Rattle.begin.specs.Begin.{BeginsAt, one-item, whole-list, isItem, mayPut, mayTake, acceptedPut, acceptedTake, hasFreeCell, putBytes, putBytesIn, putRefusalIn, takeBytes, takeBytesIn, takeRefusalIn}
 use Rattle.begin.proofs.Laws.{put-bytes-in, take-bytes-in}
 use Rattle.machine.specs.Turn.{carriedOut, decide, decideAt, turnBytes, turnPlan}
 use Rattle.preserved.specs.Theorems.{EmptyIsAbove, OutsideEffect, TurnKeepsReadable, PutKeepsReadable, TakeKeepsReadable, TurnKeepsShape, PutKeepsShape, TakeKeepsShape, TurnLeavesOthers, PutLeavesOthers, TakeLeavesOthers, TurnLeavesWords}
 use Rattle.preserved.proofs.EffectsGood.{cell-fit, few-cells, keeps-effect, set-cell}
-use Rattle.preserved.proofs.PlansGood.{PlanGood, at-good, fields-item, fields-own, plan-good, readDepth-good, readLeaf-good, readAncestor-good, growDepth-good, readTarget-good, insertAtRoot-good, readParent-good, insertBelow-good, readRoot-good, removeHead-good, mendReadNode-good, mendReadDepth-good, mendReadLeft-good, mendReadRight-good, mendSwap-good, mendClean-good}
+use Rattle.preserved.proofs.PlansGood.{PlanGood, at-good, fields-item, fields-own, plan-good, readDepth-good, readLeaf-good, readAncestor-good, growDepth-good, readTarget-good, insertAtRoot-good, readParent-good, insertBelow-good, readRoot-good, removeHead-good, mendReadNode-good, mendReadDepth-good, mendReadLeft-good, mendReadRight-good, mendSwap-good, mendClean-good, listReadRoot-good, removeList-good, handOut-good}
 
 -- every place's plan is in range
 module _ (s : Shape) (r : InRange s) (m : Shared) (sm : SharedGood s m) (t : Thread) (gt : ThreadGood s t) (c : ℕ) where
@@ -67,6 +67,9 @@ module _ (s : Shape) (r : InRange s) (m : Shared) (sm : SharedGood s m) (t : Thr
   at-place (MendReadRight w) h = mendReadRight-good s r m sm t gt w h
   at-place (MendSwap w) h = mendSwap-good s r m sm t gt w h
   at-place (MendClean w) h = mendClean-good s r m sm t gt w h
+  at-place ListReadRoot h = listReadRoot-good s r m sm t gt
+  at-place RemoveList h = removeList-good s r m sm t gt
+  at-place HandOut h = handOut-good s r m sm t gt
 
   pub decided : PlanGood s (decide s m t c)
   unfolding decide
@@ -128,40 +131,40 @@ take-passed f b t e =
     let idle = in-order (isIdle x) _ 9 (λ z. omega arith) (permitted .1) in
     record { thread = thread .0; permitted = permitted .0; idle = idle .0 }
 
-pub begun-take-good : (s : Shape) (t : Thread) → ThreadGood s t → ThreadGood s (begunTake t)
-unfolding begunTake
-begun-take-good s t g = at-good s t (g .fields) ReadRoot tt
+pub begun-take-good : (s : Shape) (t : Thread) → ThreadGood s t → (p : Place) → BeginsAt p → ThreadGood s (atPlace t p)
+begun-take-good s t g ReadRoot one-item = at-good s t (g .fields) ReadRoot tt
+begun-take-good s t g ListReadRoot whole-list = at-good s t (g .fields) ListReadRoot tt
 
-module _ (f : Frame) (b : List ℕ) (t : ℕ) (p : TakePassed f b t) where
+module _ (f : Frame) (b : List ℕ) (t : ℕ) (passed : TakePassed f b t) where
   pub take-least : 1 ≤ t
-  take-least = between-least 1 t (f .shape .threads) (p .thread)
+  take-least = between-least 1 t (f .shape .threads) (passed .thread)
 
   pub take-most : t ≤ f .shape .threads
-  take-most = between-most 1 t (f .shape .threads) (p .thread)
+  take-most = between-most 1 t (f .shape .threads) (passed .thread)
 
   module _ (g : Good f b) where
-    pub taker-good : ThreadGood (f .shape) (begunTake (threadIn f b t))
+    pub taker-good : (p : Place) → BeginsAt p → ThreadGood (f .shape) (atPlace (threadIn f b t) p)
     taker-good = begun-take-good (f .shape) _ (good-thread f b g t)
 
-    pub accepted-take-keeps : Keeps f b (acceptedTake f b t)
-    accepted-take-keeps = keeps-setThread f b g t take-least take-most _ taker-good
+    pub accepted-take-keeps : (p : Place) → BeginsAt p → Keeps f b (acceptedTake f b t p)
+    accepted-take-keeps p h = keeps-setThread f b g t take-least take-most _ (taker-good p h)
 
-pub take-keeps : (f : Frame) (b : List ℕ) → Good f b → (t : ℕ) → Keeps f b (takeBytesIn f b t)
+pub take-keeps : (f : Frame) (b : List ℕ) → Good f b → (t : ℕ) (p : Place) → BeginsAt p → Keeps f b (takeBytesIn f b t p)
 unfolding takeBytesIn
-take-keeps f b g t =
+take-keeps f b g t p h =
     pick-good (Keeps f b) (eqb (takeRefusalIn f b t) done)
-    (λ h. accepted-take-keeps f b t (take-passed f b t (eqb-true (takeRefusalIn f b t) done h)) g)
-    (λ h. keeps-same g)
+    (λ e. accepted-take-keeps f b t (take-passed f b t (eqb-true (takeRefusalIn f b t) done e)) g p h)
+    (λ e. keeps-same g)
 
 -- on a readable region
-take-keeps-on : (b : List ℕ) → readable b ≡ true → (t : ℕ) → Keeps (frameIn b) b (takeBytes b t)
-take-keeps-on b e t = subst (Keeps (frameIn b) b) (sym (take-bytes-in b e t)) (take-keeps (frameIn b) b (good b e) t)
+take-keeps-on : (b : List ℕ) → readable b ≡ true → (t : ℕ) (p : Place) → BeginsAt p → Keeps (frameIn b) b (takeBytes b t p)
+take-keeps-on b e t p h = subst (Keeps (frameIn b) b) (sym (take-bytes-in b e t p)) (take-keeps (frameIn b) b (good b e) t p h)
 
 pub take-keeps-readable : TakeKeepsReadable
-take-keeps-readable b e t = readable-kept b _ e (take-keeps-on b e t)
+take-keeps-readable b e t p h = readable-kept b _ e (take-keeps-on b e t p h)
 
 pub take-keeps-shape : TakeKeepsShape
-take-keeps-shape b e t = shape-kept b _ e (take-keeps-on b e t)
+take-keeps-shape b e t p h = shape-kept b _ e (take-keeps-on b e t p h)
 
 -- Stores of the first free cell and of a cell keep the bytes in range.
 module _ (f : Frame) (b : List ℕ) (g : Good f b) where
@@ -341,17 +344,18 @@ pub turn-leaves-others : TurnLeavesOthers
 turn-leaves-others b e t c u n = turn-others (frameIn b) b (good b e) t c u n
 
 -- What a beginning leaves alone.
-take-others : (f : Frame) (b : List ℕ) → Good f b → (t u : ℕ) → (u ≡ t → ⊥) → threadIn f (takeBytesIn f b t) u ≡ threadIn f b u
+take-others : (f : Frame) (b : List ℕ) → Good f b → (t : ℕ) (p : Place) → BeginsAt p → (u : ℕ) → (u ≡ t → ⊥)
+    → threadIn f (takeBytesIn f b t p) u ≡ threadIn f b u
 unfolding takeBytesIn
-take-others f b g t u n =
+take-others f b g t p h u n =
     pick-good (λ x. threadIn f x u ≡ threadIn f b u) (eqb (takeRefusalIn f b t) done)
-    (λ h. let p = take-passed f b t (eqb-true (takeRefusalIn f b t) done h) in
-    store-others f b g t (take-least f b t p) (take-most f b t p) _ (taker-good f b t p g) u n)
-    (λ h. refl)
+    (λ e. let passed = take-passed f b t (eqb-true (takeRefusalIn f b t) done e) in
+    store-others f b g t (take-least f b t passed) (take-most f b t passed) _ (taker-good f b t passed g p h) u n)
+    (λ e. refl)
 
 pub take-leaves-others : TakeLeavesOthers
-take-leaves-others b e t u n =
-    ap (λ x. threadIn (frameIn b) x u) (take-bytes-in b e t) ∙ take-others (frameIn b) b (good b e) t u n
+take-leaves-others b e t p h u n =
+    ap (λ x. threadIn (frameIn b) x u) (take-bytes-in b e t p) ∙ take-others (frameIn b) b (good b e) t p h u n
 
 accepted-put-others : (f : Frame) (b : List ℕ) (t : ℕ) (i : Item) → PutPassed f b t i → Good f b → (u : ℕ) → (u ≡ t → ⊥)
     → threadIn f (acceptedPut f b t i) u ≡ threadIn f b u
@@ -392,6 +396,8 @@ module _ (f : Frame) (j : ℕ) where
   effect-leaves b framed (Exchange n v k x) o =
       word-setNode f (setNodeIn f b n v) (framed-node f b n v framed) k j x (o .1) ∙ word-setNode f b framed n j v (o .0)
   effect-leaves b framed (Clean n v) o = word-setNode f b framed n j v o
+  effect-leaves b framed (Detach v) o = word-setNode f b framed 1 j v o
+  effect-leaves b framed (Free c) o = word-other _ (f .free) j c (o .1) ∙ word-setCell f b framed c j _ (o .0)
 
 pub turn-leaves-words : TurnLeavesWords
 unfolding turnBytes carriedOut

@@ -11,12 +11,13 @@ use Rattle.region.specs.Record.{nodeSize, cellSize}
 use Rattle.region.specs.Shared.{cellIn, entry, threadIn}
 use Rattle.region.specs.Thread.{threadSize}
 use Rattle.region.specs.declared.frame.Frame.{Frame}
+use Rattle.region.specs.declared.place.Place.{Place}
 use Rattle.region.specs.declared.record.Item.{Item}
 use Rattle.access.specs.Order.{itemLt, topItem}
 use Rattle.access.specs.declared.effect.Effect.{Effect}
 use Rattle.access.specs.declared.effect.Effect.the-variants.{Nothing, Grow, Push, Pop, Exchange, Clean, Detach, Free}
 use Rattle.readable.specs.Readable.{frameIn, readable, shapeIn}
-use Rattle.begin.specs.Begin.{putBytes, takeBytes}
+use Rattle.begin.specs.Begin.{BeginsAt, putBytes, takeBytes}
 use Rattle.machine.specs.Turn.{turnBytes, turnPlan}
 
 -- "an empty node is above every item" (document 02, request 2): what a turn compares an empty node with is less, be it the item of a cell,
@@ -39,7 +40,7 @@ abbrev pub PutKeepsReadable : Type 0
 PutKeepsReadable = (b : List ℕ) → readable b ≡ true → (t : ℕ) (i : Item) → readable (putBytes b t i) ≡ true
 
 abbrev pub TakeKeepsReadable : Type 0
-TakeKeepsReadable = (b : List ℕ) → readable b ≡ true → (t : ℕ) → readable (takeBytes b t) ≡ true
+TakeKeepsReadable = (b : List ℕ) → readable b ≡ true → (t : ℕ) (p : Place) → BeginsAt p → readable (takeBytes b t p) ≡ true
 
 -- D, C, T and H never change
 abbrev pub TurnKeepsShape : Type 0
@@ -49,7 +50,7 @@ abbrev pub PutKeepsShape : Type 0
 PutKeepsShape = (b : List ℕ) → readable b ≡ true → (t : ℕ) (i : Item) → shapeIn (putBytes b t i) ≡ shapeIn b
 
 abbrev pub TakeKeepsShape : Type 0
-TakeKeepsShape = (b : List ℕ) → readable b ≡ true → (t : ℕ) → shapeIn (takeBytes b t) ≡ shapeIn b
+TakeKeepsShape = (b : List ℕ) → readable b ≡ true → (t : ℕ) (p : Place) → BeginsAt p → shapeIn (takeBytes b t p) ≡ shapeIn b
 
 -- a turn or a beginning of one thread leaves every other thread's record alone
 abbrev pub TurnLeavesOthers : Type 0
@@ -64,8 +65,8 @@ PutLeavesOthers =
 
 abbrev pub TakeLeavesOthers : Type 0
 TakeLeavesOthers =
-    (b : List ℕ) → readable b ≡ true → (t u : ℕ) → (u ≡ t → ⊥)
-    → threadIn (frameIn b) (takeBytes b t) u ≡ threadIn (frameIn b) b u
+    (b : List ℕ) → readable b ≡ true → (t : ℕ) (p : Place) → BeginsAt p → (u : ℕ) → (u ≡ t → ⊥)
+    → threadIn (frameIn b) (takeBytes b t p) u ≡ threadIn (frameIn b) b u
 
 -- word j lies outside n words from word k on
 abbrev pub Apart : ℕ → ℕ → ℕ → Type 0
