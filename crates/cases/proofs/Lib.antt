@@ -1,6 +1,7 @@
 -- The proofs of the cases: every row, and the whole table.
 pub mod Cases
 pub mod Document01
+pub mod Request1
 pub mod Request2
 pub mod Request3
 pub mod Request4

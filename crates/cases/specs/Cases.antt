@@ -2,12 +2,13 @@
 use mathlib.Core.List.{List, _++_}
 use Rattle.cases.specs.Row.{Row, AllHold}
 use Rattle.cases.specs.Document01.{casesOf01}
+use Rattle.cases.specs.Request1.{casesOfRequest1}
 use Rattle.cases.specs.Request2.{casesOfRequest2}
 use Rattle.cases.specs.Request3.{casesOfRequest3}
 use Rattle.cases.specs.Request4.{casesOfRequest4}
 
 abbrev pub table : List Row
-table = casesOf01 ++ casesOfRequest2 ++ casesOfRequest3 ++ casesOfRequest4
+table = casesOf01 ++ casesOfRequest1 ++ casesOfRequest2 ++ casesOfRequest3 ++ casesOfRequest4
 
 abbrev pub CasesHold : Type 0
 CasesHold = AllHold table

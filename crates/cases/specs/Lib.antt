@@ -1,6 +1,7 @@
 -- Cases worked out by hand from documents 01 and 02: what a row says, the rows, and the statement that all hold.
 pub mod Cases
 pub mod Document01
+pub mod Request1
 pub mod Request2
 pub mod Request3
 pub mod Request4

@@ -26,7 +26,7 @@ bad-later-word =
     ∷ [])
 
 -- a check with thread 1's place, tries, node and waiting levels, and 0 in the words between
-abbrev checksThread : ℕ → ℕ → ℕ → ℕ → Does
+abbrev pub checksThread : ℕ → ℕ → ℕ → ℕ → Does
 checksThread place tries node waiting =
     checks 22 (place ∷ 0 ∷ 0 ∷ 0 ∷ 0 ∷ 0 ∷ tries ∷ 0 ∷ 0 ∷ node ∷ waiting ∷ [])
 

@@ -8,6 +8,7 @@ use Rattle.region.specs.Answer.{done, answerWords}
 use Rattle.region.specs.Shared.{sharedIn}
 use Rattle.region.specs.declared.answer.Answer.{Answer}
 use Rattle.region.specs.declared.answer.Answer.the-variants.{Moved, Inserted}
+use Rattle.region.specs.declared.place.Place.the-variants.{ReadRoot, ListReadRoot}
 use Rattle.region.specs.declared.record.Item.{Item}
 use Rattle.region.specs.declared.shape.Shape.{Shape}
 use Rattle.cost.specs.Cost.{takeCost}
@@ -20,22 +21,25 @@ use Rattle.run.specs.Run.{Served, runResult}
 pub data Does : Type 0 where
   -- a thread's put of an item
   putsItem : ℕ → Item → Does
-  -- a thread's take
+  -- a thread's take of one item, and of the root's list
   takes : ℕ → Does
+  lists : ℕ → Does
   -- a run of these threads' turns
   turns : List ℕ → Does
   -- a check of a copy of the region that has these words from a word on
   checks : ℕ → List ℕ → Does
-  -- the cost of a take, and the present depth
+  -- the cost of a take, the present depth, and the region's words from a word on, this many
   costs : Does
   depths : Does
+  shows : ℕ → ℕ → Does
   -- these words are written into the region, which no call does, and it is checked
   writes : ℕ → List ℕ → Does
 
--- what a step answers: a number, or the words of a run's answers
+-- what a step answers: a number, the words of a run's answers, or the region's words
 pub data Says : Type 0 where
   answered : ℕ → Says
   served : List ℕ → Says
+  shown : List ℕ → Says
 
 abbrev pub tagged : ℕ → ℕ → Item
 tagged k t = record { key = k; tag = t }
@@ -75,11 +79,13 @@ ran n r = leaving (r .region) (served (wordsAt (r .answers) 0 (3 * n)))
 
 abbrev outcomeOf : List ℕ → Does → Outcome
 outcomeOf b (putsItem t i) = leaving (putBytes b t i) (answered (putRefusal b t i))
-outcomeOf b (takes t) = leaving (takeBytes b t) (answered (takeRefusal b t))
+outcomeOf b (takes t) = leaving (takeBytes b t ReadRoot) (answered (takeRefusal b t))
+outcomeOf b (lists t) = leaving (takeBytes b t ListReadRoot) (answered (takeRefusal b t))
 outcomeOf b (turns ts) = ran (length ts) (runResult b (schedule ts) 1000 (replicate (12 * length ts) 0))
 outcomeOf b (checks at ws) = leaving b (answered (checkAnswer (setWords b at ws)))
 outcomeOf b costs = leaving b (answered (takeCost (sharedIn (frameIn b) b)))
 outcomeOf b depths = leaving b (answered (word b 4))
+outcomeOf b (shows at n) = leaving b (shown (wordsAt b at n))
 outcomeOf b (writes at ws) = leaving (setWords b at ws) (answered (checkAnswer (setWords b at ws)))
 
 -- what is said first, then what the rest says on the region afterwards
