@@ -13,6 +13,7 @@ use Rattle.region.specs.Answer.{done}
 use Rattle.region.specs.Pick.{pick}
 use Rattle.region.specs.declared.answer.Answer.{Answer}
 use Rattle.region.specs.declared.answer.Answer.the-variants.{Refused}
+use Rattle.region.specs.declared.place.Place.the-variants.{ReadRoot, ListReadRoot}
 use Rattle.region.specs.declared.record.Item.{Item}
 use Rattle.begin.specs.Begin.{PutBegun, TakeBegun}
 use Rattle.machine.specs.Turn.{TurnedOn}
@@ -23,7 +24,7 @@ use Rattle.script.specs.Script.{Ran, after, begunOr, callBytes, callOutc
 use Rattle.script.specs.declared.printing.Outcome.{Outcome}
 use Rattle.script.specs.declared.printing.Outcome.the-variants.{Begun, Answered, Unreadable}
 use Rattle.script.specs.declared.reading.What.{What}
-use Rattle.script.specs.declared.reading.What.the-variants.{Put, Take, Turn}
+use Rattle.script.specs.declared.reading.What.the-variants.{Put, Take, TakeList, Turn}
 use Rattle.script.specs.declared.reading.Line.{Line}
 use Rattle.script.specs.declared.reading.Line.the-variants.{Read as LineRead, Unreadable as NotLine}
 use Rattle.script.specs.declared.reading.ScriptLine.{ScriptLine}
@@ -51,8 +52,11 @@ module _ (b b′ : List ℕ) (what : What) (t : ℕ) where
   pub put-made : (i : Item) → what ≡ Put i → (n : ℕ) → PutBegun b b′ t i n → (r : Outcome) → r ≡ begunOr n → CallMade b b′ what t r
   put-made i e n p r er = made (Put i) e r (er ∙ ap begunOr (p .answer)) (p .bytes)
 
-  pub take-made : what ≡ Take → (n : ℕ) → TakeBegun b b′ t n → (r : Outcome) → r ≡ begunOr n → CallMade b b′ what t r
+  pub take-made : what ≡ Take → (n : ℕ) → TakeBegun b b′ t ReadRoot n → (r : Outcome) → r ≡ begunOr n → CallMade b b′ what t r
   take-made e n p r er = made Take e r (er ∙ ap begunOr (p .answer)) (p .bytes)
+
+  pub list-made : what ≡ TakeList → (n : ℕ) → TakeBegun b b′ t ListReadRoot n → (r : Outcome) → r ≡ begunOr n → CallMade b b′ what t r
+  list-made e n p r er = made TakeList e r (er ∙ ap begunOr (p .answer)) (p .bytes)
 
   pub turn-made : (c : ℕ) → what ≡ Turn c → (x : Answer) → TurnedOn b b′ t c x → CallMade b b′ what t (Answered x)
   turn-made c e x p = made (Turn c) e (Answered x) (ap Answered (p .answer)) (p .bytes)

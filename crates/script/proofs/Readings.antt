@@ -18,7 +18,7 @@ use Rattle.script.specs.declared.numbers.Number.the-variants.{Read, Unre
 use Rattle.script.specs.declared.reading.Fields.{Fields}
 use Rattle.script.specs.declared.reading.Fields.the-variants.{Read as AllRead, Unreadable as NotFields}
 use Rattle.script.specs.declared.reading.What.{What}
-use Rattle.script.specs.declared.reading.What.the-variants.{Put, Take, Turn}
+use Rattle.script.specs.declared.reading.What.the-variants.{Put, Take, TakeList, Turn}
 use Rattle.script.specs.declared.reading.Line.{Line}
 use Rattle.script.specs.declared.reading.Line.the-variants.{Read as LineRead, Unreadable as NotLine}
 use Rattle.script.specs.declared.reading.ScriptLine.{ScriptLine}
@@ -53,17 +53,17 @@ module _ (f : Fields) (t a b n : ℕ) (e : f ≡ AllRead t a b n) where
   pub put-read : LineRead (record { what = Put (record { key = a; tag = b }); thread = t; next = n }) ≡ putLine f
   put-read = rw e refl
 
-  pub take-a : (a ≡ 0 → ⊥) → NotLine ≡ takeLine f
+  pub take-a : (what : What) → (a ≡ 0 → ⊥) → NotLine ≡ takeLine what f
   unfolding pick
-  take-a h = rw (e, ne-eqb a 0 h) refl
+  take-a what h = rw (e, ne-eqb a 0 h) refl
 
-  pub take-b : a ≡ 0 → (b ≡ 0 → ⊥) → NotLine ≡ takeLine f
+  pub take-b : (what : What) → a ≡ 0 → (b ≡ 0 → ⊥) → NotLine ≡ takeLine what f
   unfolding pick
-  take-b g h = rw (e, eq-eqb a 0 g, ne-eqb b 0 h) refl
+  take-b what g h = rw (e, eq-eqb a 0 g, ne-eqb b 0 h) refl
 
-  pub take-read : a ≡ 0 → b ≡ 0 → LineRead (record { what = Take; thread = t; next = n }) ≡ takeLine f
+  pub take-read : (what : What) → a ≡ 0 → b ≡ 0 → LineRead (record { what = what; thread = t; next = n }) ≡ takeLine what f
   unfolding pick
-  take-read g h = rw (e, eq-eqb a 0 g, eq-eqb b 0 h) refl
+  take-read what g h = rw (e, eq-eqb a 0 g, eq-eqb b 0 h) refl
 
   pub turn-b : (b ≡ 0 → ⊥) → NotLine ≡ turnLine f
   unfolding pick
@@ -73,16 +73,10 @@ module _ (f : Fields) (t a b n : ℕ) (e : f ≡ AllRead t a b n) where
   unfolding pick
   turn-read h = rw (e, eq-eqb b 0 h) refl
 
--- A line, by its first word.
-module _ (s : List ℕ) (at : ℕ) (q : Bool) (long : length s < 2 ^ 64) (g : q ≡ true) where
-  pub put-fits : q ≡ textAt s at (ascii "put ") → Fits w64 (at + 4)
-  put-fits e = record { fits = omega (arith, text-room s at (ascii "put ") (sym e ∙ g) (omega arith)) }
-
-  pub take-fits : q ≡ textAt s at (ascii "take ") → Fits w64 (at + 5)
-  take-fits e = record { fits = omega (arith, text-room s at (ascii "take ") (sym e ∙ g) (omega arith)) }
-
-  pub turn-fits : q ≡ textAt s at (ascii "turn ") → Fits w64 (at + 5)
-  turn-fits e = record { fits = omega (arith, text-room s at (ascii "turn ") (sym e ∙ g) (omega arith)) }
+-- A line, by its first word: the position behind it fits its type.
+pub word-fits : (w : List ℕ) → 0 < length w → (s : List ℕ) (at : ℕ) (q : Bool) → length s < 2 ^ 64 → q ≡ true → q ≡ textAt s at w
+    → Fits w64 (at + length w)
+word-fits w some s at q long g e = record { fits = omega (arith, text-room s at w (sym e ∙ g) some) }
 
 module _ (s : List ℕ) (at : ℕ) (q₁ : Bool) (e₁ : q₁ ≡ textAt s at (ascii "put ")) where
   pub put-line : q₁ ≡ true → (f : Fields) → f ≡ fieldsAt s (at + 4) → (r : Line) → r ≡ putLine f → r ≡ readLine s at
@@ -90,18 +84,23 @@ module _ (s : List ℕ) (at : ℕ) (q₁ : Bool) (e₁ : q₁ ≡ textAt s at (a
   put-line g f ef r er = rw (← e₁, g, ← ef) er
 
   module _ (g₁ : q₁ ≡ false) (q₂ : Bool) (e₂ : q₂ ≡ textAt s at (ascii "take ")) where
-    pub take-line : q₂ ≡ true → (f : Fields) → f ≡ fieldsAt s (at + 5) → (r : Line) → r ≡ takeLine f → r ≡ readLine s at
+    pub take-line : q₂ ≡ true → (f : Fields) → f ≡ fieldsAt s (at + 5) → (r : Line) → r ≡ takeLine Take f → r ≡ readLine s at
     unfolding readLine pick
     take-line g f ef r er = rw (← e₁, g₁, ← e₂, g, ← ef) er
 
-    module _ (g₂ : q₂ ≡ false) (q₃ : Bool) (e₃ : q₃ ≡ textAt s at (ascii "turn ")) where
-      pub turn-line : q₃ ≡ true → (f : Fields) → f ≡ fieldsAt s (at + 5) → (r : Line) → r ≡ turnLine f → r ≡ readLine s at
+    module _ (g₂ : q₂ ≡ false) (q₃ : Bool) (e₃ : q₃ ≡ textAt s at (ascii "list ")) where
+      pub list-line : q₃ ≡ true → (f : Fields) → f ≡ fieldsAt s (at + 5) → (r : Line) → r ≡ takeLine TakeList f → r ≡ readLine s at
       unfolding readLine pick
-      turn-line g f ef r er = rw (← e₁, g₁, ← e₂, g₂, ← e₃, g, ← ef) er
+      list-line g f ef r er = rw (← e₁, g₁, ← e₂, g₂, ← e₃, g, ← ef) er
 
-      pub other-line : q₃ ≡ false → NotLine ≡ readLine s at
-      unfolding readLine pick
-      other-line g = rw (← e₁, g₁, ← e₂, g₂, ← e₃, g) refl
+      module _ (g₃ : q₃ ≡ false) (q₄ : Bool) (e₄ : q₄ ≡ textAt s at (ascii "turn ")) where
+        pub turn-line : q₄ ≡ true → (f : Fields) → f ≡ fieldsAt s (at + 5) → (r : Line) → r ≡ turnLine f → r ≡ readLine s at
+        unfolding readLine pick
+        turn-line g f ef r er = rw (← e₁, g₁, ← e₂, g₂, ← e₃, g₃, ← e₄, g, ← ef) er
+
+        pub other-line : q₄ ≡ false → NotLine ≡ readLine s at
+        unfolding readLine pick
+        other-line g = rw (← e₁, g₁, ← e₂, g₂, ← e₃, g₃, ← e₄, g) refl
 
 -- A field that was read, where what it leads to is not the refusal.
 record FieldRead {A : Type 0} (r : Number) (f : ℕ → ℕ → A) (x : A) : Type 0 where
@@ -157,9 +156,9 @@ unfolding pick
 put-fields NotFields l e = absurd (no-line e)
 put-fields (AllRead t a b n) l e = fields-of true (Put (record { key = a; tag = b })) t a b n l e
 
-take-fields : (f : Fields) (l : ScriptLine) → takeLine f ≡ LineRead l → OfFields f l
-take-fields NotFields l e = absurd (no-line e)
-take-fields (AllRead t a b n) l e = fields-of (eqb a 0 && eqb b 0) Take t a b n l e
+take-fields : (what : What) (f : Fields) (l : ScriptLine) → takeLine what f ≡ LineRead l → OfFields f l
+take-fields what NotFields l e = absurd (no-line e)
+take-fields what (AllRead t a b n) l e = fields-of (eqb a 0 && eqb b 0) what t a b n l e
 
 turn-fields : (f : Fields) (l : ScriptLine) → turnLine f ≡ LineRead l → OfFields f l
 turn-fields NotFields l e = absurd (no-line e)
@@ -170,16 +169,19 @@ fields-long s at l o = fields-next s at (o .t) (o .a) (o .b) (l .next) (o .read)
 
 pub line-long : (s : List ℕ) (at : ℕ) (l : ScriptLine) → readLine s at ≡ LineRead l → at + 10 ≤ l .next
 unfolding readLine pick
-line-long s at l e = ways (textAt s at (ascii "put ")) (textAt s at (ascii "take ")) (textAt s at (ascii "turn ")) e
+line-long s at l e =
+    ways (textAt s at (ascii "put ")) (textAt s at (ascii "take ")) (textAt s at (ascii "list ")) (textAt s at (ascii "turn ")) e
   where
-    ways : (p q r : Bool)
+    ways : (p q r u : Bool)
         → pick p (putLine (fieldsAt s (at + 4)))
-        (pick q (takeLine (fieldsAt s (at + 5))) (pick r (turnLine (fieldsAt s (at + 5))) NotLine))
+        (pick q (takeLine Take (fieldsAt s (at + 5)))
+        (pick r (takeLine TakeList (fieldsAt s (at + 5))) (pick u (turnLine (fieldsAt s (at + 5))) NotLine)))
         ≡ LineRead l → at + 10 ≤ l .next
-    ways true q r e = omega (arith, fields-long s (at + 4) l (put-fields (fieldsAt s (at + 4)) l e))
-    ways false true r e = omega (arith, fields-long s (at + 5) l (take-fields (fieldsAt s (at + 5)) l e))
-    ways false false true e = omega (arith, fields-long s (at + 5) l (turn-fields (fieldsAt s (at + 5)) l e))
-    ways false false false e = absurd (no-line e)
+    ways true q r u e = omega (arith, fields-long s (at + 4) l (put-fields (fieldsAt s (at + 4)) l e))
+    ways false true r u e = omega (arith, fields-long s (at + 5) l (take-fields Take (fieldsAt s (at + 5)) l e))
+    ways false false true u e = omega (arith, fields-long s (at + 5) l (take-fields TakeList (fieldsAt s (at + 5)) l e))
+    ways false false false true e = omega (arith, fields-long s (at + 5) l (turn-fields (fieldsAt s (at + 5)) l e))
+    ways false false false false e = absurd (no-line e)
 
 -- The line of five numbers.
 module _ (s : List ℕ) (at : ℕ) (r₁ : Number) (e₁ : r₁ ≡ numberThen s at 32) where

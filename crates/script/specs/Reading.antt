@@ -1,5 +1,5 @@
--- Reading a script (document 01, The script program): "lines end in LF, fields are decimal, parted by single spaces"; "a number past 32
--- bits cannot be read". A position counts the bytes of the whole script.
+-- Reading a script (document 01, The script program; document 02, request 1): "lines end in LF, fields are decimal, parted by single spaces";
+-- "a number past 32 bits cannot be read". A position counts the bytes of the whole script.
 use Prim.Native.Nat.{ℕ, suc, _+_, _-_, _*_}
 use mathlib.Core.Bool.{_&&_}
 use mathlib.Core.List.{List, [], _∷_}
@@ -11,7 +11,8 @@ use Rattle.script.specs.declared.numbers.Number.{Number}
 use Rattle.script.specs.declared.numbers.Number.the-variants.{Read, Unreadable}
 use Rattle.script.specs.declared.reading.Fields.{Fields}
 use Rattle.script.specs.declared.reading.Fields.the-variants.{Read as AllRead, Unreadable as NotFields}
-use Rattle.script.specs.declared.reading.What.the-variants.{Put, Take, Turn}
+use Rattle.script.specs.declared.reading.What.{What}
+use Rattle.script.specs.declared.reading.What.the-variants.{Put, Take, TakeList, Turn}
 use Rattle.script.specs.declared.reading.Line.{Line}
 use Rattle.script.specs.declared.reading.Line.the-variants.{Read as LineRead, Unreadable as NotLine}
 use Rattle.script.specs.declared.reading.Opening.{Opening}
@@ -47,14 +48,15 @@ fieldsAt s at =
     fieldThen (numberThen s at₁ space) NotFields λ a at₂.
     fieldThen (numberThen s at₂ lineEnd) NotFields λ b at₃. AllRead thread a b at₃
 
--- "for put, a and b are key and tag, for turn, a run of one, a is the choice and b 0; take has 0 0"
+-- "for put, a and b are key and tag, for turn, a run of one, a is the choice and b 0; take has 0 0"; of a list "its script line is `list`,
+-- fields as take's" (request 1)
 abbrev pub putLine : Fields → Line
 putLine (AllRead t a b next) = LineRead (record { what = Put (record { key = a; tag = b }); thread = t; next = next })
 putLine NotFields = NotLine
 
-abbrev pub takeLine : Fields → Line
-takeLine (AllRead t a b next) = pick (eqb a 0 && eqb b 0) (LineRead (record { what = Take; thread = t; next = next })) NotLine
-takeLine NotFields = NotLine
+abbrev pub takeLine : What → Fields → Line
+takeLine what (AllRead t a b next) = pick (eqb a 0 && eqb b 0) (LineRead (record { what = what; thread = t; next = next })) NotLine
+takeLine what NotFields = NotLine
 
 abbrev pub turnLine : Fields → Line
 turnLine (AllRead t a b next) = pick (eqb b 0) (LineRead (record { what = Turn a; thread = t; next = next })) NotLine
@@ -69,8 +71,11 @@ readLine s at =
     (putLine (fieldsAt s (at + 4)))
     (pick
     (textAt s at (ascii "take "))
-    (takeLine (fieldsAt s (at + 5)))
-    (pick (textAt s at (ascii "turn ")) (turnLine (fieldsAt s (at + 5))) NotLine))
+    (takeLine Take (fieldsAt s (at + 5)))
+    (pick
+    (textAt s at (ascii "list "))
+    (takeLine TakeList (fieldsAt s (at + 5)))
+    (pick (textAt s at (ascii "turn ")) (turnLine (fieldsAt s (at + 5))) NotLine)))
 
 -- the line of five numbers under the first heading: D, C, T, H and the permission
 unfoldable pub shapeAt : List ℕ → ℕ → Opening

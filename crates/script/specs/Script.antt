@@ -8,6 +8,7 @@ use Rattle.region.specs.Answer.{done, badShape, _unless_otherwise_}
 use Rattle.region.specs.Pick.{pick}
 use Rattle.region.specs.Shape.{regionWords}
 use Rattle.region.specs.declared.answer.Answer.the-variants.{Refused}
+use Rattle.region.specs.declared.place.Place.the-variants.{ReadRoot, ListReadRoot}
 use Rattle.layout.specs.Layout.{layoutRefusal, layoutBytes}
 use Rattle.begin.specs.Begin.{putRefusal, putBytes, takeRefusal, takeBytes}
 use Rattle.machine.specs.Turn.{turnOnAnswer, turnOnBytes}
@@ -17,7 +18,7 @@ use Rattle.script.specs.Printing.{lineText}
 use Rattle.script.specs.declared.printing.Outcome.{Outcome}
 use Rattle.script.specs.declared.printing.Outcome.the-variants.{Begun, Answered, Unreadable}
 use Rattle.script.specs.declared.reading.What.{What}
-use Rattle.script.specs.declared.reading.What.the-variants.{Put, Take, Turn}
+use Rattle.script.specs.declared.reading.What.the-variants.{Put, Take, TakeList, Turn}
 use Rattle.script.specs.declared.reading.Line.{Line}
 use Rattle.script.specs.declared.reading.Line.the-variants.{Read as LineRead, Unreadable as NotLine}
 use Rattle.script.specs.declared.reading.ScriptLine.{ScriptLine}
@@ -38,11 +39,13 @@ begunOr n = pick (eqb n done) Begun (Answered (Refused n))
 abbrev pub callOutcome : List ℕ → What → ℕ → Outcome
 callOutcome b (Put i) t = begunOr (putRefusal b t i)
 callOutcome b Take t = begunOr (takeRefusal b t)
+callOutcome b TakeList t = begunOr (takeRefusal b t)
 callOutcome b (Turn c) t = Answered (turnOnAnswer b t c)
 
 abbrev pub callBytes : List ℕ → What → ℕ → List ℕ
 callBytes b (Put i) t = putBytes b t i
-callBytes b Take t = takeBytes b t
+callBytes b Take t = takeBytes b t ReadRoot
+callBytes b TakeList t = takeBytes b t ListReadRoot
 callBytes b (Turn c) t = turnOnBytes b t c
 
 -- text printed, and then what else is

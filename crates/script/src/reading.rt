@@ -16,10 +16,11 @@ pub enum Fields {
     Unreadable,
 }
 
-// The call that a line makes: a put of its item, a take, a turn with its choice.
+// The call that a line makes: a put of its item, a take of one item or of the root's list, a turn with its choice.
 pub enum What {
     Put(Item),
     Take,
+    TakeList,
     Turn(u32),
 }
 
@@ -77,9 +78,9 @@ fn put_line(fields: Fields) -> Line
     })
 }
 
-// A take's a and b are 0.
-fn take_line(fields: Fields) -> Line
-    ensures { λ r. ⌜ r ≡ takeLine fields ⌝ }
+// A take's a and b are 0, whichever of the two kinds it is.
+fn take_line(what: What, fields: Fields) -> Line
+    ensures { λ r. ⌜ r ≡ takeLine what fields ⌝ }
 {
     let Fields::Read(thread, a, b, next) = fields else {
         return Line::Unreadable;
@@ -90,11 +91,7 @@ fn take_line(fields: Fields) -> Line
     if b != 0 {
         return Line::Unreadable;
     }
-    Line::Read(ScriptLine {
-        what: What::Take,
-        thread,
-        next,
-    })
+    Line::Read(ScriptLine { what, thread, next })
 }
 
 // A turn's a is the choice, its b is 0.
@@ -122,7 +119,10 @@ pub fn read_line(s: &[u8], at: usize) -> Line
         return put_line(fields_at(s, at + 4));
     }
     if text_at(s, at, b"take ") {
-        return take_line(fields_at(s, at + 5));
+        return take_line(What::Take, fields_at(s, at + 5));
+    }
+    if text_at(s, at, b"list ") {
+        return take_line(What::TakeList, fields_at(s, at + 5));
     }
     if text_at(s, at, b"turn ") {
         return turn_line(fields_at(s, at + 5));

@@ -43,6 +43,7 @@ fn make_call(region: &mut [u8], what: What, thread: u32) -> Outcome
     match what {
         What::Put(item) => begun_or(begin::begin_put(region, thread, item)),
         What::Take => begun_or(begin::begin_take(region, thread)),
+        What::TakeList => begun_or(begin::begin_list(region, thread)),
         What::Turn(choice) => Outcome::Answered(machine::turn_on(region, thread, choice)),
     }
 }
