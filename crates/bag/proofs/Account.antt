@@ -1,5 +1,5 @@
--- All cells of a region are accounted for, and a put that nothing else refuses is refused 10 exactly when tree and begun puts hold all C: the
--- account of cells on the bytes. Assumes nothing.
+-- All cells of a region are accounted for, and a put that nothing else refuses is refused 10 exactly when tree, begun puts and items in hand
+-- fill all: the account of cells on the bytes. Assumes nothing.
 use Prim.Native.Nat.{ℕ}
 use native.Mathlib.Decide.{ℕ-discrete}
 use native.Mathlib.Omega.{arith}
@@ -19,7 +19,7 @@ use Rattle.begin.specs.Begin.{hasFreeCell, putRefusal, putRefusalIn}
 use Rattle.mound.specs.Ledger.{Ledger}
 use Rattle.mound.proofs.Account.{all-cells, full-without, not-full-with}
 use Rattle.mound.proofs.Steps.{Invariant}
-use Rattle.bag.specs.Account.{treeCells, begunPuts, freeCells, AllCellsAccounted, NothingElseRefuses, RefusedWhenFull, PutsRefusedWhenFull}
+use Rattle.bag.specs.Account.{treeCells, begunPuts, freeCells, handCells, AllCellsAccounted, NothingElseRefuses, RefusedWhenFull, PutsRefusedWhenFull}
 
 -- where nothing else refuses a put, the first free cell decides
 cell-decides : (b : List ℕ) (t : ℕ) (i : Item) → NothingElseRefuses b t i
@@ -30,11 +30,11 @@ cell-decides b t i a = rw (a .region, a .thread, a .item, a .permitted, a .idle)
 -- Both, of every region of one queue of which the invariant holds.
 module _ (b : List ℕ) (l : Ledger) (here : Invariant (shapeIn b) (sharedIn (frameIn b) b) (threadIn (frameIn b) b) l (shapeIn b .cells)) where
   pub all-cells-accounted : AllCellsAccounted b
-  unfolding treeCells begunPuts freeCells frameOf
+  unfolding treeCells begunPuts handCells freeCells frameOf
   all-cells-accounted = all-cells (shapeIn b) (sharedIn (frameIn b) b) (threadIn (frameIn b) b) l here
 
   pub puts-refused-when-full : PutsRefusedWhenFull b
-  unfolding treeCells begunPuts sharedIn frameOf pick
+  unfolding treeCells begunPuts handCells sharedIn frameOf pick
   puts-refused-when-full t i a = go (ℕ-discrete first 0)
     where
       first : ℕ

@@ -38,7 +38,7 @@ use Rattle.access.specs.declared.effect.Effect.the-variants.{Nothing, Pop, Exch
 use Rattle.access.specs.declared.plan.Plan.{Plan}
 use Rattle.access.proofs.ReadLaws.{same-itself, updated-dirty, updated-first}
 use Rattle.readable.proofs.Laws.{Good}
-use Rattle.extract.specs.Extract.{afterRootRead, readRoot, afterRemoval, removeHead}
+use Rattle.extract.specs.Extract.{afterRootRead, readRoot, afterRemoval, casRoot, removeHead}
 use Rattle.moundify.specs.Moundify.{returning, mendReadNode, afterDepthRead, mendReadDepth, mendReadLeft, lessBelow, childLess, afterChildrenRead, mendReadRight, exchangeAt, nodeAndChildSame, exchangeWith, cleanAt, mendClean, returnAnswer}
 use Rattle.machine.specs.Turn.{decide, decideAt, turnAnswer, turnBytes, turnPlan}
 use Rattle.cost.specs.Cost.{lesserChild, levelsDown, withoutHead}
@@ -442,7 +442,7 @@ module _ (f : Frame) (t : ℕ) (t-least : 1 ≤ t) (t-most : t ≤ f .shape .thr
         (taken : m .cell (m .node 1 .first) .item ≡ rootItem f b₀) (begins : m .cell (m .node 1 .first) .next ≡ first)
         (cells : popped m .cell ≡ cell) (goes : 1 + levelsDown (val (popped m)) (val (popped m) 1) (d - 1) 1 ≡ j) where
       head-rests : (u : Thread) → u .place ≡ RemoveHead → u .copies .first ≡ readNode m 1 → RestsFrom 4 m u
-      unfolding decide removeHead afterRemoval effectShared plan pick mending atPlace withNode withAfter withResult level digits readNode popped withoutHead
+      unfolding decide removeHead casRoot afterRemoval effectShared plan pick mending atPlace withNode withAfter withResult level digits readNode popped withoutHead
       head-rests u place copied =
           let q = u .copies .first in
           let v = updated (q .node) (q .head .next) 1 in

@@ -15,6 +15,8 @@ use Rattle.region.specs.Shape.{between, regionWords}
 use Rattle.region.specs.Shared.{sharedIn, threadIn}
 use Rattle.region.specs.Thread.{idleThread}
 use Rattle.region.specs.declared.frame.Frame.{Frame}
+use Rattle.region.specs.declared.place.Place.{Place}
+use Rattle.region.specs.declared.place.Place.the-variants.{ReadRoot, ListReadRoot}
 use Rattle.region.specs.declared.record.Item.{Item}
 use Rattle.region.specs.declared.shape.Shape.{Shape}
 use Rattle.region.proofs.Picks.{pick-good}
@@ -24,14 +26,14 @@ use Rattle.layout.proofs.Laws.{laid-exact}
 use Rattle.layout.proofs.LayoutReads.{laid-thread}
 use Rattle.readable.specs.Readable.{readable, frameIn, shapeIn}
 use Rattle.readable.proofs.Laws.{readable-length}
-use Rattle.begin.specs.Begin.{mayPut, mayTake, putBytes, putBytesIn, putRefusalIn, takeBytes, takeBytesIn, takeRefusalIn}
+use Rattle.begin.specs.Begin.{BeginsAt, mayPut, mayTake, one-item, putBytes, putBytesIn, putRefusalIn, takeBytes, takeBytesIn, takeRefusal, takeRefusalIn, whole-list}
 use Rattle.begin.proofs.Laws.{put-bytes-in, take-bytes-in}
 use Rattle.machine.specs.Turn.{carriedOut, decide, decideAt, turnBytes, turnPlan}
 use Rattle.queue.proofs.LaidOutIsReadable.{laid-out-is-readable, same-shape}
 use Rattle.preserved.proofs.Proved.{put-passed, take-passed, put-keeps-readable, put-keeps-shape, put-leaves-others, take-keeps-readable, take-keeps-shape, take-leaves-others, turn-keeps-readable, turn-keeps-shape, turn-leaves-others}
-use Rattle.bag.specs.Calls.{Call, NoAcceptedLayout}
+use Rattle.bag.specs.Calls.{Call, NoAcceptedLayout, list, take}
 use Rattle.bag.specs.Demand3.{makes}
-use Rattle.bag.specs.History.{Event, Moment, history, servedOn}
+use Rattle.bag.specs.History.{Event, Moment, called, history, servedOn}
 use Rattle.bag.specs.Moments.{EachMoment}
 use Rattle.bag.proofs.Histories.{Kept, Next, calls-kept}
 
@@ -51,9 +53,9 @@ refused-put f b t i e =
     (λ k. absurd (true≢false (sym (put-passed f b t i (eqb-true (putRefusalIn f b t i) done k) .permitted) ∙ ap mayPut e)))
     (λ k. refl)
 
-refused-take : (f : Frame) (b : List ℕ) (t : ℕ) → threadIn f b t ≡ idleThread 0 → takeBytesIn f b t ≡ b
+refused-take : (f : Frame) (b : List ℕ) (t : ℕ) (p : Place) → threadIn f b t ≡ idleThread 0 → takeBytesIn f b t p ≡ b
 unfolding takeBytesIn mayTake
-refused-take f b t e =
+refused-take f b t p e =
     pick-good (λ x. x ≡ b) (eqb (takeRefusalIn f b t) done)
     (λ k. absurd (true≢false (sym (take-passed f b t (eqb-true (takeRefusalIn f b t) done k) .permitted) ∙ ap mayTake e)))
     (λ k. refl)
@@ -72,8 +74,8 @@ module _ (s : Shape) (t : ℕ) (b : List ℕ) (h : Barred s t b) where
   put-stays : (i : Item) → putBytes b t i ≡ b
   put-stays i = put-bytes-in b (h .reads) t i ∙ refused-put (frameIn b) b t i here
 
-  take-stays : takeBytes b t ≡ b
-  take-stays = take-bytes-in b (h .reads) t ∙ refused-take (frameIn b) b t here
+  take-stays : (p : Place) → takeBytes b t p ≡ b
+  take-stays p = take-bytes-in b (h .reads) t p ∙ refused-take (frameIn b) b t p here
 
   -- bytes b′ that are readable, of b's shape, and have t's record as it was
   barred-still : (b′ : List ℕ) → readable b′ ≡ true → shapeIn b′ ≡ shapeIn b
@@ -95,14 +97,14 @@ module _ (s : Shape) (t : ℕ) (b : List ℕ) (h : Barred s t b) where
           barred-still (putBytes b u i) (put-keeps-readable b (h .reads) u i) (put-keeps-shape b (h .reads) u i)
           (put-leaves-others b (h .reads) u i t n)
 
-  take-keeps : (u : ℕ) → Barred s t (takeBytes b u)
-  take-keeps u = go (ℕ-discrete t u)
+  take-keeps : (u : ℕ) (p : Place) → BeginsAt p → Barred s t (takeBytes b u p)
+  take-keeps u p at = go (ℕ-discrete t u)
     where
-      go : Dec (t ≡ u) → Barred s t (takeBytes b u)
-      go (yes e) = subst (λ k. Barred s t (takeBytes b k)) e (subst (Barred s t) (sym take-stays) h)
+      go : Dec (t ≡ u) → Barred s t (takeBytes b u p)
+      go (yes e) = subst (λ k. Barred s t (takeBytes b k p)) e (subst (Barred s t) (sym (take-stays p)) h)
       go (no n) =
-          barred-still (takeBytes b u) (take-keeps-readable b (h .reads) u) (take-keeps-shape b (h .reads) u)
-          (take-leaves-others b (h .reads) u t n)
+          barred-still (takeBytes b u p) (take-keeps-readable b (h .reads) u p at) (take-keeps-shape b (h .reads) u p at)
+          (take-leaves-others b (h .reads) u p at t n)
 
   turn-keeps : (u c : ℕ) → Barred s t (turnBytes (frameOf s) b u c)
   turn-keeps u c = subst (λ x. Barred s t (turnBytes (frameOf x) b u c)) (h .shape) (go (ℕ-discrete t u))
@@ -138,6 +140,13 @@ module _ (s : Shape) (t : ℕ) where
       → Next (BarredFrom s t) (Still t) x e b′
   next-barred b x h e b′ g k = record { next = b′; follows = λ m. k m ∙ sym (h .1); region = (g, refl) }
 
+  -- a take of either kind, by thread u
+  next-take : (b x : List ℕ) → BarredFrom s t b x → (u : ℕ) (e : Event) (p : Place) → BeginsAt p → (makes t e ≡ true → t ≡ u)
+      → Next (BarredFrom s t) (Still t) x e (takeBytes b u p)
+  next-take b x h u e p at same =
+      next-barred b x h e (takeBytes b u p) (take-keeps s t b (h .0) u p at)
+      (λ k. subst (λ v. takeBytes b v p ≡ b) (same k) (take-stays s t b (h .0) p))
+
   barred-kept : (calls : List Call) (b : List ℕ) → Barred s t b → NoAcceptedLayout (length b) calls
       → Kept (BarredFrom s t) (Still t) b (history b calls)
   unfolding servedOn
@@ -146,8 +155,8 @@ module _ (s : Shape) (t : ℕ) where
       (λ b x h. ap frameOf (h .0 .shape)) (λ b x h. barred-long s t b (h .0))
       (λ b x h u i. next-barred b x h _ _ (put-keeps s t b (h .0) u i)
       (λ e. subst (λ k. putBytes b k i ≡ b) (eqb-true t u e) (put-stays s t b (h .0) i)))
-      (λ b x h u. next-barred b x h _ _ (take-keeps s t b (h .0) u)
-      (λ e. subst (λ k. takeBytes b k ≡ b) (eqb-true t u e) (take-stays s t b (h .0))))
+      (λ b x h u. next-take b x h u (called (take u) (takeRefusal b u)) ReadRoot one-item (λ e. eqb-true t u e))
+      (λ b x h u. next-take b x h u (called (list u) (takeRefusal b u)) ListReadRoot whole-list (λ e. eqb-true t u e))
       (λ b x h u. next-barred b x h _ _ (turn-keeps s t b (h .0) (u .thread) (u .choice))
       (λ e. subst (λ k. turnBytes (frameOf s) b k (u .choice) ≡ b) (eqb-true t (u .thread) e)
       (idle-turn (frameOf s) b t (u .choice) (h .0 .idle))))

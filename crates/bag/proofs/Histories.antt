@@ -11,6 +11,7 @@ use lib.ListN.{length}
 use Rattle.region.specs.Answer.{done}
 use Rattle.region.specs.Pick.{pick}
 use Rattle.region.specs.declared.frame.Frame.{Frame}
+use Rattle.region.specs.declared.place.Place.the-variants.{ReadRoot, ListReadRoot}
 use Rattle.region.specs.declared.record.Item.{Item}
 use Rattle.region.specs.declared.shape.Shape.{Shape}
 use Rattle.layout.specs.Layout.{layoutRefusal, layoutBytes}
@@ -19,7 +20,7 @@ use Rattle.begin.specs.Begin.{putBytes, putRefusal, takeBytes, takeRefusal}
 use Rattle.run.specs.Run.{Served, Turn, runRefusal, runResult, serve, serveAll, soFar, turnsFrom}
 use Rattle.machine.specs.Turn.{turnBytes}
 use Rattle.mound.specs.Told.{nothing}
-use Rattle.bag.specs.Calls.{Call, layout, put, take, run, check, NoAcceptedLayout, after, refusalOf}
+use Rattle.bag.specs.Calls.{Call, layout, put, take, list, run, check, NoAcceptedLayout, after, refusalOf}
 use Rattle.bag.specs.History.{Event, called, turned, Moment, callMoments, history, servedMoments, servedOn, turnMoments}
 use Rattle.bag.specs.Moments.{regionAfter}
 use Rattle.bag.specs.Told.{callTells}
@@ -55,7 +56,8 @@ module _ {X : Type 0} (P : List ℕ → X → Type 0) (F : Event → X → X →
       (framed : (b : List ℕ) (x : X) → P b x → frameIn b ≡ f)
       (long : (b : List ℕ) (x : X) → P b x → length b ≡ l)
       (put-next : (b : List ℕ) (x : X) → P b x → (t : ℕ) (i : Item) → Next P F x (called (put t i) (putRefusal b t i)) (putBytes b t i))
-      (take-next : (b : List ℕ) (x : X) → P b x → (t : ℕ) → Next P F x (called (take t) (takeRefusal b t)) (takeBytes b t))
+      (take-next : (b : List ℕ) (x : X) → P b x → (t : ℕ) → Next P F x (called (take t) (takeRefusal b t)) (takeBytes b t ReadRoot))
+      (list-next : (b : List ℕ) (x : X) → P b x → (t : ℕ) → Next P F x (called (list t) (takeRefusal b t)) (takeBytes b t ListReadRoot))
       (turn-next : (b : List ℕ) (x : X) → P b x → (t : Turn)
       → Next P F x (turned (servedOn f b t)) (turnBytes f b (t .thread) (t .choice)))
       -- any other call tells nothing, and its own moment leaves the region as it is
@@ -116,7 +118,9 @@ module _ {X : Type 0} (P : List ℕ → X → Type 0) (F : Event → X → X →
       call-kept (put t i) cs h rest k =
           then x (called (put t i) (putRefusal b t i)) (putBytes b t i) rest (put-next b x g t i) (λ x′ g′. k x′ g′ h)
       call-kept (take t) cs h rest k =
-          then x (called (take t) (takeRefusal b t)) (takeBytes b t) rest (take-next b x g t) (λ x′ g′. k x′ g′ h)
+          then x (called (take t) (takeRefusal b t)) (takeBytes b t ReadRoot) rest (take-next b x g t) (λ x′ g′. k x′ g′ h)
+      call-kept (list t) cs h rest k =
+          then x (called (list t) (takeRefusal b t)) (takeBytes b t ListReadRoot) rest (list-next b x g t) (λ x′ g′. k x′ g′ h)
       call-kept (run schedule limit answers) cs h rest k = run-call schedule limit answers rest (λ x′ g′. k x′ g′ h)
       call-kept check cs h rest k =
           then x (called check (checkAnswer b)) b rest (still b x g check (checkAnswer b) refl) (λ x′ g′. k x′ g′ h)

@@ -10,8 +10,8 @@ use Rattle.region.specs.Pick.{pick}
 use Rattle.region.specs.declared.record.Item.{Item}
 use Rattle.access.specs.Order.{itemLe, itemLt}
 use Rattle.access.proofs.OrderLaws.{item-antisym, item-by-tag, item-key, item-refl, item-total}
-use Rattle.mound.specs.Ledger.{Ledger, Least, Follows, still, put-begins, take-begins, put-decides, take-decides, empty-decides, take-answers, oneMore, oneLess}
-use Rattle.mound.specs.Told.{Told}
+use Rattle.mound.specs.Ledger.{Ledger, Least, Follows, still, put-begins, take-begins, list-begins, put-decides, take-decides, list-decides, empty-decides, take-answers, oneMore, oneLess}
+use Rattle.mound.specs.Told.{Told, decidesList}
 use Rattle.mound.specs.Tree.{sameItem}
 use Rattle.mound.proofs.Sorted.{item-same, same-item}
 use Rattle.bag.specs.Demand3.{Agrees, HoldsTheSame}
@@ -40,29 +40,31 @@ least-is-one bag i j li lj = item-antisym i j (least-most bag i j li (lj .held))
 pub least-has-least-key : LeastHasLeastKey
 least-has-least-key bag i j l h = item-key i j (least-most bag i j l h)
 
--- what follows takes no copy of an item away while one with its key and a smaller tag is there
+-- what follows, but for a list's 18, takes no copy of an item away while one with its key and a smaller tag is there
 module _ (i j : Item) (key : i .key ≡ j .key) (tag : i .tag < j .tag) where
-  stays : {x : Told} {l l′ : Ledger} → Follows x l l′ → 1 ≤ l .bag i → l .bag j ≤ l′ .bag j
+  stays : {x : Told} {l l′ : Ledger} → Follows x l l′ → ((t : ℕ) (is : List Item) → x ≡ decidesList t is → ⊥) → 1 ≤ l .bag i → l .bag j ≤ l′ .bag j
   unfolding oneMore oneLess pick
-  stays still h = omega arith
-  stays (put-begins e) h = omega arith
-  stays (take-begins e) h = omega arith
-  stays (put-decides {l = l} {i = k} e) h = go (sameItem k j)
+  stays still n h = omega arith
+  stays (put-begins e) n h = omega arith
+  stays (take-begins e) n h = omega arith
+  stays (list-begins e) n h = omega arith
+  stays (put-decides {l = l} {i = k} e) n h = go (sameItem k j)
     where
       go : (q : Bool) → l .bag j ≤ pick q (l .bag j + 1) (l .bag j)
       go true = omega arith
       go false = omega arith
-  stays (take-decides {l = l} {i = k} e least) h = go (sameItem k j) refl
+  stays (list-decides {t = t} {i = k} {is = is} e least all) n h = absurd (n t (k ∷ is) refl)
+  stays (take-decides {l = l} {i = k} e least) n h = go (sameItem k j) refl
     where
       go : (q : Bool) → sameItem k j ≡ q → l .bag j ≤ pick q (l .bag j - 1) (l .bag j)
       go true s =
           let kj = same-item k j s in
-          let n : i ≡ k → ⊥ = λ z. omega (arith, tag, ap (λ y. y .tag) (z ∙ kj)) in
+          let other : i ≡ k → ⊥ = λ z. omega (arith, tag, ap (λ y. y .tag) (z ∙ kj)) in
           absurd (true≢false (sym (subst (λ y. itemLe i y ≡ true) (sym kj) (item-by-tag i j key (omega (arith, tag))))
-          ∙ least-below (l .bag) k i least h n))
+          ∙ least-below (l .bag) k i least h other))
       go false s = omega arith
-  stays (empty-decides e z) h = omega arith
-  stays (take-answers e) h = omega arith
+  stays (empty-decides e un z) n h = omega arith
+  stays (take-answers e) n h = omega arith
 
 now-the-same : (l : Ledger) (b : List ℕ) (ms : List Moment) → Agrees l b ms → HoldsTheSame l b
 now-the-same l b [] a = a
@@ -72,8 +74,8 @@ now-the-same l b (m ∷ ms) a = a .0
 pub stays-behind : (l : Ledger) (b : List ℕ) (ms : List Moment) → Agrees l b ms → EachMoment StaysBehind b ms
 stays-behind l b [] a = tt
 stays-behind l b (m ∷ ms) (same, (l′, follows, rest)) = (
-  λ i j key tag h.
+  λ one i j key tag h.
       subst₂ (λ x y. x ≤ y) (same j) (now-the-same l′ (m .region) ms rest j)
-      (stays i j key tag follows (subst (λ x. 1 ≤ x) (sym (same i)) h)),
+      (stays i j key tag follows one (subst (λ x. 1 ≤ x) (sym (same i)) h)),
   stays-behind l′ (m .region) ms rest,
 )

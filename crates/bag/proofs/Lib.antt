@@ -3,7 +3,6 @@ pub mod Account
 pub mod Alone
 pub mod Answers
 pub mod Carried
-pub mod CaseJ
 pub mod EmptyList
 pub mod Exported
 pub mod Histories
@@ -14,3 +13,5 @@ pub mod Regions
 pub mod Start
 pub mod TakeCost
 pub mod Theorems
+pub mod TookInOrder
+pub mod WholeHistories

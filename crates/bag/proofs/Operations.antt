@@ -9,11 +9,12 @@ use borrow.Author.Tests.{eqb-true}
 use lib.Dec.{eqb}
 use Rattle.region.specs.Pick.{pick, upd}
 use Rattle.region.specs.declared.answer.Answer.{Answer}
+use Rattle.region.specs.declared.record.Item.{Item}
 use Rattle.region.proofs.Shapes.{and-left, and-right}
 use Rattle.access.specs.Plan.{ends}
-use Rattle.mound.specs.Ledger.{Ledger, Operation, none, putting, taking, holding, Follows, still, put-begins, take-begins, put-decides, take-decides, empty-decides, take-answers}
+use Rattle.mound.specs.Ledger.{Ledger, Operation, Undecided, none, one-item, owing, putting, listing, stillOwing, taking, whole-list, Follows, still, put-begins, take-begins, list-begins, put-decides, take-decides, list-decides, empty-decides, take-answers}
 use Rattle.mound.specs.Told.{Told}
-use Rattle.bag.specs.Demand3.{AnswerSays, Says, moved, removed, idle, inserted, took, empty, refused}
+use Rattle.bag.specs.Demand3.{AnswerSays, Says, moved, removed, list-removed, idle, inserted, took, empty, refused}
 use Rattle.bag.specs.History.{Event, called, turned, Moment}
 use Rattle.bag.specs.Operations.{AnsweredDecidesOnce, DecidesAtMostOnce, answered, beginning, begins, count, deciding, decides}
 use Rattle.bag.specs.Told.{tells}
@@ -30,7 +31,16 @@ abbrev remaining : Operation → ℕ
 remaining none = 0
 remaining (putting i) = 1
 remaining taking = 1
-remaining (holding i) = 0
+remaining listing = 1
+remaining (owing i is) = 0
+
+none-remains : (is : List Item) → remaining (stillOwing is) ≡ 0
+none-remains [] = refl
+none-remains (i ∷ is) = refl
+
+one-remains : (o : Operation) → Undecided o → remaining o ≡ 1
+one-remains o one-item = refl
+one-remains o whole-list = refl
 
 -- the ledger follows every moment, and every answer says what was told
 abbrev pub Followed : Ledger → List Moment → Type 0
@@ -52,7 +62,7 @@ unfolding pick
 none-taken true = refl
 none-taken false = refl
 
-none-here : (q : Bool) (k : ℕ) → pick q 1 0 + k ≡ 0 → q ≡ false
+pub none-here : (q : Bool) (k : ℕ) → pick q 1 0 + k ≡ 0 → q ≡ false
 unfolding pick
 none-here true k e = absurd (omega arith)
 none-here false k e = refl
@@ -69,11 +79,13 @@ module _ (t : ℕ) where
   told-takes x l l′ still ne = omega arith
   told-takes x l l′ (put-begins {t = u} {i = i} e) ne = omega (arith, ap remaining (elsewhere (l .operation) u (putting i) ne))
   told-takes x l l′ (take-begins {t = u} e) ne = omega (arith, ap remaining (elsewhere (l .operation) u taking ne))
+  told-takes x l l′ (list-begins {t = u} e) ne = omega (arith, ap remaining (elsewhere (l .operation) u listing ne))
   told-takes x l l′ (put-decides {t = u} {i = i} e) ne = remains (l .operation) u (putting i) none 1 e refl t
-  told-takes x l l′ (take-decides {t = u} {i = i} e _) ne = remains (l .operation) u taking (holding i) 1 e refl t
-  told-takes x l l′ (empty-decides {t = u} e _) ne = remains (l .operation) u taking none 1 e refl t
-  told-takes x l l′ (take-answers {t = u} {i = i} e) ne =
-      omega (arith, remains (l .operation) u (holding i) none 0 e refl t, none-taken (eqb t u))
+  told-takes x l l′ (take-decides {t = u} {i = i} e _) ne = remains (l .operation) u taking (owing i []) 1 e refl t
+  told-takes x l l′ (list-decides {t = u} {i = i} {is = is} e _ _) ne = remains (l .operation) u listing (owing i is) 1 e refl t
+  told-takes x l l′ (empty-decides {t = u} {o = o} e un _) ne = remains (l .operation) u o none 1 e (sym (one-remains o un)) t
+  told-takes x l l′ (take-answers {t = u} {i = i} {is = is} e) ne =
+      omega (arith, remains (l .operation) u (owing i is) (stillOwing is) 0 e (omega (arith, none-remains is)) t, none-taken (eqb t u))
 
   -- what begins one
   told-begins : (x : Told) (l l′ : Ledger) → Follows x l l′ → beginning t x ≡ true → remaining (l′ .operation t) ≡ 1
@@ -81,12 +93,14 @@ module _ (t : ℕ) where
   told-begins x l l′ still b = absurd (true≢false (sym b))
   told-begins x l l′ (put-begins {t = u} {i = i} e) b = ap (λ q. remaining (pick q (putting i) (l .operation t))) b
   told-begins x l l′ (take-begins {t = u} e) b = ap (λ q. remaining (pick q taking (l .operation t))) b
+  told-begins x l l′ (list-begins {t = u} e) b = ap (λ q. remaining (pick q listing (l .operation t))) b
   told-begins x l l′ (put-decides e) b = absurd (true≢false (sym b))
   told-begins x l l′ (take-decides e _) b = absurd (true≢false (sym b))
-  told-begins x l l′ (empty-decides e _) b = absurd (true≢false (sym b))
+  told-begins x l l′ (list-decides e _ _) b = absurd (true≢false (sym b))
+  told-begins x l l′ (empty-decides e _ _) b = absurd (true≢false (sym b))
   told-begins x l l′ (take-answers e) b = absurd (true≢false (sym b))
 
-  -- what answers one: afterwards there is none, and it begins none
+  -- what answers one: afterwards none remains, and it begins none
   record Ended (x : Told) (l′ : Ledger) : Type 0 where
     over : remaining (l′ .operation t) ≡ 0
     begins-none : beginning t x ≡ false
@@ -96,13 +110,14 @@ module _ (t : ℕ) where
   unfolding pick upd
   says-ended u e a x moved h l l′ f = absurd (true≢false (sym h))
   says-ended u e a x removed h l l′ f = absurd (true≢false (sym h))
+  says-ended u e a x list-removed h l l′ f = absurd (true≢false (sym h))
   says-ended u e a x idle h l l′ f = absurd (true≢false (sym h))
   says-ended u e a x refused h l l′ f = absurd (true≢false (sym h))
   says-ended u e a x inserted h l l′ (put-decides k) =
       record { over = ap (λ q. remaining (pick q none (l .operation t))) e; begins-none = refl }
-  says-ended u e a x took h l l′ (take-answers k) =
-      record { over = ap (λ q. remaining (pick q none (l .operation t))) e; begins-none = refl }
-  says-ended u e a x empty h l l′ (empty-decides k _) =
+  says-ended u e a x took h l l′ (take-answers {is = is} k) =
+      record { over = ap (λ q. remaining (pick q (stillOwing is) (l .operation t))) e ∙ none-remains is; begins-none = refl }
+  says-ended u e a x empty h l l′ (empty-decides k _ _) =
       record { over = ap (λ q. remaining (pick q none (l .operation t))) e; begins-none = refl }
 
   answer-ends : (e : Event) (l l′ : Ledger) → Follows (tells e) l l′ → AnswerSays e → answered t e ≡ true → Ended (tells e) l′

@@ -1,4 +1,4 @@
--- The invariant on bytes under a frame: a turn and the two beginnings keep it, and the ledger follows what they tell. Assumes nothing.
+-- The invariant on bytes under a frame: a turn and the beginnings keep it, and the ledger follows what they tell. Assumes nothing.
 use Prim.Native.Nat.{ℕ, _≤_}
 use native.Mathlib.Omega.{arith}
 use mathlib.Core.Path.{_≡_, refl, sym, ap, subst, subst₂, _∙_}
@@ -11,10 +11,12 @@ use Rattle.region.specs.Answer.{badThread, counterSpent, done}
 use Rattle.region.specs.Pick.{pick, upd}
 use Rattle.region.specs.Shape.{between}
 use Rattle.region.specs.Shared.{Shared, setCell, setFree, cellIn, setCellIn, threadIn, setThreadIn, sharedIn}
-use Rattle.region.specs.Thread.{begunPut, begunTake, idleThread}
+use Rattle.region.specs.Thread.{atPlace, begunPut, idleThread}
 use Rattle.region.specs.declared.answer.Answer.{Answer}
 use Rattle.region.specs.declared.answer.Answer.the-variants.{Idle as AnswersIdle, Refused}
 use Rattle.region.specs.declared.frame.Frame.{Frame}
+use Rattle.region.specs.declared.place.Place.{Place}
+use Rattle.region.specs.declared.place.Place.the-variants.{ReadRoot, ListReadRoot}
 use Rattle.region.specs.declared.record.Cell.{Cell}
 use Rattle.region.specs.declared.record.Item.{Item}
 use Rattle.region.specs.declared.shape.Shape.{Shape}
@@ -27,18 +29,18 @@ use Rattle.access.specs.declared.plan.Plan.{Plan}
 use Rattle.access.proofs.OrderLaws.{item-below-top}
 use Rattle.readable.proofs.Laws.{Good}
 use Rattle.readable.proofs.Stores.{Keeps, thread-fit}
-use Rattle.begin.specs.Begin.{acceptedPut, acceptedTake, putBytesIn, putRefusalIn, takeBytesIn, takeRefusalIn}
+use Rattle.begin.specs.Begin.{BeginsAt, acceptedPut, acceptedTake, one-item, putBytesIn, putRefusalIn, takeBytesIn, takeRefusalIn, whole-list}
 use Rattle.run.specs.Run.{Turn}
 use Rattle.machine.specs.Turn.{turnBytes, turnPlan}
 use Rattle.begin.proofs.Laws.{is-idle, may-put, may-take}
 use Rattle.preserved.proofs.EffectsGood.{cell-fit, few-cells}
 use Rattle.preserved.proofs.Proved.{PutPassed, TakePassed, accepted-put-keeps, accepted-take-keeps, mine-good, moved-keeps, next-few, put-free, put-key, put-least, put-most, put-passed, put-tag, putter-good, stored-keeps, take-least, take-most, take-passed, taker-good, turn-keeps}
 use Rattle.mound.specs.Ledger.{Operation, Ledger, Follows, still}
-use Rattle.mound.specs.Told.{Told, nothing, beginsPut, beginsTake}
+use Rattle.mound.specs.Told.{Told, nothing, beginsPut, beginsTake, beginsList}
 use Rattle.mound.proofs.Facts.{At}
 use Rattle.mound.proofs.Plans.{Allowed, OwnAfter, Planned, OperationAfter, rests, refuses, moves, planned, operation-moves}
-use Rattle.mound.proofs.Steps.{Invariant, NextState, effectTells, owns, put-begun, quietTells, take-begun, turn-moves}
-use Rattle.bag.specs.History.{rootItem, servedOn, turned}
+use Rattle.mound.proofs.Steps.{Invariant, NextState, effectTells, list-begun, owns, put-begun, quietTells, take-begun, turn-moves}
+use Rattle.bag.specs.History.{rootItem, rootItems, servedOn, turned}
 use Rattle.bag.specs.Told.{tells}
 use Rattle.bag.proofs.Answers.{turn-tells}
 use Rattle.bag.proofs.Carried.{turn-decides, turn-shared, turn-stays, turn-threads}
@@ -89,11 +91,11 @@ module _ (f : Frame) (all : ℕ) (b : List ℕ) (l : Ledger) (g : Region f all b
     p = turnPlan f b t c
 
     quiet-turn : (a : Answer) → changesNothing a ≡ true → quietTells t a ≡ nothing → p .effect ≡ Nothing → p .answer ≡ a
-        → Follow f all l (effectTells (rootItem f b) t (p .answer) (p .effect)) (turnBytes f b t c)
+        → Follow f all l (effectTells (rootItem f b) (rootItems f b) t (p .answer) (p .effect)) (turnBytes f b t c)
     unfolding p
     quiet-turn a st tells ee ea =
-        let e : effectTells (rootItem f b) t (p .answer) (p .effect) ≡ nothing =
-        ap (effectTells (rootItem f b) t (p .answer)) ee ∙ ap (quietTells t) ea ∙ tells
+        let e : effectTells (rootItem f b) (rootItems f b) t (p .answer) (p .effect) ≡ nothing =
+        ap (effectTells (rootItem f b) (rootItems f b) t (p .answer)) ee ∙ ap (quietTells t) ea ∙ tells
         in
         record {
           next = l;
@@ -104,7 +106,7 @@ module _ (f : Frame) (all : ℕ) (b : List ℕ) (l : Ledger) (g : Region f all b
     module _ (lt : 1 ≤ t) (ut : t ≤ f .shape .threads) where
       moving-turn : (op′ : Operation) → Allowed s m (owns th) t (p .effect) → OperationAfter m (l .operation t) op′ (p .effect) (p .answer)
           → OwnAfter m (p .effect) (th t .own) (p .thread .own) → At s m (p .thread) op′ (p .thread .place)
-          → Follow f all l (effectTells (rootItem f b) t (p .answer) (p .effect)) (turnBytes f b t c)
+          → Follow f all l (effectTells (rootItem f b) (rootItems f b) t (p .answer) (p .effect)) (turnBytes f b t c)
       unfolding p
       moving-turn op′ al sp ow at =
           let n = turn-moves s m th l (g .holds) t lt ut p op′ al sp ow at in
@@ -112,7 +114,7 @@ module _ (f : Frame) (all : ℕ) (b : List ℕ) (l : Ledger) (g : Region f all b
           followed (turn-keeps f b (g .good) t c .good) (turn-shared f b t c (g .good) e) (turn-threads f b t c (g .good) e) n
 
       there : Planned s m (owns th) t (th t .own) (l .operation t) p
-          → Follow f all l (effectTells (rootItem f b) t (p .answer) (p .effect)) (turnBytes f b t c)
+          → Follow f all l (effectTells (rootItem f b) (rootItems f b) t (p .answer) (p .effect)) (turnBytes f b t c)
       there (rests ee ea) = quiet-turn AnswersIdle refl refl ee ea
       there (refuses ee ea) = quiet-turn (Refused counterSpent) refl refl ee ea
       there (moves op′ al sp ow at) = moving-turn op′ al sp ow at
@@ -121,12 +123,12 @@ module _ (f : Frame) (all : ℕ) (b : List ℕ) (l : Ledger) (g : Region f all b
     unfolding turnPlan pick
     nowhere e = rw e refl
 
-    turn-step : Follow f all l (effectTells (rootItem f b) t (p .answer) (p .effect)) (turnBytes f b t c)
+    turn-step : Follow f all l (effectTells (rootItem f b) (rootItems f b) t (p .answer) (p .effect)) (turnBytes f b t c)
     unfolding p refused plan
     turn-step = go (between 1 t (s .threads)) refl
       where
         go : (q : Bool) → between 1 t (s .threads) ≡ q
-            → Follow f all l (effectTells (rootItem f b) t (p .answer) (p .effect)) (turnBytes f b t c)
+            → Follow f all l (effectTells (rootItem f b) (rootItems f b) t (p .answer) (p .effect)) (turnBytes f b t c)
         go true e =
             let lt = between-least 1 t (s .threads) e in
             let ut = between-most 1 t (s .threads) e in
@@ -139,20 +141,40 @@ module _ (f : Frame) (all : ℕ) (b : List ℕ) (l : Ledger) (g : Region f all b
       subst (λ y. Follow f all l y (turnBytes f b (x .thread) (x .choice))) (sym (turn-tells f b (g .good) x))
       (turn-step (x .thread) (x .choice))
 
-  -- A take that is not refused.
-  module _ (t : ℕ) (p : TakePassed f b t) where
-    abbrev taker : Thread
-    taker = begunTake (threadIn f b t)
+  -- A take of either kind that is not refused: it begins at the place z, and this is told.
+  module _ (z : Place) (at : BeginsAt z) (told : ℕ → Told)
+      (begun : (t : ℕ) → TakePassed f b t → NextState s l all (told t) m (upd th t (atPlace (th t) z))) where
+    module _ (t : ℕ) (p : TakePassed f b t) where
+      abbrev taker : Thread
+      taker = atPlace (threadIn f b t) z
 
-    take-threads : threadIn f (setThreadIn f b t taker) ≡ upd th t taker
-    take-threads =
-        threads-setThread f b (g .good .framed) t taker (take-least f b t p) (take-most f b t p)
-        (thread-fit s (g .good .range) taker (taker-good f b t p (g .good)))
+      take-threads : threadIn f (setThreadIn f b t taker) ≡ upd th t taker
+      take-threads =
+          threads-setThread f b (g .good .framed) t taker (take-least f b t p) (take-most f b t p)
+          (thread-fit s (g .good .range) taker (taker-good f b t p (g .good) z at))
 
-    take-next : Follow f all l (beginsTake t) (acceptedTake f b t)
-    take-next =
-        followed (accepted-take-keeps f b t p (g .good) .good) (shared-setThread f b (g .good .framed) t taker) take-threads
-        (take-begun s m th l (g .holds) t (take-least f b t p) (take-most f b t p) (is-idle (th t) (p .idle)) (may-take (th t) (p .permitted)))
+      take-next : Follow f all l (told t) (acceptedTake f b t z)
+      take-next =
+          followed (accepted-take-keeps f b t p (g .good) z at .good) (shared-setThread f b (g .good .framed) t taker) take-threads (begun t p)
+
+    -- refused or not
+    begins-so : (t : ℕ) → Follow f all l (pick (eqb (takeRefusalIn f b t) done) (told t) nothing) (takeBytesIn f b t z)
+    unfolding takeBytesIn pick
+    begins-so t = go (eqb (takeRefusalIn f b t) done) refl
+      where
+        go : (q : Bool) → eqb (takeRefusalIn f b t) done ≡ q → Follow f all l (pick q (told t) nothing) (pick q (acceptedTake f b t z) b)
+        go true h = take-next t (take-passed f b t (eqb-true (takeRefusalIn f b t) done h))
+        go false h = stays
+
+  pub take-follows : (t : ℕ) → Follow f all l (pick (eqb (takeRefusalIn f b t) done) (beginsTake t) nothing) (takeBytesIn f b t ReadRoot)
+  take-follows =
+      begins-so ReadRoot one-item beginsTake λ t p.
+      take-begun s m th l (g .holds) t (take-least f b t p) (take-most f b t p) (is-idle (th t) (p .idle)) (may-take (th t) (p .permitted))
+
+  pub list-follows : (t : ℕ) → Follow f all l (pick (eqb (takeRefusalIn f b t) done) (beginsList t) nothing) (takeBytesIn f b t ListReadRoot)
+  list-follows =
+      begins-so ListReadRoot whole-list beginsList λ t p.
+      list-begun s m th l (g .holds) t (take-least f b t p) (take-most f b t p) (is-idle (th t) (p .idle)) (may-take (th t) (p .permitted))
 
   -- A put that is not refused.
   module _ (t : ℕ) (i : Item) (p : PutPassed f b t i) where
@@ -204,15 +226,7 @@ module _ (f : Frame) (all : ℕ) (b : List ℕ) (l : Ledger) (g : Region f all b
         (may-put (th t) (p .permitted)) i
         (item-below-top i (omega (arith, put-key f b t i p)) (put-tag f b t i p)) (omega (arith, put-free f b t i p)))
 
-  -- Both, refused or not.
-  pub take-follows : (t : ℕ) → Follow f all l (pick (eqb (takeRefusalIn f b t) done) (beginsTake t) nothing) (takeBytesIn f b t)
-  unfolding takeBytesIn pick
-  take-follows t = go (eqb (takeRefusalIn f b t) done) refl
-    where
-      go : (q : Bool) → eqb (takeRefusalIn f b t) done ≡ q → Follow f all l (pick q (beginsTake t) nothing) (pick q (acceptedTake f b t) b)
-      go true h = take-next t (take-passed f b t (eqb-true (takeRefusalIn f b t) done h))
-      go false h = stays
-
+  -- Refused or not.
   pub put-follows : (t : ℕ) (i : Item) → Follow f all l (pick (eqb (putRefusalIn f b t i) done) (beginsPut t i) nothing) (putBytesIn f b t i)
   unfolding putBytesIn pick
   put-follows t i = go (eqb (putRefusalIn f b t i) done) refl

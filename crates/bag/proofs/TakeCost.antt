@@ -15,10 +15,11 @@ use Rattle.region.specs.Pick.{pick}
 use Rattle.region.specs.Record.{emptyNode}
 use Rattle.region.specs.Shape.{between, nodeCount}
 use Rattle.region.specs.Shared.{Shared, loadEntry, nodeIn, sharedIn, threadIn}
-use Rattle.region.specs.Thread.{atPlace, begunTake}
+use Rattle.region.specs.Thread.{atPlace}
 use Rattle.region.specs.declared.answer.Answer.{Answer}
 use Rattle.region.specs.declared.answer.Answer.the-variants.{Moved, Idle, Inserted, Took, Empty, Refused}
 use Rattle.region.specs.declared.frame.Frame.{Frame}
+use Rattle.region.specs.declared.place.Place.the-variants.{ReadRoot}
 use Rattle.region.proofs.Picks.{upd-same, upd-other}
 use Rattle.region.proofs.Shapes.{between-least, between-most}
 use Rattle.region.proofs.Views.{shared-setThread, threads-setThread}
@@ -30,7 +31,7 @@ use Rattle.access.proofs.ReadLaws.{updated-first}
 use Rattle.readable.specs.Readable.{frameIn, readable}
 use Rattle.readable.proofs.Laws.{Good, good}
 use Rattle.readable.proofs.Stores.{thread-fit}
-use Rattle.begin.specs.Begin.{acceptedTake, takeBytes, takeRefusal}
+use Rattle.begin.specs.Begin.{acceptedTake, one-item, takeBytes, takeRefusal}
 use Rattle.begin.proofs.Laws.{take-refusal-in}
 use Rattle.run.specs.Run.{Turn, accessesOf}
 use Rattle.machine.specs.Turn.{turnAnswer, turnBytes}
@@ -101,16 +102,16 @@ module _ (f : Frame) (b : List ℕ) (t : ℕ) (choices : List ℕ) (r : Good f b
   t-most = take-most f b t passed
 
   abbrev begun : List ℕ
-  begun = acceptedTake f b t
+  begun = acceptedTake f b t ReadRoot
 
   begun-shared : sharedIn f begun ≡ sharedIn f b
-  begun-shared = shared-setThread f b (r .framed) t (begunTake (threadIn f b t))
+  begun-shared = shared-setThread f b (r .framed) t (atPlace (threadIn f b t) ReadRoot)
 
-  begun-thread : threadIn f begun t ≡ begunTake (threadIn f b t)
+  begun-thread : threadIn f begun t ≡ atPlace (threadIn f b t) ReadRoot
   begun-thread =
-      let u = begunTake (threadIn f b t) in
+      let u = atPlace (threadIn f b t) ReadRoot in
       ap (λ h. h t)
-      (threads-setThread f b (r .framed) t u t-least t-most (thread-fit (f .shape) (r .range) u (taker-good f b t passed r)))
+      (threads-setThread f b (r .framed) t u t-least t-most (thread-fit (f .shape) (r .range) u (taker-good f b t passed r ReadRoot one-item)))
       ∙ upd-same (threadIn f b) t u
 
   module _ (clean : AllClean f b) where
@@ -129,9 +130,9 @@ module _ (f : Frame) (b : List ℕ) (t : ℕ) (choices : List ℕ) (r : Good f b
     -- an empty root: 1 access
     take-empty : nodeIn f b 1 .first ≡ 0 → 1 ≤ length choices
         → EndsAt (λ x. x .answer ≡ Empty) 1 (alone f begun t choices)
-    unfolding sharedIn begunTake atPlace
+    unfolding sharedIn atPlace
     take-empty none long =
-        empty-ends f t t-least t-most (sharedIn f b) (begunTake (threadIn f b t)) refl none (clean-all 1)
+        empty-ends f t t-least t-most (sharedIn f b) (atPlace (threadIn f b t) ReadRoot) refl none (clean-all 1)
         begun choices begun-shared begun-thread long
 
     -- any other, with the cells in order
@@ -184,14 +185,14 @@ module _ (f : Frame) (b : List ℕ) (t : ℕ) (choices : List ℕ) (r : Good f b
       take-rests : end f t t-least t-most b (m .depth) (restLevel m) (popped m .cell) second behind ≤ 3 + length choices
           → NoneSpent (alone f begun t choices)
           → Rests f t t-least t-most b (m .depth) (restLevel m) (popped m .cell) second behind 3 begun choices
-      unfolding begunTake atPlace sharedIn
+      unfolding atPlace sharedIn
       take-rests long spent =
           root-rests f t t-least t-most b (m .depth) (restLevel m) (popped m .cell) second behind (r .range) (g .depth-least)
-          (g .depth-most) m refl full clean-all refl refl refl goes (begunTake (threadIn f b t)) refl
-          begun choices (accepted-take-keeps f b t passed r .good) begun-shared begun-thread long spent
+          (g .depth-most) m refl full clean-all refl refl refl goes (atPlace (threadIn f b t) ReadRoot) refl
+          begun choices (accepted-take-keeps f b t passed r ReadRoot one-item .good) begun-shared begun-thread long spent
 
 -- on a region of one queue
-begun-is : (b : List ℕ) (t : ℕ) → takeRefusal b t ≡ done → takeBytes b t ≡ acceptedTake (frameIn b) b t
+begun-is : (b : List ℕ) (t : ℕ) → takeRefusal b t ≡ done → takeBytes b t ReadRoot ≡ acceptedTake (frameIn b) b t ReadRoot
 unfolding takeBytes pick
 begun-is b t e = rw (eq-eqb (takeRefusal b t) done e) refl
 
@@ -207,30 +208,30 @@ take-costs b r own g t turns a = subst (EndsAt (LastAccess b t) (takeCost m)) (s
     choices : List ℕ
     choices = choicesOf t turns
 
-    same : takeSteps b t turns ≡ alone (frameIn b) (acceptedTake (frameIn b) b t) t choices
-    same = others-aside (frameIn b) t turns (takeBytes b t) (a .quiet) ∙ ap (λ x. alone (frameIn b) x t choices) (begun-is b t (a .begun))
+    same : takeSteps b t turns ≡ alone (frameIn b) (acceptedTake (frameIn b) b t ReadRoot) t choices
+    same = others-aside (frameIn b) t turns (takeBytes b t ReadRoot) (a .quiet) ∙ ap (λ x. alone (frameIn b) x t choices) (begun-is b t (a .begun))
 
     enough : takeCost m ≤ length choices
     enough = subst (λ n. takeCost m ≤ n) (ap length same ∙ length-alone (frameIn b) t choices _) (a .enough)
 
-    unspent : NoneSpent (alone (frameIn b) (acceptedTake (frameIn b) b t) t choices)
+    unspent : NoneSpent (alone (frameIn b) (acceptedTake (frameIn b) b t ReadRoot) t choices)
     unspent = subst NoneSpent same (a .unspent)
 
     passed : TakePassed (frameIn b) b t
     passed = take-passed (frameIn b) b t (sym (take-refusal-in b r t) ∙ a .begun)
 
     go : Dec (nodeIn (frameIn b) b 1 .first ≡ 0)
-        → EndsAt (LastAccess b t) (takeCost m) (alone (frameIn b) (acceptedTake (frameIn b) b t) t choices)
+        → EndsAt (LastAccess b t) (takeCost m) (alone (frameIn b) (acceptedTake (frameIn b) b t ReadRoot) t choices)
     go (yes none) =
         let e = cost-empty m none in
-        subst (λ n. EndsAt (LastAccess b t) n (alone (frameIn b) (acceptedTake (frameIn b) b t) t choices)) (sym e)
+        subst (λ n. EndsAt (LastAccess b t) n (alone (frameIn b) (acceptedTake (frameIn b) b t ReadRoot) t choices)) (sym e)
         (ends-so (λ x h. record { empty = λ z. h; mended = λ full. absurd (full none) })
         (take-empty (frameIn b) b t choices (good b r) passed (a .clean) none (omega (arith, e, enough))))
     go (no full) =
         let e = cost-full m full in
         let k = cost-counted (m .depth) (restLevel m) (rest-most m (g .depth-least)) in
         let h = take-rests (frameIn b) b t choices (good b r) passed (a .clean) own g full (omega (arith, e, k, enough)) unspent in
-        subst (λ n. EndsAt (LastAccess b t) n (alone (frameIn b) (acceptedTake (frameIn b) b t) t choices)) (omega (arith, e, k, h .exact))
+        subst (λ n. EndsAt (LastAccess b t) n (alone (frameIn b) (acceptedTake (frameIn b) b t ReadRoot) t choices)) (omega (arith, e, k, h .exact))
         (ends-so (λ x l. record { empty = λ z. absurd (full z); mended = λ n. l }) (h .rests))
 
 -- The ceiling follows: the figure is at most 5 × d.

@@ -12,6 +12,7 @@ use Rattle.region.specs.Shared.{nodeIn}
 use Rattle.region.specs.declared.answer.Answer.{Answer}
 use Rattle.region.specs.declared.answer.Answer.the-variants.{Moved, Refused}
 use Rattle.region.specs.declared.frame.Frame.{Frame}
+use Rattle.region.specs.declared.place.Place.the-variants.{ReadRoot}
 use Rattle.readable.specs.Readable.{frameIn}
 use Rattle.begin.specs.Begin.{takeBytes, takeRefusal}
 use Rattle.run.specs.Run.{Turn, accessesOf}
@@ -55,13 +56,13 @@ NoneSpent (x ∷ rest) = (x .answer ≡ Refused counterSpent → ⊥) × NoneSpe
 
 -- thread t's turns after it has begun a take on the region b
 abbrev pub takeSteps : List ℕ → ℕ → List Turn → List Step
-takeSteps b t turns = stepsOf (frameIn b) (takeBytes b t) t turns
+takeSteps b t turns = stepsOf (frameIn b) (takeBytes b t ReadRoot) t turns
 
 -- the take is begun and alone, whichever turns come after its beginning, if thread t has at least n of them
 pub record Alone (b : List ℕ) (t : ℕ) (turns : List Turn) (n : ℕ) : Type 0 where
   pub begun : takeRefusal b t ≡ done
   pub clean : AllClean (frameIn b) b
-  pub quiet : NoOtherMoves (frameIn b) (takeBytes b t) t turns
+  pub quiet : NoOtherMoves (frameIn b) (takeBytes b t ReadRoot) t turns
   pub unspent : NoneSpent (takeSteps b t turns)
   pub enough : n ≤ length (takeSteps b t turns)
 

@@ -1,10 +1,11 @@
 -- The calls on a region, with their arguments as given (document 01, The bag: "any list of calls on it .. put, take, run, check
--- and refused layouts, with whatever arguments, refused or not"). That they are the exported functions is Exported.antt.
+-- and refused layouts, with whatever arguments, refused or not"; and request 1's list). That they are the exported functions is Exported.antt.
 use Prim.Native.Nat.{ℕ}
 use mathlib.Core.Path.{_≡_}
 use mathlib.Core.List.{List, [], _∷_}
 use lib.ListN.{length}
 use Rattle.region.specs.Answer.{done}
+use Rattle.region.specs.declared.place.Place.the-variants.{ReadRoot, ListReadRoot}
 use Rattle.region.specs.declared.record.Item.{Item}
 use Rattle.region.specs.declared.shape.Shape.{Shape}
 use Rattle.layout.specs.Layout.{layoutRefusal, layoutBytes}
@@ -16,6 +17,7 @@ pub data Call : Type 0 where
   layout : Shape → List ℕ → Call
   put : ℕ → Item → Call
   take : ℕ → Call
+  list : ℕ → Call
   run : List ℕ → ℕ → List ℕ → Call
   check : Call
 
@@ -24,6 +26,7 @@ unfoldable pub refusalOf : List ℕ → Call → ℕ
 refusalOf b (layout s permissions) = layoutRefusal s permissions (length b)
 refusalOf b (put t i) = putRefusal b t i
 refusalOf b (take t) = takeRefusal b t
+refusalOf b (list t) = takeRefusal b t
 refusalOf b (run schedule limit answers) = runRefusal b schedule (length answers)
 refusalOf b check = checkAnswer b
 
@@ -31,7 +34,8 @@ refusalOf b check = checkAnswer b
 unfoldable pub after : List ℕ → Call → List ℕ
 after b (layout s permissions) = layoutBytes s permissions b
 after b (put t i) = putBytes b t i
-after b (take t) = takeBytes b t
+after b (take t) = takeBytes b t ReadRoot
+after b (list t) = takeBytes b t ListReadRoot
 after b (run schedule limit answers) = runResult b schedule limit answers .region
 after b check = b
 
@@ -41,5 +45,6 @@ NoAcceptedLayout l [] = Unit
 NoAcceptedLayout l (layout s permissions ∷ cs) = (layoutRefusal s permissions l ≡ done → ⊥) × NoAcceptedLayout l cs
 NoAcceptedLayout l (put t i ∷ cs) = NoAcceptedLayout l cs
 NoAcceptedLayout l (take t ∷ cs) = NoAcceptedLayout l cs
+NoAcceptedLayout l (list t ∷ cs) = NoAcceptedLayout l cs
 NoAcceptedLayout l (run schedule limit answers ∷ cs) = NoAcceptedLayout l cs
 NoAcceptedLayout l (check ∷ cs) = NoAcceptedLayout l cs

@@ -14,13 +14,14 @@ use Rattle.region.specs.declared.record.Item.{Item}
 use Rattle.region.specs.declared.shape.Shape.{Shape}
 use Rattle.readable.specs.Readable.{frameIn}
 use Rattle.mound.specs.Ledger.{Ledger, Follows, emptyLedger}
-use Rattle.mound.specs.Told.{Told, nothing, decidesPut, decidesTake, decidesEmpty, answersTook}
+use Rattle.mound.specs.Told.{Told, nothing, decidesPut, decidesTake, decidesList, decidesEmpty, answersTook}
 use Rattle.mound.specs.Tree.{inNodes, sameItem}
-use Rattle.bag.specs.Calls.{layout, put, take, run, check}
+use Rattle.bag.specs.Calls.{layout, put, take, list, run, check}
 use Rattle.bag.specs.History.{Event, called, turned, Moment}
 use Rattle.bag.specs.Moments.{InEveryHistory, EachMoment}
 use Rattle.bag.specs.Operations.{AnsweredDecidesOnce, DecidesAtMostOnce}
 use Rattle.bag.specs.Told.{tells}
+use Rattle.bag.specs.TookInOrder.{TookInOrder}
 
 -- copies of i in the tree
 unfoldable pub inTree : Frame → List ℕ → Item → ℕ
@@ -36,11 +37,12 @@ abbrev pub Agrees : Ledger → List ℕ → List Moment → Type 0
 Agrees l b [] = HoldsTheSame l b
 Agrees l b (m ∷ ms) = HoldsTheSame l b × ((l′ : Ledger) × Follows (tells (m .event)) l l′ × Agrees l′ (m .region) ms)
 
--- a turn of thread t that answers so tells this: inserted comes only from a put that decides, empty only from a take that decides so; what
--- a took must be is the ledger's `take-answers`
+-- a turn of thread t that answers so tells this: inserted comes only from a put that decides, empty only from a take of either kind that
+-- decides so; what a took must be is the ledger's `take-answers`
 pub data Says (t : ℕ) : Answer → Told → Type 0 where
   moved : Says t Moved nothing
   removed : {i : Item} → Says t Moved (decidesTake t i)
+  list-removed : {is : List Item} → Says t Moved (decidesList t is)
   idle : Says t Idle nothing
   inserted : Says t Inserted (decidesPut t)
   took : {i : Item} → Says t (Took i) (answersTook t i)
@@ -56,6 +58,7 @@ abbrev pub makes : ℕ → Event → Bool
 makes t (called (layout s permissions) r) = false
 makes t (called (put u i) r) = eqb t u
 makes t (called (take u) r) = eqb t u
+makes t (called (list u) r) = eqb t u
 makes t (called (run schedule limit answers) r) = false
 makes t (called check r) = false
 makes t (turned x) = eqb t (x .thread)
@@ -67,6 +70,8 @@ pub record Demand3 (s : Shape) (permissions b : List ℕ) (ms : List Moment) : T
   -- "Each operation has at most one deciding access, each answered one exactly one, after its beginning and no later than its answer"
   pub at-most-once : DecidesAtMostOnce ms
   pub answered-once : AnsweredDecidesOnce ms
+  -- "its took answers, as far as they come, are that list in order" (request 1)
+  pub took-in-order : TookInOrder ms
   -- a turn's answer says what it told
   pub answers-say : EachMoment (λ before m. AnswerSays (m .event)) b ms
   -- "no call or turn of a thread with an empty permission list changes it"

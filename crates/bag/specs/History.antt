@@ -14,16 +14,18 @@ use Rattle.region.specs.declared.record.Item.{Item}
 use Rattle.readable.specs.Readable.{frameIn}
 use Rattle.run.specs.Run.{Served, Turn, runRefusal, serve, soFar, turnsFrom}
 use Rattle.machine.specs.Turn.{turnAnswer, turnBytes}
-use Rattle.bag.specs.Calls.{Call, layout, put, take, run, check, refusalOf, after}
+use Rattle.mound.specs.Tree.{itemsOf, listFrom}
+use Rattle.bag.specs.Calls.{Call, layout, put, take, list, run, check, refusalOf, after}
 
--- a served turn: its thread, the place where that stood and where it stands afterwards, the answer, and the item of the root's head cell
--- just before
+-- a served turn: its thread, the place where that stood and where it stands afterwards, the answer, and the item of the root's head cell and
+-- the items of the root's list just before
 pub record ServedTurn : Type 0 where
   pub thread : ℕ
   pub from : Place
   pub to : Place
   pub answer : Answer
   pub root : Item
+  pub list : List Item
 
 -- a call with what it answers, or a served turn
 pub data Event : Type 0 where
@@ -39,6 +41,10 @@ pub record Moment : Type 0 where
 abbrev pub rootItem : Frame → List ℕ → Item
 rootItem f b = sharedIn f b .cell (sharedIn f b .node 1 .first) .item
 
+-- the items of the root's list, from its head by next cells, at most C of them
+abbrev pub rootItems : Frame → List ℕ → List Item
+rootItems f b = itemsOf (listFrom (sharedIn f b .cell) (f .shape .cells) (sharedIn f b .node 1 .first))
+
 -- a turn served on the region b
 unfoldable pub servedOn : Frame → List ℕ → Turn → ServedTurn
 servedOn f b t =
@@ -48,6 +54,7 @@ servedOn f b t =
       to = threadIn f (turnBytes f b (t .thread) (t .choice)) (t .thread) .place;
       answer = turnAnswer f b (t .thread) (t .choice);
       root = rootItem f b;
+      list = rootItems f b;
     }
 
 -- the moments of the turns that are served until accesses made equal the limit
@@ -66,6 +73,7 @@ unfolding turnMoments
 servedMoments b (layout s permissions) = []
 servedMoments b (put t i) = []
 servedMoments b (take t) = []
+servedMoments b (list t) = []
 servedMoments b (run schedule limit answers) =
     pick
     (eqb (runRefusal b schedule (length answers)) done)

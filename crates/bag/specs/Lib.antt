@@ -10,3 +10,4 @@ pub mod Operations
 pub mod TakeCost
 pub mod Theorems
 pub mod Told
+pub mod TookInOrder

@@ -1,5 +1,5 @@
 -- What begins, decides and answers an operation, and how often an operation decides. "An operation begins with a put or take call that is
--- not refused. It is answered by the first turn of its thread, before that thread's next beginning, that answers inserted, took or empty.
+-- not refused", or with a list (request 1), which may have several answers. It is answered by the first turn of its thread, before that thread's next beginning, that answers inserted, took or empty.
 -- A deciding access belongs to its thread's operation begun last."
 use Prim.Native.Nat.{ℕ, _+_, _≤_}
 use mathlib.Core.Path.{_≡_}
@@ -8,7 +8,7 @@ use mathlib.Core.List.{List, [], _∷_, _++_}
 use lib.Dec.{eqb}
 use Rattle.region.specs.Pick.{pick}
 use Rattle.access.specs.Plan.{ends}
-use Rattle.mound.specs.Told.{Told, nothing, beginsPut, beginsTake, decidesPut, decidesTake, decidesEmpty, answersTook}
+use Rattle.mound.specs.Told.{Told, nothing, beginsPut, beginsTake, beginsList, decidesPut, decidesTake, decidesList, decidesEmpty, answersTook}
 use Rattle.bag.specs.History.{Event, called, turned, Moment}
 use Rattle.bag.specs.Told.{tells}
 
@@ -17,8 +17,10 @@ abbrev pub beginning : ℕ → Told → Bool
 beginning t nothing = false
 beginning t (beginsPut u i) = eqb t u
 beginning t (beginsTake u) = eqb t u
+beginning t (beginsList u) = eqb t u
 beginning t (decidesPut u) = false
 beginning t (decidesTake u i) = false
+beginning t (decidesList u is) = false
 beginning t (decidesEmpty u) = false
 beginning t (answersTook u i) = false
 
@@ -26,8 +28,10 @@ abbrev pub deciding : ℕ → Told → Bool
 deciding t nothing = false
 deciding t (beginsPut u i) = false
 deciding t (beginsTake u) = false
+deciding t (beginsList u) = false
 deciding t (decidesPut u) = eqb t u
 deciding t (decidesTake u i) = eqb t u
+deciding t (decidesList u is) = eqb t u
 deciding t (decidesEmpty u) = eqb t u
 deciding t (answersTook u i) = false
 
@@ -53,7 +57,7 @@ DecidesAtMostOnce all =
     (t : ℕ) (y : Moment) (before since later : List Moment) → all ≡ before ++ y ∷ (since ++ later) → begins t (y .event) ≡ true
     → count (begins t) since ≡ 0 → count (decides t) since ≤ 1
 
--- "each answered one exactly one, after its beginning and no later than its answer": x answers that operation
+-- "each answered one exactly one, after its beginning and no later than its answer": x answers that operation, first or again
 abbrev pub AnsweredDecidesOnce : List Moment → Type 0
 AnsweredDecidesOnce all =
     (t : ℕ) (y x : Moment) (before since later : List Moment) → all ≡ before ++ y ∷ (since ++ x ∷ later) → begins t (y .event) ≡ true

@@ -10,11 +10,13 @@ use Rattle.region.specs.declared.record.Item.{Item}
 use Rattle.readable.specs.Readable.{frameIn, readable, shapeIn}
 use Rattle.machine.specs.Turn.{turnAnswer}
 use Rattle.mound.specs.Ledger.{Least}
+use Rattle.mound.specs.Told.{decidesList}
 use Rattle.bag.specs.Account.{AllCellsAccounted, PutsRefusedWhenFull}
 use Rattle.bag.specs.Demand3.{inTree}
 use Rattle.bag.specs.History.{Moment}
 use Rattle.bag.specs.Moments.{EachMoment, InEveryHistory, Throughout}
 use Rattle.bag.specs.TakeCost.{TakesCost, TakesEnd}
+use Rattle.bag.specs.Told.{tells}
 
 -- the region is readable, and its first words are the layout's still
 abbrev pub StaysReadable : Type 0
@@ -24,11 +26,11 @@ StaysReadable = Throughout λ s permissions b. (readable b ≡ true) × (shapeIn
 abbrev pub NoTurnUnreadable : Type 0
 NoTurnUnreadable = Throughout λ s permissions b. (t choice : ℕ) → turnAnswer (frameIn b) b t choice ≡ Refused unreadable → ⊥
 
--- tree, begun puts and free chain account for all C cells
+-- tree, begun puts, items in hand and free chain account for all C cells
 abbrev pub CellsAccounted : Type 0
 CellsAccounted = Throughout λ s permissions b. AllCellsAccounted b
 
--- a put is refused 10 exactly when tree and begun puts hold all C
+-- a put is refused 10 exactly when tree, begun puts and items in hand fill all
 abbrev pub RefusedTenWhenFull : Type 0
 RefusedTenWhenFull = Throughout λ s permissions b. PutsRefusedWhenFull b
 
@@ -56,10 +58,10 @@ abbrev pub copies : List ℕ → Item → ℕ
 copies b i = inTree (frameIn b) b i
 
 -- of two items with equal keys, the one with the greater tag (j) never leaves while the other (i) is there: no call and no turn makes its
--- copies fewer
+-- copies fewer, but for the 18 of a list, which takes all that stand behind the least item
 abbrev pub StaysBehind : List ℕ → Moment → Type 0
 StaysBehind before m =
-    (i j : Item) → i .key ≡ j .key → i .tag < j .tag → 1 ≤ copies before i → copies before j ≤ copies (m .region) j
+    ((t : ℕ) (is : List Item) → tells (m .event) ≡ decidesList t is → ⊥) → (i j : Item) → i .key ≡ j .key → i .tag < j .tag → 1 ≤ copies before i → copies before j ≤ copies (m .region) j
 
 -- "Equal keys, smaller tag first" (request 2)
 abbrev pub SmallerTagFirst : Type 0

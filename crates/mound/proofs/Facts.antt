@@ -3,10 +3,12 @@
 use Prim.Native.Nat.{ℕ, _+_, _*_, _/_, _^_, _≤_, _<_}
 use native.Mathlib.Omega.{arith}
 use mathlib.Core.Path.{_≡_, refl, sym, ap, subst, _∙_}
-use mathlib.Core.Bool.{true, false}
+use mathlib.Core.Bool.{true, false, true≢false}
 use mathlib.Core.List.{List, [], _∷_}
+use lib.Dec.{eqb}
 use lib.Pow.{pow-mono}
 use Rattle.region.specs.Level.{level}
+use Rattle.region.specs.Place.{placeNumber}
 use Rattle.region.specs.Shared.{Shared}
 use Rattle.region.specs.declared.place.Place.{Place}
 use Rattle.region.specs.declared.place.Place.the-variants.{Idle, ReadDepth, ReadLeaf, ReadAncestor, GrowDepth, ReadTarget, InsertAtRoot, ReadParent, InsertBelow, ReadRoot, RemoveHead, MendReadNode, MendReadDepth, MendReadLeft, MendReadRight, MendSwap, MendClean, ListReadRoot, RemoveList, HandOut}
@@ -168,6 +170,74 @@ At s m t op (MendClean w) = Mends m t op × Dirty m (t .node) (t .copies .first)
 At s m t op ListReadRoot = Takes m t listing op
 At s m t op RemoveList = Takes m t listing op × RootRead m (t .copies .first)
 At s m t op HandOut = Hands m t op
+
+-- A thread is idle exactly where it has no operation.
+abbrev pub stage : Operation → ℕ
+stage none = 0
+stage (putting i) = 1
+stage taking = 2
+stage listing = 3
+stage (owing i is) = 4
+
+module _ (s : Shape) (m : Shared) (t : Thread) (op : Operation) where
+  puts-busy : Puts m t op → stage op ≡ 0 → ⊥
+  puts-busy h e = let k = ap stage (h .operation) in omega arith
+
+  takes-busy : (at : Operation) → 1 ≤ stage at → Takes m t at op → stage op ≡ 0 → ⊥
+  takes-busy at l h e = let k = ap stage (h .operation) in omega arith
+
+  hands-busy : Hands m t op → stage op ≡ 0 → ⊥
+  hands-busy h e = let k = ap stage (h .operation) in omega arith
+
+  mends-busy : Purpose m t op → stage op ≡ 0 → ⊥
+  mends-busy (for-take a h) = takes-busy taking (omega arith) h
+  mends-busy (for-answer a h) = takes-busy (owing (t .result) []) (omega arith) h
+  mends-busy (for-list a h) = takes-busy listing (omega arith) h
+  mends-busy (for-hands a h) = hands-busy h
+
+  pub none-when-idle : (p : Place) → At s m t op p → eqb (placeNumber p) 0 ≡ true → op ≡ none
+  none-when-idle Idle h e = h .0
+  none-when-idle ReadDepth h e = absurd (true≢false (sym e))
+  none-when-idle ReadLeaf h e = absurd (true≢false (sym e))
+  none-when-idle ReadAncestor h e = absurd (true≢false (sym e))
+  none-when-idle GrowDepth h e = absurd (true≢false (sym e))
+  none-when-idle ReadTarget h e = absurd (true≢false (sym e))
+  none-when-idle InsertAtRoot h e = absurd (true≢false (sym e))
+  none-when-idle ReadParent h e = absurd (true≢false (sym e))
+  none-when-idle InsertBelow h e = absurd (true≢false (sym e))
+  none-when-idle ReadRoot h e = absurd (true≢false (sym e))
+  none-when-idle RemoveHead h e = absurd (true≢false (sym e))
+  none-when-idle (MendReadNode w) h e = absurd (true≢false (sym e))
+  none-when-idle (MendReadDepth w) h e = absurd (true≢false (sym e))
+  none-when-idle (MendReadLeft w) h e = absurd (true≢false (sym e))
+  none-when-idle (MendReadRight w) h e = absurd (true≢false (sym e))
+  none-when-idle (MendSwap w) h e = absurd (true≢false (sym e))
+  none-when-idle (MendClean w) h e = absurd (true≢false (sym e))
+  none-when-idle ListReadRoot h e = absurd (true≢false (sym e))
+  none-when-idle RemoveList h e = absurd (true≢false (sym e))
+  none-when-idle HandOut h e = absurd (true≢false (sym e))
+
+  pub idle-without : (p : Place) → At s m t op p → stage op ≡ 0 → eqb (placeNumber p) 0 ≡ true
+  idle-without Idle h e = refl
+  idle-without ReadDepth h e = absurd (puts-busy h e)
+  idle-without ReadLeaf h e = absurd (puts-busy (h .0) e)
+  idle-without ReadAncestor h e = absurd (puts-busy (h .0) e)
+  idle-without GrowDepth h e = absurd (puts-busy (h .0) e)
+  idle-without ReadTarget h e = absurd (puts-busy (h .0) e)
+  idle-without InsertAtRoot h e = absurd (puts-busy (h .0) e)
+  idle-without ReadParent h e = absurd (puts-busy (h .0) e)
+  idle-without InsertBelow h e = absurd (puts-busy (h .0) e)
+  idle-without ReadRoot h e = absurd (takes-busy taking (omega arith) h e)
+  idle-without RemoveHead h e = absurd (takes-busy taking (omega arith) (h .0) e)
+  idle-without (MendReadNode w) h e = absurd (mends-busy (h .0) e)
+  idle-without (MendReadDepth w) h e = absurd (mends-busy (h .0 .0) e)
+  idle-without (MendReadLeft w) h e = absurd (mends-busy (h .0 .0) e)
+  idle-without (MendReadRight w) h e = absurd (mends-busy (h .0 .0) e)
+  idle-without (MendSwap w) h e = absurd (mends-busy (h .0 .0) e)
+  idle-without (MendClean w) h e = absurd (mends-busy (h .0 .0) e)
+  idle-without ListReadRoot h e = absurd (takes-busy listing (omega arith) h e)
+  idle-without RemoveList h e = absurd (takes-busy listing (omega arith) (h .0) e)
+  idle-without HandOut h e = absurd (hands-busy h e)
 
 pub sound-read : (m : Shared) (n : ℕ) → Sound m n (readNode m n)
 unfolding readNode

@@ -28,13 +28,13 @@ use Rattle.access.proofs.OrderLaws.{item-less, item-trans}
 use Rattle.mound.specs.Ledger.{Operation, none, putting, taking, listing, owing, stillOwing, Ledger, Follows, still, put-begins, take-begins, list-begins, put-decides, take-decides, list-decides, empty-decides, take-answers, HoldsAll, Least, listLess, oneMore, oneLess}
 use Rattle.mound.specs.Told.{Told, nothing, beginsPut, beginsTake, beginsList, decidesPut, decidesTake, decidesList, decidesEmpty, answersTook}
 use Rattle.mound.specs.Tree.{itemsOf, listFrom, sameItem}
-use Rattle.mound.proofs.Chains.{HasItems, ItemsStay, among, items, length-items, list-items, only-items}
+use Rattle.mound.proofs.Chains.{HasItems, ItemsStay, among, has-items, items, length-items, list-items, only-items}
 use Rattle.mound.proofs.Effects.{Keeps, Mound, in-tree, root-there, value-there, rely-same, begin-keeps, begin-counts, grow-keeps, grow-counts, push-keeps, push-counts, push-rest, pop-keeps, pop-counts, pop-items-stay, exchange-keeps, exchange-counts, clean-keeps, clean-counts, detach-keeps, detach-counts, free-keeps, free-counts, free-rest}
 use Rattle.mound.proofs.Facts.{At, Takes, stays}
 use Rattle.mound.proofs.Held.{counted, few-cells, held-by, head-held, node-chain}
 use Rattle.mound.proofs.Order.{root-above}
 use Rattle.mound.proofs.Plans.{Allowed, OwnAfter, OperationAfter, reads, grows, swaps, cleans, inserts, removes, detaches, empties, answers, cleans-answers, hands-out}
-use Rattle.mound.proofs.Sorted.{AtMost, Proper, same-item, item-same, valueAt}
+use Rattle.mound.proofs.Sorted.{AtMost, Proper, Sorted, same-item, item-same, valueAt}
 
 -- each thread's own cell
 abbrev pub owns : (ℕ → Thread) → ℕ → ℕ
@@ -149,6 +149,12 @@ module _ (s : Shape) (m : Shared) (own : ℕ → ℕ) {all : ℕ} (g : Mound s m
       let e = only-items k is h in
       let few = few-cells s m own (g .held) 1 (omega arith) (in-tree s m own g 1 (root-there s m own g)) in
       (list-items (m .cell) (s .cells) (m .node 1 .first) is h (omega (arith, few, ap length e, length-items (m .cell) (g .held .list 2))), e)
+
+  -- and it never falls
+  pub root-sorted : Sorted (listOfRoot s m)
+  root-sorted =
+      let is = items (m .cell) (g .held .list 2) in
+      subst Sorted (sym (root-listed is (has-items (node-chain s m own (g .held) 1 (omega arith))) .0)) (g .held .sorted 1 (omega arith))
 
 -- what a step leaves, beside the thread's own facts
 pub record Stepped (s : Shape) (m m′ : Shared) (own own′ : ℕ → ℕ) (l l′ : Ledger) (all t : ℕ) (op′ : Operation) : Type 0 where

@@ -1,6 +1,6 @@
--- Case J of document 01 as a whole history, computed from the definitions: "root 5; both take, turns 1,1,2,2,2,2,2,1,1: thread
--- 2 gets empty first, then thread 1 took 5." The bag is told the put, both takes, thread 1's E2 with the item, thread 2's
--- empty, and thread 1's answer, in the order of the deciding accesses and not of the answers. Assumes nothing.
+-- Two whole histories, computed from the definitions: what the bag is told comes in the order of the deciding accesses and not of the answers.
+-- Case J of document 01: "root 5; both take, turns 1,1,2,2,2,2,2,1,1: thread 2 gets empty first, then thread 1 took 5." And a list of two items
+-- beside a take: once 18 has emptied the root the take finds nothing, and then the list hands out both. Assumes nothing.
 use Prim.Native.Nat.{ℕ, _*_}
 use mathlib.Core.Path.{_≡_, refl}
 use mathlib.Core.List.{List, [], _∷_, _++_}
@@ -9,8 +9,9 @@ use Rattle.region.specs.declared.record.Item.{Item}
 use Rattle.layout.specs.Layout.{layoutBytes}
 use Rattle.cases.specs.Row.{schedule}
 use Rattle.computes.proofs.Computes.{computes}
-use Rattle.mound.specs.Told.{Told, nothing, beginsPut, beginsTake, decidesPut, decidesTake, decidesEmpty, answersTook}
-use Rattle.bag.specs.Calls.{Call, put, take, run, after, refusalOf}
+use Rattle.mound.specs.Told.{Told, nothing, beginsPut, beginsTake, beginsList, decidesPut, decidesTake, decidesList, decidesEmpty, answersTook}
+use Rattle.mound.specs.Tree.{itemsOf, listFrom}
+use Rattle.bag.specs.Calls.{Call, put, take, list, run, after, refusalOf}
 use Rattle.bag.specs.History.{Moment, servedOn, turnMoments, servedMoments, callMoments, history}
 use Rattle.bag.specs.Told.{tells}
 
@@ -25,6 +26,7 @@ five = record { key = 5; tag = 9 }
 pub laid : List ℕ
 laid = layoutBytes (record { depth = 2; cells = 2; threads = 2; threshold = 1 }) (3 ∷ 3 ∷ []) (replicate 348 0)
 
+-- case J
 pub calls : List Call
 unfolding five
 calls = put 1 five ∷ runs (1 ∷ 1 ∷ 1 ∷ 1 ∷ []) ∷ take 1 ∷ take 2 ∷ runs (1 ∷ 1 ∷ 2 ∷ 2 ∷ 2 ∷ 2 ∷ 2 ∷ 1 ∷ 1 ∷ []) ∷ []
@@ -34,8 +36,10 @@ pub some : Told → List Told
 some nothing = []
 some (beginsPut t i) = beginsPut t i ∷ []
 some (beginsTake t) = beginsTake t ∷ []
+some (beginsList t) = beginsList t ∷ []
 some (decidesPut t) = decidesPut t ∷ []
 some (decidesTake t i) = decidesTake t i ∷ []
+some (decidesList t is) = decidesList t is ∷ []
 some (decidesEmpty t) = decidesEmpty t ∷ []
 some (answersTook t i) = answersTook t i ∷ []
 
@@ -48,3 +52,25 @@ pub case-J : told (history laid calls)
     ≡ beginsPut 1 five ∷ decidesPut 1 ∷ beginsTake 1 ∷ beginsTake 2 ∷ decidesTake 1 five ∷ decidesEmpty 2 ∷ answersTook 1 five ∷ []
 unfolding told laid calls five computes after refusalOf servedOn turnMoments servedMoments callMoments history
 case-J = refl
+
+-- a list of two items
+pub seven : Item
+seven = record { key = 7; tag = 2 }
+
+pub list-calls : List Call
+unfolding five seven
+list-calls =
+    put 1 seven
+    ∷ runs (1 ∷ 1 ∷ 1 ∷ 1 ∷ [])
+    ∷ put 1 five
+    ∷ runs (1 ∷ 1 ∷ 1 ∷ 1 ∷ [])
+    ∷ list 1
+    ∷ take 2
+    ∷ runs (1 ∷ 1 ∷ 2 ∷ 2 ∷ 2 ∷ 2 ∷ 2 ∷ 1 ∷ 1 ∷ 1 ∷ 1 ∷ [])
+    ∷ []
+
+pub case-list : told (history laid list-calls)
+    ≡ beginsPut 1 seven ∷ decidesPut 1 ∷ beginsPut 1 five ∷ decidesPut 1 ∷ beginsList 1 ∷ beginsTake 2 ∷ decidesList 1 (five ∷ seven ∷ [])
+    ∷ decidesEmpty 2 ∷ answersTook 1 five ∷ answersTook 1 seven ∷ []
+unfolding told laid list-calls five seven computes after refusalOf servedOn turnMoments servedMoments callMoments history listFrom itemsOf
+case-list = refl
