@@ -1,18 +1,15 @@
-//! The places of a take, lines 21 to 31 of Listing 1.
+//! The places of a take, lines 21 to 31 of Listing 1, and those of a list, which change request 1 adds.
 
-use super::fields::{Field, Place, ROOT};
-use super::memory::{NodeCopy, Update};
+use super::fields::{After, Field, Place, ROOT};
+use super::memory::{Cell, Node, NodeCopy, Update};
 use super::record::Copied;
-use super::turn::{Outcome, Turn};
+use super::turn::{existing, Outcome, Turn};
 use crate::{Answer, Refusal};
 
-/// What follows the mending of the root: the take starts again, or it answers its result.
-const AFTER_AGAIN: u32 = 0;
-pub(super) const AFTER_ANSWER: u32 = 1;
-
 impl Turn<'_, '_> {
-    /// E1, lines 22 to 26: READ the root.
-    pub(super) fn read_root(&mut self) -> Outcome {
+    /// E1, lines 22 to 26, and 17: READ the root. A dirty one is mended before it is read again; one
+    /// that holds something is updated at the next place.
+    pub(super) fn read_root(&mut self, again: After, next: Place) -> Outcome {
         let copy = self.memory.read(ROOT)?;
         if !copy.node.dirty && copy.node.first_cell == 0 {
             self.thread.go_idle();
@@ -20,28 +17,59 @@ impl Turn<'_, '_> {
         }
         self.thread.set_copy(Copied::First, copy);
         if copy.node.dirty {
-            self.thread.set(Field::After, AFTER_AGAIN);
-            return self.mend(ROOT);
+            return self.mend_root(again);
         }
-        self.moved_to(Place::E2)
+        self.moved_to(next)
     }
 
-    /// E2, lines 27 to 30: CAS the root to the rest of its list, dirty. The head that was copied is
-    /// the result, and its cell is free at once. Only a success names that cell, so a copy without
-    /// one is refused only where the comparison holds.
+    /// E2, lines 27 to 30: CAS the root to the rest of its list. The head that was copied is the
+    /// result, and its cell is free at once.
     pub(super) fn pop_root(&mut self) -> Outcome {
         let NodeCopy { node, head } = self.thread.copy(Copied::First);
-        if node.first_cell == 0 && self.memory.equals(ROOT, node)? {
-            return Err(Refusal::Unreadable);
-        }
-        let pop = Update { at: ROOT, old: node, first_cell: head.next, dirty: true };
-        if !self.memory.cas(&pop)? {
+        if !self.cut_root(node, head.next)? {
             return self.moved_to(Place::E1);
         }
         self.memory.free_cell(node.first_cell);
         self.thread.set(Field::ResultKey, head.key);
         self.thread.set(Field::ResultTag, head.tag);
-        self.thread.set(Field::After, AFTER_ANSWER);
+        self.mend_root(After::AnswerResult)
+    }
+
+    /// 18: CAS the root to an empty list. The list that was copied is in the thread's hand, from its
+    /// own cell on.
+    pub(super) fn detach_root(&mut self) -> Outcome {
+        let NodeCopy { node, .. } = self.thread.copy(Copied::First);
+        if !self.cut_root(node, 0)? {
+            return self.moved_to(Place::P17);
+        }
+        self.thread.set(Field::OwnCell, node.first_cell);
+        self.mend_root(After::HandOut)
+    }
+
+    /// 19: hands out the first item in hand and frees its cell. With the last the thread goes idle.
+    pub(super) fn hand_out(&mut self) -> Outcome {
+        let own_cell = existing(self.thread.get(Field::OwnCell))?;
+        let Cell { key, tag, next } = self.memory.cell(own_cell);
+        self.memory.free_cell(own_cell);
+        if next == 0 {
+            self.thread.go_idle();
+        } else {
+            self.thread.set(Field::OwnCell, next);
+        }
+        Ok(Answer::Took { key, tag })
+    }
+
+    /// CAS of the root to a list that starts at this cell, dirty. Only a success names the copied
+    /// head, so a copy without one is refused only where the comparison holds.
+    fn cut_root(&mut self, old: Node, first_cell: u32) -> Result<bool, Refusal> {
+        if old.first_cell == 0 && self.memory.equals(ROOT, old)? {
+            return Err(Refusal::Unreadable);
+        }
+        self.memory.cas(&Update { at: ROOT, old, first_cell, dirty: true })
+    }
+
+    fn mend_root(&mut self, after: After) -> Outcome {
+        self.thread.set(Field::After, after as u32);
         self.mend(ROOT)
     }
 }

@@ -42,7 +42,8 @@ pub(super) enum Field {
     Copies,
 }
 
-/// Where a thread stands, numbered from 0: idle, in a put (I), in a take (E), in its mending (M).
+/// Where a thread stands, numbered from 0: idle, in a put (I), in a take (E), in mending (M), in a list
+/// (17 to 19, which have no other name).
 #[derive(Clone, Copy)]
 pub(super) enum Place {
     Idle,
@@ -62,13 +63,36 @@ pub(super) enum Place {
     M4,
     M5,
     M6,
+    P17,
+    P18,
+    P19,
 }
 
 impl Place {
     /// The places in the order of their numbers.
-    pub const ALL: [Place; 17] = {
+    pub const ALL: [Place; 20] = {
         use Place::*;
-        [Idle, I1, I2, I3, I4, I5, I6, I7, I8, E1, E2, M1, M2, M3, M4, M5, M6]
+        [Idle, I1, I2, I3, I4, I5, I6, I7, I8, E1, E2, M1, M2, M3, M4, M5, M6, P17, P18, P19]
     };
-    pub const LAST: Place = Place::M6;
+    pub const LAST: Place = Place::P19;
+}
+
+/// What follows the mending of the root, numbered from 0.
+#[derive(Clone, Copy)]
+pub(super) enum After {
+    /// Back to E1.
+    TakeAgain,
+    /// A take answers its result.
+    AnswerResult,
+    /// Back to 17.
+    ListAgain,
+    /// On to 19.
+    HandOut,
+}
+
+impl After {
+    /// All of them in the order of their numbers.
+    pub const ALL: [After; 4] =
+        [After::TakeAgain, After::AnswerResult, After::ListAgain, After::HandOut];
+    pub const LAST: After = After::HandOut;
 }

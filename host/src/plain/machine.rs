@@ -55,9 +55,22 @@ impl<'a> Machine<'a> {
     /// In this order, and with no byte changed: [`Refusal::Thread`], [`Refusal::Permission`],
     /// [`Refusal::Busy`].
     pub fn take(&mut self, thread: u32) -> Result<(), Refusal> {
+        self.begin_taking(thread, Place::E1)
+    }
+
+    /// Begins a list, which removes all items of the root's list and hands them out one by one.
+    ///
+    /// # Errors
+    ///
+    /// Those of [`Machine::take`].
+    pub fn list(&mut self, thread: u32) -> Result<(), Refusal> {
+        self.begin_taking(thread, Place::P17)
+    }
+
+    fn begin_taking(&mut self, thread: u32, place: Place) -> Result<(), Refusal> {
         let mut record = record_of(self.threads, thread)?;
         record.may_begin(MAY_TAKE)?;
-        record.set_place(Place::E1);
+        record.set_place(place);
         Ok(())
     }
 

@@ -2,7 +2,7 @@
 //! against the library.
 //!
 //! It shares [`Shape`](crate::Shape), [`Refusal`], [`Answer`] and [`Served`](crate::Served) with the
-//! rest of the crate, and no code with the library. The five calls are functions on a region's
+//! rest of the crate, and no code with the library. The calls are functions on a region's
 //! bytes; [`Machine`] is a region that is checked once and then used, [`turn()`] serves one turn by
 //! itself, and [`take_cost()`] tells how many accesses a take would make.
 //!
@@ -57,6 +57,15 @@ pub fn put(region: &mut [u8], thread: u32, key: u32, tag: u32) -> Result<(), Ref
 /// [`Refusal::Unreadable`] first, then those of [`Machine::take`]; no byte is changed.
 pub fn take(region: &mut [u8], thread: u32) -> Result<(), Refusal> {
     Machine::open(region)?.take(thread)
+}
+
+/// Begins a list.
+///
+/// # Errors
+///
+/// [`Refusal::Unreadable`] first, then those of [`Machine::list`]; no byte is changed.
+pub fn list(region: &mut [u8], thread: u32) -> Result<(), Refusal> {
+    Machine::open(region)?.list(thread)
 }
 
 /// Serves one turn, as a run of one would: a region that is not readable is refused 7 before the

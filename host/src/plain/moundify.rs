@@ -1,8 +1,7 @@
 //! The places of mending, which Listing 1 calls moundify: lines 32 to 56, as document 01 corrects
 //! them.
 
-use super::extract::AFTER_ANSWER;
-use super::fields::{Field, Place};
+use super::fields::{After, Field, Place};
 use super::memory::Update;
 use super::record::Copied;
 use super::turn::{existing, level_of, Outcome, Turn};
@@ -104,12 +103,16 @@ impl Turn<'_, '_> {
             let node = self.thread.get(Field::Node);
             return self.mend(node >> (node.ilog2() - deepest));
         }
-        if self.thread.get(Field::After) != AFTER_ANSWER {
-            return self.moved_to(Place::E1);
+        match self.thread.after() {
+            After::TakeAgain => self.moved_to(Place::E1),
+            After::ListAgain => self.moved_to(Place::P17),
+            After::HandOut => self.moved_to(Place::P19),
+            After::AnswerResult => {
+                let key = self.thread.get(Field::ResultKey);
+                let tag = self.thread.get(Field::ResultTag);
+                self.thread.go_idle();
+                Ok(Answer::Took { key, tag })
+            }
         }
-        let key = self.thread.get(Field::ResultKey);
-        let tag = self.thread.get(Field::ResultTag);
-        self.thread.go_idle();
-        Ok(Answer::Took { key, tag })
     }
 }

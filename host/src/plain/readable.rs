@@ -1,6 +1,6 @@
 //! Readability: whether every field of a region is in its range.
 
-use super::fields::{heading, Field, Place, GREATEST_PERMISSION, GREATEST_TAG};
+use super::fields::{heading, After, Field, Place, GREATEST_PERMISSION, GREATEST_TAG};
 use super::parts::{CellWords, CopyWords, NodeWords, ThreadWords};
 use crate::shape::{CELL_WORDS, HEADING_WORDS, NODE_WORDS};
 use crate::words::{word, WORD};
@@ -69,7 +69,7 @@ fn thread_in_range(record: &ThreadWords, shape: Shape) -> bool {
         && field(Field::Hi) <= shape.depth
         && node <= shape.nodes()
         && field(Field::Waiting) <= all_that_may_wait(place, node)
-        && field(Field::After) <= 1
+        && field(Field::After) <= After::LAST as u32
         && field(Field::ResultTag) <= GREATEST_TAG
         && copies.as_chunks().0.iter().all(|copy| copy_in_range(copy, shape))
 }

@@ -1,6 +1,6 @@
 //! A thread's record: its fields, its three node copies, and what is done to it as a whole.
 
-use super::fields::{Field, Place};
+use super::fields::{After, Field, Place};
 use super::memory::{Cell, Node, NodeCopy};
 use super::parts::{CopyWords, ThreadWords};
 use super::value::Value;
@@ -35,6 +35,10 @@ impl Record<'_> {
 
     pub fn set_place(&mut self, place: Place) {
         self.set(Field::Place, place as u32);
+    }
+
+    pub fn after(&self) -> After {
+        After::ALL[self.get(Field::After) as usize]
     }
 
     /// The item of a put, to be compared with the values of nodes.

@@ -1,6 +1,6 @@
 //! One turn: the dispatch by place, and what the places share.
 
-use super::fields::Place;
+use super::fields::{After, Place};
 use super::memory::Memory;
 use super::record::Record;
 use crate::{Answer, Refusal, Shape};
@@ -28,7 +28,7 @@ impl Turn<'_, '_> {
             Place::I6 => self.push_on_root(),
             Place::I7 => self.read_parent(),
             Place::I8 => self.push_under_parent(),
-            Place::E1 => self.read_root(),
+            Place::E1 => self.read_root(After::TakeAgain, Place::E2),
             Place::E2 => self.pop_root(),
             Place::M1 => self.read_mended(),
             Place::M2 => self.read_depth_mending(),
@@ -36,6 +36,9 @@ impl Turn<'_, '_> {
             Place::M4 => self.read_right_child(),
             Place::M5 => self.swap_with_child(),
             Place::M6 => self.clean(),
+            Place::P17 => self.read_root(After::ListAgain, Place::P18),
+            Place::P18 => self.detach_root(),
+            Place::P19 => self.hand_out(),
         }
     }
 

@@ -4,7 +4,7 @@ use mound::{Refusal, Shape};
 
 use super::fields::{place, Words, FIRST_FREE_CELL, PERMISSION, PLACE};
 
-/// The reasons to refuse a put, and those to refuse a take, in document 01's order.
+/// The reasons to refuse a put, and those to refuse a take or a list, in document 01's order.
 const OF_PUT: [Refusal; 6] = [
     Refusal::Unreadable,
     Refusal::Thread,
@@ -18,7 +18,7 @@ const OF_TAKE: [Refusal; 4] =
 
 const SHAPE: Shape = Shape { depth: 3, cells: 3, threads: 2, threshold: 2 };
 
-/// A region and arguments, with the results that a put and a take are due.
+/// A region and arguments, with the results that a put is due and a take or a list.
 pub struct Beginning {
     pub region: Vec<u8>,
     pub thread: u32,
@@ -45,7 +45,7 @@ fn beginning(set: u32, by_much: bool) -> Beginning {
     let record = region.thread(2);
     region.words[record + PERMISSION] = if applies(&Refusal::Permission) { 0 } else { 3 };
     if applies(&Refusal::Busy) {
-        region.words[record + PLACE] = if by_much { place::M6 } else { place::I1 };
+        region.words[record + PLACE] = if by_much { place::P19 } else { place::I1 };
     }
     if applies(&Refusal::NoFreeCell) {
         region.words[FIRST_FREE_CELL] = 0;

@@ -53,6 +53,9 @@ pub mod place {
     pub const M4: u32 = 14;
     pub const M5: u32 = 15;
     pub const M6: u32 = 16;
+    pub const P17: u32 = 17;
+    pub const P18: u32 = 18;
+    pub const P19: u32 = 19;
 }
 
 /// What a word holds, and by that its range.
@@ -194,15 +197,15 @@ impl Words {
         match self.field(at) {
             Field::Counter | Field::Key => u32::MAX,
             Field::Tag => 65_535,
-            Field::Dirty | Field::After => 1,
-            Field::Permission => 3,
-            Field::Place => 16,
+            Field::Dirty => 1,
+            Field::Permission | Field::After => 3,
+            Field::Place => 19,
             Field::Cell => shape.cells,
             Field::Depth | Field::Level => shape.depth,
             Field::Node => (1 << shape.depth) - 1,
             Field::Tries if self.beside(at, PLACE) == 2 => shape.threshold - 1,
             Field::Tries => shape.threshold,
-            Field::Waiting if self.beside(at, PLACE) < 11 => 0,
+            Field::Waiting if !(11..=16).contains(&self.beside(at, PLACE)) => 0,
             // The marks of the levels that end before the node.
             Field::Waiting => (1..=shape.depth)
                 .filter(|&level| (1 << level) <= self.beside(at, NODE))

@@ -18,6 +18,7 @@ pub type Item = (u32, u32);
 pub enum Call {
     Put(Item),
     Take,
+    List,
 }
 
 /// The shape of document 01's cases.
@@ -97,10 +98,15 @@ impl Queue {
         plain::take(&mut self.bytes, thread)
     }
 
+    pub fn list(&mut self, thread: u32) -> Result<(), Refusal> {
+        plain::list(&mut self.bytes, thread)
+    }
+
     pub fn begin(&mut self, thread: u32, call: Call) -> Result<(), Refusal> {
         match call {
             Call::Put((key, tag)) => self.put(thread, key, tag),
             Call::Take => self.take(thread),
+            Call::List => self.list(thread),
         }
     }
 
@@ -180,7 +186,7 @@ impl Queue {
     pub fn compared(&self, thread: u32) -> Vec<(usize, u32)> {
         let node = self.field(thread, NODE);
         let nodes = match self.place(thread) {
-            place::I6 | place::E2 => vec![1],
+            place::I6 | place::E2 | place::P18 => vec![1],
             place::I8 => vec![node, node / 2],
             place::M5 => vec![node, 2 * node, 2 * node + 1],
             place::M6 => vec![node],
@@ -211,19 +217,37 @@ impl Queue {
         (first_cell != 0).then(|| self.item(first_cell))
     }
 
-    /// The cells of a node's list: from its first cell by next cells to 0, at most as many as there
-    /// are cells.
-    pub fn list_of(&self, node: u32) -> impl Iterator<Item = u32> + '_ {
+    /// The cells from one by next cells to 0, at most as many as there are cells.
+    fn chain_from(&self, first_cell: u32) -> impl Iterator<Item = u32> + '_ {
         let existing = |cell: u32| (cell != 0).then_some(cell);
-        let [first_cell, ..] = self.node(node);
         let cells = successors(existing(first_cell), move |&cell| existing(self.cell(cell)[2]));
         cells.take(self.shape().cells as usize)
     }
 
+    /// The cells of a node's list.
+    pub fn list_of(&self, node: u32) -> impl Iterator<Item = u32> + '_ {
+        let [first_cell, ..] = self.node(node);
+        self.chain_from(first_cell)
+    }
+
+    /// The cells from a thread's own cell on: that of a put, or those in a list's hand.
+    pub fn held_by(&self, thread: u32) -> impl Iterator<Item = u32> + '_ {
+        self.chain_from(self.field(thread, OWN_CELL))
+    }
+
+    /// The cells in the lists of all nodes.
+    pub fn tree(&self) -> impl Iterator<Item = u32> + '_ {
+        (1..1 << self.shape().depth).flat_map(|node| self.list_of(node))
+    }
+
+    /// The free cells.
+    pub fn free(&self) -> impl Iterator<Item = u32> + '_ {
+        self.chain_from(self.word(FIRST_FREE_CELL))
+    }
+
     /// The items in the lists of all nodes, in order.
     pub fn items(&self) -> Vec<Item> {
-        let cells = (1..1 << self.shape().depth).flat_map(|node| self.list_of(node));
-        let mut items: Vec<Item> = cells.map(|cell| self.item(cell)).collect();
+        let mut items: Vec<Item> = self.tree().map(|cell| self.item(cell)).collect();
         items.sort_unstable();
         items
     }
@@ -263,7 +287,7 @@ impl Queue {
         panic!("a take has no end");
     }
 
-    fn item(&self, cell: u32) -> Item {
+    pub fn item(&self, cell: u32) -> Item {
         let [key, tag, _] = self.cell(cell);
         (key, tag)
     }

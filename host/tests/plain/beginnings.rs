@@ -1,4 +1,4 @@
-//! Beginning a put or a take: the refusals in order, and each word afterwards.
+//! Beginning a put, a take or a list: the refusals in order, and each word afterwards.
 
 use crate::common::beginnings::with_every_set_of_reasons;
 use crate::fields::{place, Words, FIRST_FREE_CELL, KEY, OWN_CELL, PERMISSION, PLACE, TAG};
@@ -10,7 +10,8 @@ fn the_first_reason_in_order_refuses() {
     for beginning in with_every_set_of_reasons() {
         let before = Queue { bytes: beginning.region };
         let put = Call::Put((beginning.key, beginning.tag));
-        for (call, due) in [(put, beginning.put), (Call::Take, beginning.take)] {
+        let [take, list] = [Call::Take, Call::List].map(|call| (call, beginning.take));
+        for (call, due) in [(put, beginning.put), take, list] {
             let mut after = before.clone();
             assert_eq!(after.begin(beginning.thread, call), due);
             assert_eq!(after == before, due.is_err());
@@ -24,9 +25,12 @@ fn a_permission_grants_what_it_lists() {
     for (permission, may_put, may_take) in
         [(0, false, false), (1, true, false), (2, false, true), (3, true, true)]
     {
-        let mut queue = Queue::laid_out(crate::queue::SMALL, &[permission; 2]);
-        assert_eq!(queue.put(1, 5, 0).is_ok(), may_put);
-        assert_eq!(queue.take(2).is_ok(), may_take);
+        for (call, may_begin) in
+            [(Call::Put((5, 0)), may_put), (Call::Take, may_take), (Call::List, may_take)]
+        {
+            let mut queue = Queue::laid_out(crate::queue::SMALL, &[permission; 2]);
+            assert_eq!(queue.begin(1, call).is_ok(), may_begin);
+        }
     }
 }
 
@@ -60,13 +64,14 @@ fn a_put_takes_the_first_free_cell() {
 }
 
 #[test]
-fn a_take_sets_the_place_alone() {
+fn a_take_or_a_list_sets_the_place_alone() {
     let random = &mut Random::new(81);
     for _ in 0..5000 {
         let mut queue = ready(random);
         let mut due = queue.clone();
-        due.set_field(1, PLACE, place::E1);
-        assert_eq!(queue.take(1), Ok(()));
+        let (call, place) = random.one_of(&[(Call::Take, place::E1), (Call::List, place::P17)]);
+        due.set_field(1, PLACE, place);
+        assert_eq!(queue.begin(1, call), Ok(()));
         assert!(queue == due);
     }
 }

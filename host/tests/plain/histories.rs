@@ -37,7 +37,12 @@ impl History {
         if random.among(0..=3) == 0 {
             let item = (random.among(self.keys.clone()), random.among_or_extreme(0..=65_535));
             self.keys = self.keys.start() + self.rise..=self.keys.end() + self.rise;
-            self.begin(thread, random.one_of(&[Call::Put(item), Call::Put(item), Call::Take]));
+            let call = match random.among(0..=11) {
+                0 => Call::List,
+                1..=3 => Call::Take,
+                _ => Call::Put(item),
+            };
+            self.begin(thread, call);
         }
         for _ in 0..random.one_of(&[0, 1, 1, 1, 2, 5, 20]) {
             self.turn(thread, random.among(0..=u32::MAX));
@@ -47,14 +52,16 @@ impl History {
     fn begin(&mut self, thread: u32, call: Call) {
         let before = self.queue.clone();
         let result = self.queue.begin(thread, call);
-        let agreed = self.ledger.called(thread, call, result, (&before, &self.queue));
+        let played = self.ledger.called(thread, call, result, (&before, &self.queue));
+        let agreed = played.and_then(|()| self.ledger.look_at(&self.queue));
         assert_eq!(agreed, Ok(()), "{call:?} of thread {thread}");
     }
 
     fn turn(&mut self, thread: u32, choice: u32) {
         let before = self.queue.clone();
         let answer = self.queue.turn(thread, choice);
-        let agreed = self.ledger.turned(thread, answer, (&before, &self.queue));
+        let played = self.ledger.turned(thread, answer, (&before, &self.queue));
+        let agreed = played.and_then(|()| self.ledger.look_at(&self.queue));
         assert_eq!(agreed, Ok(()), "turn of thread {thread} with choice {choice}: {answer:?}");
     }
 }
@@ -81,6 +88,7 @@ fn a_thread_that_lists_nothing_changes_nothing() {
             let mut queue = history.queue.clone();
             assert_eq!(queue.put(lists_nothing, 1, 2), Err(Refusal::Permission));
             assert_eq!(queue.take(lists_nothing), Err(Refusal::Permission));
+            assert_eq!(queue.list(lists_nothing), Err(Refusal::Permission));
             assert_eq!(queue.turn(lists_nothing, random.among(0..=u32::MAX)), Answer::Idle);
             assert!(queue == history.queue);
         }
@@ -93,7 +101,7 @@ fn a_thread_that_lists_nothing_changes_nothing() {
 fn a_take_alone_costs_its_figure() {
     let random = &mut Random::new(72);
     let mut most_at_depth = [0; 7];
-    for _ in 0..100 {
+    for _ in 0..200 {
         let mut history = History::start(random);
         for _ in 0..1000 {
             history.go_on(random);

@@ -1,15 +1,18 @@
-//! Demand 3 as a test, with request 2's order: the plain bag of items, told the calls and the turns
-//! of a queue. Also what a take costs, request 3.
+//! Demand 3 as a test, with request 1's lists and request 2's order: the plain bag of items, told the
+//! calls and the turns of a queue. Also the account of cells, and what a take costs, request 3.
+
+use std::{mem, slice};
 
 use mound::{Answer, Refusal};
 
 use crate::fields::{place, PERMISSION};
 use crate::queue::{Call, Item, Queue};
 
-/// What the queue did that the bag does not do, or a take that costs something else than its figure.
+/// What the queue did that the bag does not do, a cell that is not accounted for, or a take that costs
+/// something else than its figure.
 #[derive(Clone, Copy, Debug, PartialEq)]
 pub enum Disagreement {
-    /// A put or take began, or was refused, otherwise than it should have been.
+    /// An operation began, or was refused, otherwise than it should have been.
     Beginning { got: Result<(), Refusal>, due: Result<(), Refusal> },
     /// A turn was refused, which no turn is on a laid-out region whose counters are small.
     RefusedTurn(Refusal),
@@ -23,32 +26,60 @@ pub enum Disagreement {
     EmptyAnswer,
     /// An item was taken that the bag does not hold.
     NotHeld(Item),
-    /// An item was taken while the bag holds a lesser one.
+    /// An item was taken first while the bag holds a lesser one.
     NotLeast(Item),
-    /// A take answered another item than it removed.
+    /// Another item was answered than the next of those removed.
     OtherAnswer { got: Item, due: Item },
     /// The tree does not hold what the bag holds.
     OtherTree,
+    /// A thread is idle before its operation has ended, or is not idle then.
+    OtherIdleness { thread: u32 },
+    /// A thread holds other items than that of its put or those of its list that it still owes.
+    OtherHand { thread: u32 },
+    /// A cell is neither in the tree nor held nor free, or it is twice in these.
+    OtherCells,
+    /// A node is dirty while no operation is under way.
+    DirtyAtRest,
     /// A take alone would make another number of accesses than its figure says.
     OtherCost { thread: u32, got: u32, due: u32 },
 }
 
 /// A thread's operation, as far as the bag is told.
-#[derive(Clone, Copy, PartialEq, Eq, Hash)]
+#[derive(Clone, PartialEq, Eq, Hash)]
 enum Operation {
     None,
     Put(Item),
     Take,
-    /// A take that has removed this item and is to answer it.
-    Took(Item),
+    List,
+    /// A take or a list that has decided.
+    Owes(Owed),
 }
 
-/// The moment at which a take is played on the bag.
+/// Items that one access has removed and that are to be answered, in this order: one by a take, whose
+/// cell is free, or those of a list, whose cells are in the thread's hand.
+#[derive(Clone, PartialEq, Eq, Hash)]
+struct Owed {
+    items: Vec<Item>,
+    in_hand: bool,
+}
+
+impl Operation {
+    /// The items in the cells that the thread holds.
+    fn held(&self) -> &[Item] {
+        match self {
+            Operation::Put(item) => slice::from_ref(item),
+            Operation::Owes(Owed { items, in_hand: true }) => items,
+            _ => &[],
+        }
+    }
+}
+
+/// The moment at which a take or a list is played on the bag.
 #[derive(Clone, Copy, PartialEq, Eq, Hash)]
 pub enum Order {
     /// At its deciding access, as document 01 says.
     Deciding,
-    /// At its answer: one of document 01's mistakes with good looks.
+    /// At its answers: one of document 01's mistakes with good looks.
     Answering,
 }
 
@@ -90,9 +121,10 @@ impl Ledger {
             self.operations[thread as usize - 1] = match call {
                 Call::Put(item) => Operation::Put(item),
                 Call::Take => Operation::Take,
+                Call::List => Operation::List,
             };
         }
-        self.look_at_tree(after)
+        Ok(())
     }
 
     /// Plays a turn, given its answer and the queue before and after it.
@@ -103,12 +135,10 @@ impl Ledger {
         (before, after): (&Queue, &Queue),
     ) -> Result<(), Disagreement> {
         self.look_at_changes(thread, answer == Answer::Idle, (before, after))?;
-        // An E2 that succeeds goes to M1. Its item is that of the root's head just before.
-        let at_e2 = before.place(thread) == place::E2 && after.place(thread) == place::M1;
-        let removed = if at_e2 { before.head_of_root() } else { None };
-        let operation = self.operations[thread as usize - 1];
+        let removed = removed(thread, (before, after));
+        let operation = mem::replace(&mut self.operations[thread as usize - 1], Operation::None);
         self.operations[thread as usize - 1] = self.played(operation, answer, removed)?;
-        self.look_at_tree(after)
+        Ok(())
     }
 
     /// The thread's operation after a turn that has been played on the bag.
@@ -116,60 +146,71 @@ impl Ledger {
         &mut self,
         operation: Operation,
         answer: Answer,
-        removed: Option<Item>,
+        removed: Option<Owed>,
     ) -> Result<Operation, Disagreement> {
         match (operation, answer, removed) {
             (_, Answer::Refused(refusal), _) => Err(Disagreement::RefusedTurn(refusal)),
             (Operation::None, Answer::Idle, None) => Ok(Operation::None),
-            (Operation::Put(_) | Operation::Take | Operation::Took(_), Answer::Moved, None) => {
-                Ok(operation)
-            }
+            (Operation::None, ..) => Err(Disagreement::NoSuchOperation),
+            (operation, Answer::Moved, None) => Ok(operation),
             (Operation::Put(item), Answer::Inserted, None) => {
                 let at = self.bag.partition_point(|&held| held < item);
                 self.bag.insert(at, item);
                 Ok(Operation::None)
             }
-            (Operation::Take, Answer::Empty, None) if self.bag.is_empty() => Ok(Operation::None),
-            (Operation::Take, Answer::Empty, None) => Err(Disagreement::EmptyAnswer),
-            (Operation::Take, Answer::Moved, Some(item)) => {
-                self.remove(item, Order::Deciding)?;
-                Ok(Operation::Took(item))
+            (Operation::Take | Operation::List, Answer::Empty, None) => {
+                if self.bag.is_empty() {
+                    Ok(Operation::None)
+                } else {
+                    Err(Disagreement::EmptyAnswer)
+                }
             }
-            (Operation::Took(due), Answer::Took { key, tag }, None) if due != (key, tag) => {
-                Err(Disagreement::OtherAnswer { got: (key, tag), due })
+            (Operation::Take, Answer::Moved, Some(owed @ Owed { in_hand: false, .. }))
+            | (Operation::List, Answer::Moved, Some(owed @ Owed { in_hand: true, .. })) => {
+                self.remove(&owed.items, Order::Deciding)?;
+                Ok(Operation::Owes(owed))
             }
-            (Operation::Took(item), Answer::Took { .. }, None) => {
-                self.remove(item, Order::Answering)?;
-                Ok(Operation::None)
+            (Operation::Owes(mut owed), Answer::Took { key, tag }, None) => {
+                let due = owed.items.remove(0);
+                if due != (key, tag) {
+                    return Err(Disagreement::OtherAnswer { got: (key, tag), due });
+                }
+                self.remove(&[due], Order::Answering)?;
+                Ok(if owed.items.is_empty() { Operation::None } else { Operation::Owes(owed) })
             }
             _ => Err(Disagreement::NoSuchOperation),
         }
     }
 
-    /// One copy of an item leaves the bag, if this is the ledger's moment for it.
-    fn remove(&mut self, item: Item, moment: Order) -> Result<(), Disagreement> {
+    /// One copy of each of these items leaves the bag, if this is the ledger's moment for it. The first
+    /// is to be the least of all.
+    fn remove(&mut self, items: &[Item], moment: Order) -> Result<(), Disagreement> {
         if moment != self.order {
             return Ok(());
         }
-        let at = self.bag.binary_search(&item).map_err(|_| Disagreement::NotHeld(item))?;
-        if self.bag[0] < item {
-            return Err(Disagreement::NotLeast(item));
+        let least_before = self.bag.first().copied();
+        for &item in items {
+            let at = self.bag.binary_search(&item).map_err(|_| Disagreement::NotHeld(item))?;
+            self.bag.remove(at);
         }
-        self.bag.remove(at);
-        Ok(())
+        match items {
+            [first, ..] if Some(*first) != least_before => Err(Disagreement::NotLeast(*first)),
+            _ => Ok(()),
+        }
     }
 
     /// What a beginning is to result in, by permission, operation and the cells in use: those in the
-    /// tree and those of puts that have not decided.
+    /// tree and those held by puts and lists.
     fn due(&self, thread: u32, call: Call, queue: &Queue) -> Result<(), Refusal> {
-        let needed = if call == Call::Take { 2 } else { 1 };
-        let putting = |operation: &&Operation| matches!(operation, Operation::Put(_));
-        let cells_used = queue.items().len() + self.operations.iter().filter(putting).count();
+        let is_put = matches!(call, Call::Put(_));
+        let needed = if is_put { 1 } else { 2 };
+        let held: usize = self.operations.iter().map(|operation| operation.held().len()).sum();
+        let cells_used = queue.tree().count() + held;
         if queue.field(thread, PERMISSION) & needed == 0 {
             Err(Refusal::Permission)
         } else if self.is_busy(thread) {
             Err(Refusal::Busy)
-        } else if call != Call::Take && cells_used == queue.shape().cells as usize {
+        } else if is_put && cells_used == queue.shape().cells as usize {
             Err(Refusal::NoFreeCell)
         } else {
             Ok(())
@@ -193,13 +234,46 @@ impl Ledger {
         }
     }
 
-    /// The tree holds what the bag holds, unless the bag is behind by its order.
-    fn look_at_tree(&self, queue: &Queue) -> Result<(), Disagreement> {
+    /// What holds at every moment: the tree holds what the bag holds, unless the bag is behind by its
+    /// order; each thread is idle or not, and holds cells, as its operation has it; each cell is in the
+    /// tree, held or free, once; and where nothing is under way, all nodes are clean.
+    pub fn look_at(&self, queue: &Queue) -> Result<(), Disagreement> {
         if self.order == Order::Deciding && self.bag != queue.items() {
             return Err(Disagreement::OtherTree);
         }
+        let mut cells: Vec<u32> = queue.tree().chain(queue.free()).collect();
+        for (thread, operation) in (1..).zip(&self.operations) {
+            if (queue.place(thread) == place::IDLE) != (*operation == Operation::None) {
+                return Err(Disagreement::OtherIdleness { thread });
+            }
+            let held: Vec<u32> = queue.held_by(thread).collect();
+            if !held.iter().map(|&cell| queue.item(cell)).eq(operation.held().iter().copied()) {
+                return Err(Disagreement::OtherHand { thread });
+            }
+            cells.extend(held);
+        }
+        cells.sort_unstable();
+        if !cells.into_iter().eq(1..=queue.shape().cells) {
+            return Err(Disagreement::OtherCells);
+        }
+        let at_rest = self.operations.iter().all(|operation| *operation == Operation::None);
+        if at_rest && !queue.all_clean() {
+            return Err(Disagreement::DirtyAtRest);
+        }
         Ok(())
     }
+}
+
+/// What a turn of this thread has removed: an E2 that succeeds, which goes to M1, the root's head just
+/// before, an 18 the root's list.
+fn removed(thread: u32, (before, after): (&Queue, &Queue)) -> Option<Owed> {
+    let (most, in_hand) = match (before.place(thread), after.place(thread)) {
+        (place::E2, place::M1) => (1, false),
+        (place::P18, place::M1) => (usize::MAX, true),
+        _ => return None,
+    };
+    let items: Vec<Item> = before.list_of(1).map(|cell| before.item(cell)).take(most).collect();
+    (!items.is_empty()).then_some(Owed { items, in_hand })
 }
 
 /// With all nodes clean, a take alone makes the accesses of its figure, whichever thread begins it.

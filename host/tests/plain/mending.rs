@@ -1,10 +1,12 @@
-//! Taking and mending on records of every kind: where a turn goes, what it leaves in the record.
+//! Taking, listing and mending on records of every kind: where a turn goes, what it leaves in the
+//! record.
 
 use mound::Answer;
 
-use crate::fields::place::{E1, E2, IDLE, M1, M2, M3, M4, M5, M6};
+use crate::fields::place::{E1, E2, IDLE, M1, M2, M3, M4, M5, M6, P17, P18, P19};
 use crate::fields::{
-    AFTER, COPIES, D, NODE, PERMISSION, PLACE, PRESENT_DEPTH, RESULT_KEY, RESULT_TAG, WAITING,
+    AFTER, COPIES, D, FIRST_FREE_CELL, NODE, OWN_CELL, PERMISSION, PLACE, PRESENT_DEPTH,
+    RESULT_KEY, RESULT_TAG, WAITING,
 };
 use crate::queue::Queue;
 
@@ -15,20 +17,89 @@ fn at(place: u32, fields: &[(usize, u32)]) -> Queue {
     Queue::with_thread_at(place, fields, [5, 6, 7].map(|key| Some((key, 0))))
 }
 
+/// Thread 1 is idle: of its record the permission alone is left.
+fn assert_idle(queue: &Queue) {
+    assert_eq!([queue.field(1, PERMISSION), queue.place(1)], [3, IDLE]);
+    assert!(queue.record(1)[4..].iter().all(|&byte| byte == 0));
+}
+
 #[test]
-fn e1_mends_a_dirty_root_and_comes_back() {
-    for value in [Some((5, 0)), None] {
-        let fields = [(NODE, 6), (AFTER, 1)];
-        let mut queue = Queue::with_thread_at(E1, &fields, [value, None, None]);
-        queue.set_word(queue.node_at(1) + DIRTY, 1);
-        let left = queue.moved([PLACE, NODE, AFTER, COPIES[0] + DIRTY]);
-        assert_eq!(left, [M1, 1, 0, 1]);
+fn e1_and_17_mend_a_dirty_root_and_come_back() {
+    for (place, after) in [(E1, 0), (P17, 2)] {
+        for value in [Some((5, 0)), None] {
+            let fields = [(NODE, 6), (AFTER, 1)];
+            let mut queue = Queue::with_thread_at(place, &fields, [value, None, None]);
+            queue.set_word(queue.node_at(1) + DIRTY, 1);
+            let left = queue.moved([PLACE, NODE, AFTER, COPIES[0] + DIRTY]);
+            assert_eq!(left, [M1, 1, after, 1]);
+        }
     }
 }
 
 #[test]
-fn e1_keeps_what_it_does_not_use() {
-    assert_eq!(at(E1, &[(NODE, 6), (AFTER, 1)]).moved([PLACE, NODE, AFTER]), [E2, 6, 1]);
+fn e1_and_17_keep_what_they_do_not_use() {
+    for (place, next) in [(E1, E2), (P17, P18)] {
+        let left = at(place, &[(NODE, 6), (AFTER, 1)]).moved([PLACE, NODE, AFTER]);
+        assert_eq!(left, [next, 6, 1]);
+    }
+}
+
+#[test]
+fn e1_and_17_answer_that_an_empty_root_is_empty() {
+    for place in [E1, P17] {
+        let mut queue = Queue::with_thread_at(place, &[], [None, Some((6, 0)), None]);
+        assert_eq!(queue.turn(1, 0), Answer::Empty);
+        assert_idle(&queue);
+    }
+}
+
+/// The fields that 18 uses, and the result words, which it leaves alone.
+const OF_18: [usize; 6] = [PLACE, NODE, AFTER, OWN_CELL, RESULT_KEY, RESULT_TAG];
+
+#[test]
+fn p18_takes_the_whole_list_in_hand() {
+    let mut queue = at(P18, &[(NODE, 6), (RESULT_KEY, 8), (RESULT_TAG, 9)]);
+    queue.set_words(queue.cell_at(1), [5, 0, 3]);
+    queue.match_copies(1);
+    let before = queue.clone();
+    assert_eq!(queue.clone().moved(OF_18), [M1, 1, 3, 1, 8, 9]);
+    queue.turn(1, 0);
+    assert_eq!(queue.node(1), [0, 1, 10]);
+    assert_eq!([1, 2, 3, 4].map(|cell| queue.cell(cell)), [1, 2, 3, 4].map(|c| before.cell(c)));
+    assert_eq!(queue.word(FIRST_FREE_CELL), 0);
+}
+
+#[test]
+fn a_failed_18_starts_again_at_17() {
+    let fields = [(NODE, 6), (AFTER, 1), (RESULT_KEY, 8), (RESULT_TAG, 9), (COPIES[0], 1)];
+    assert_eq!(at(P18, &fields).moved(OF_18), [P17, 6, 1, 4, 8, 9]);
+}
+
+/// The own cell goes on along its chain, whatever the cells are beside; with the last the thread is
+/// idle.
+#[test]
+fn p19_hands_out_from_the_own_cell() {
+    let mut queue = at(P19, &[(OWN_CELL, 2), (AFTER, 3), (RESULT_KEY, 8)]);
+    queue.set_word(FIRST_FREE_CELL, 4);
+    queue.set_words(queue.cell_at(2), [6, 7, 3]);
+    assert_eq!(queue.turn(1, 0), Answer::Took { key: 6, tag: 7 });
+    let left = [PLACE, OWN_CELL, AFTER, RESULT_KEY].map(|field| queue.field(1, field));
+    assert_eq!(left, [P19, 3, 3, 8]);
+    assert_eq!((queue.cell(2), queue.word(FIRST_FREE_CELL)), ([0, 0, 4], 2));
+
+    assert_eq!(queue.turn(1, 0), Answer::Took { key: 7, tag: 0 });
+    assert_idle(&queue);
+    assert_eq!((queue.cell(3), queue.word(FIRST_FREE_CELL)), ([0, 0, 2], 3));
+}
+
+/// A cell that is its own next one, which only a region that was never laid out has.
+#[test]
+fn p19_goes_by_the_next_cell_as_it_was() {
+    let mut queue = at(P19, &[(OWN_CELL, 2)]);
+    queue.set_words(queue.cell_at(2), [6, 7, 2]);
+    assert_eq!(queue.turn(1, 0), Answer::Took { key: 6, tag: 7 });
+    assert_eq!([queue.place(1), queue.field(1, OWN_CELL)], [P19, 2]);
+    assert_eq!((queue.cell(2), queue.word(FIRST_FREE_CELL)), ([0, 0, 0], 2));
 }
 
 #[test]
@@ -77,12 +148,18 @@ fn a_return_goes_to_the_deepest_waiting_level() {
 
 #[test]
 fn a_return_with_none_waiting_goes_by_after() {
-    let result = [(NODE, 2), (RESULT_KEY, 8), (RESULT_TAG, 9)];
-    let again = at(M2, &result).moved([PLACE, NODE, RESULT_KEY, RESULT_TAG]);
-    assert_eq!(again, [E1, 2, 8, 9]);
-
-    let mut queue = at(M2, &[&result[..], &[(AFTER, 1)]].concat());
-    assert_eq!(queue.turn(1, 0), Answer::Took { key: 8, tag: 9 });
-    assert_eq!([queue.field(1, PERMISSION), queue.place(1)], [3, IDLE]);
-    assert!(queue.record(1)[4..].iter().all(|&byte| byte == 0));
+    let returning = |place, after| {
+        let mut queue = at(place, &[(NODE, 2), (AFTER, after), (RESULT_KEY, 8), (RESULT_TAG, 9)]);
+        queue.match_copies(1);
+        queue
+    };
+    for from in [M2, M6] {
+        for (after, place) in [(0, E1), (2, P17), (3, P19)] {
+            let left = returning(from, after).moved([PLACE, NODE, AFTER, RESULT_KEY, RESULT_TAG]);
+            assert_eq!(left, [place, 2, after, 8, 9]);
+        }
+        let mut queue = returning(from, 1);
+        assert_eq!(queue.turn(1, 0), Answer::Took { key: 8, tag: 9 });
+        assert_idle(&queue);
+    }
 }

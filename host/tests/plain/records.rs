@@ -1,9 +1,11 @@
 //! What turns leave in the thread's record and in shared memory, word by word: a field keeps what
 //! was last put in it until the thread goes idle.
 
-use mound::Answer::{Inserted, Moved, Took};
+use mound::Answer::{Idle, Inserted, Moved, Took};
 
-use crate::fields::{place, AFTER, COPIES, FIRST_FREE_CELL, NODE, PLACE, WAITING};
+use crate::fields::{
+    place, AFTER, COPIES, FIRST_FREE_CELL, NODE, OWN_CELL, PLACE, RESULT_KEY, WAITING,
+};
 use crate::queue::{Queue, SMALL};
 
 /// The record's words from the place to the node.
@@ -86,4 +88,44 @@ fn two_takes_that_mend_turn_by_turn() {
     assert_eq!(places_of(&mut queue, 1, 1), [M2]);
     assert_eq!(queue.turn(1, 0), Took { key: 5, tag: 6 });
     assert_eq!([queue.place(1), queue.place(2)], [place::IDLE; 2]);
+}
+
+/// Items of key 5 with tags 2 and 9 in the root's list, cells 2 and 1, and no node below it.
+#[test]
+fn a_list_turn_by_turn() {
+    use place::{IDLE, M1, M2, M6, P17, P18, P19};
+    let mut queue = Queue::open_to_all(SMALL).holding(&[(5, 9), (5, 2)]);
+    assert_eq!(queue.list(1), Ok(()));
+    // Place, own cell, node, after, result key; then the root.
+    let words = |queue: &Queue| {
+        let fields = [PLACE, OWN_CELL, NODE, AFTER, RESULT_KEY];
+        (fields.map(|field| queue.field(1, field)), queue.node(1))
+    };
+    assert_eq!(words(&queue), ([P17, 0, 0, 0, 0], [2, 0, 2]));
+
+    let after_each_turn = [
+        ([P18, 0, 0, 0, 0], [2, 0, 2]),
+        ([M1, 2, 1, 3, 0], [0, 1, 3]),
+        ([M2, 2, 1, 3, 0], [0, 1, 3]),
+        ([M6, 2, 1, 3, 0], [0, 1, 3]),
+        ([P19, 2, 1, 3, 0], [0, 0, 4]),
+    ];
+    for after in after_each_turn {
+        assert_eq!(queue.turn(1, 0), Moved);
+        assert_eq!(words(&queue), after);
+        assert_eq!([queue.cell(1), queue.cell(2)], [[5, 9, 0], [5, 2, 1]]);
+        assert_eq!(queue.word(FIRST_FREE_CELL), 0);
+    }
+    assert_eq!(copy(&queue, 1, 0), [0, 1, 3, 0, 0, 0]);
+
+    assert_eq!(queue.turn(1, 0), Took { key: 5, tag: 2 });
+    assert_eq!(words(&queue), ([P19, 1, 1, 3, 0], [0, 0, 4]));
+    assert_eq!([queue.cell(1), queue.cell(2)], [[5, 9, 0], [0, 0, 0]]);
+    assert_eq!(queue.word(FIRST_FREE_CELL), 2);
+
+    assert_eq!(queue.turn(1, 0), Took { key: 5, tag: 9 });
+    assert_eq!(words(&queue), ([IDLE, 0, 0, 0, 0], [0, 0, 4]));
+    assert_eq!([queue.cell(1), queue.cell(2)], [[0, 0, 2], [0, 0, 0]]);
+    assert_eq!(queue.word(FIRST_FREE_CELL), 1);
+    assert_eq!(queue.turn(1, 0), Idle);
 }

@@ -3,7 +3,9 @@
 
 use mound::{plain, Answer, Refusal};
 
-use crate::fields::place::{E1, E2, I1, I2, I3, I4, I5, I6, I7, I8, IDLE, M1, M2, M3, M4, M5, M6};
+use crate::fields::place::{
+    E1, E2, I1, I2, I3, I4, I5, I6, I7, I8, IDLE, M1, M2, M3, M4, M5, M6, P17, P18, P19,
+};
 use crate::fields::{AFTER, COPIES, D, HI, KEY, LEAF, LO, NODE, OWN_CELL, PLACE, RESULT_KEY};
 use crate::queue::Queue;
 
@@ -35,7 +37,7 @@ fn a_thread_that_does_not_exist() {
 
 #[test]
 fn a_region_that_is_not_readable() {
-    let queue = queue_with_thread_at(17, &[]);
+    let queue = queue_with_thread_at(20, &[]);
     for thread in 0..=3 {
         let mut after = queue.clone();
         assert_eq!(after.turn(thread, 0), Answer::Refused(Refusal::Unreadable));
@@ -65,20 +67,23 @@ fn a_node_a_cell_or_a_level_that_does_not_exist() {
         at(M4, &[(NODE, 7)]),
         at(M5, &[(NODE, 0)]),
         at(M5, &[(NODE, 4)]),
+        at(P19, &[(OWN_CELL, 0)]),
     ];
-    assert_eq!(refusals, [Refusal::Unreadable; 18]);
+    assert_eq!(refusals, [Refusal::Unreadable; 19]);
 }
 
-/// E2 names the copied cell only where its comparison holds.
+/// E2 and 18 name the copied cell only where their comparison holds.
 #[test]
 fn a_copied_head_that_does_not_exist() {
-    assert_eq!(queue_with_thread_at(E2, &[(COPIES[0], 0)]).moved([PLACE]), [E1]);
-    // An empty root, copied as empty and equal; 7 comes before 11.
-    for counter in [0, u32::MAX] {
-        let mut queue = Queue::with_thread_at(E2, &[], [None; 3]);
-        queue.set_word(queue.node_at(1) + 2, counter);
-        queue.match_copies(1);
-        assert_eq!(refused(&queue), Refusal::Unreadable);
+    for (place, failed) in [(E2, E1), (P18, P17)] {
+        assert_eq!(queue_with_thread_at(place, &[(COPIES[0], 0)]).moved([PLACE]), [failed]);
+        // An empty root, copied as empty and equal; 7 comes before 11.
+        for counter in [0, u32::MAX] {
+            let mut queue = Queue::with_thread_at(place, &[], [None; 3]);
+            queue.set_word(queue.node_at(1) + 2, counter);
+            queue.match_copies(1);
+            assert_eq!(refused(&queue), Refusal::Unreadable);
+        }
     }
 }
 
@@ -111,7 +116,7 @@ fn a_search_that_leaves_the_path_to_its_leaf() {
 
 #[test]
 fn what_a_place_does_not_use_may_be_missing() {
-    for place in [IDLE, I1, E1] {
+    for place in [IDLE, I1, E1, P17] {
         let mut queue = queue_with_thread_at(place, &[]);
         assert!(!matches!(queue.turn(1, 0), Answer::Refused(_)));
     }
@@ -123,13 +128,20 @@ fn what_a_place_does_not_use_may_be_missing() {
 }
 
 /// Each update with its copies equal to their nodes, and the nodes that it changes.
-fn updates() -> [(Queue, &'static [u32]); 5] {
+fn updates() -> [(Queue, &'static [u32]); 6] {
     let at = |place, node, changed: &'static [u32]| {
         let mut queue = queue_with_thread_at(place, &[(NODE, node), (KEY, 5)]);
         queue.match_copies(1);
         (queue, changed)
     };
-    [at(I6, 1, &[1]), at(I8, 2, &[2]), at(E2, 1, &[1]), at(M5, 1, &[1, 2]), at(M6, 2, &[2])]
+    [
+        at(I6, 1, &[1]),
+        at(I8, 2, &[2]),
+        at(E2, 1, &[1]),
+        at(M5, 1, &[1, 2]),
+        at(M6, 2, &[2]),
+        at(P18, 1, &[1]),
+    ]
 }
 
 /// The queue with that counter at a node and another in the copy that is compared with it.
@@ -174,7 +186,7 @@ fn a_spent_counter_where_the_comparison_fails() {
 
 #[test]
 fn a_spent_counter_in_a_node_that_would_stay() {
-    let [_, (push, _), _, (swap, _), _] = updates();
+    let [_, (push, _), _, (swap, _), ..] = updates();
     let mut push = with_counter(&push, 1, u32::MAX, u32::MAX);
     assert_eq!(push.turn(1, 0), Answer::Inserted);
     assert_eq!(push.node(1)[2], u32::MAX);

@@ -1,10 +1,12 @@
-//! Document 01's mistakes with good looks, and that of comparing keys alone, made from outside the
-//! machine: each is an edit of the bytes around a call, after which the machine does what a mistaken
-//! one would do.
+//! Document 01's mistakes with good looks, that of comparing keys alone, and those of lists, made from
+//! outside the machine: each is an edit of the bytes around a call, after which the machine does what a
+//! mistaken one would do.
 
 use mound::{Answer, Refusal};
 
-use crate::fields::{place, Field, Words, FIRST_FREE_CELL, OWN_CELL, PERMISSION};
+use crate::fields::{
+    place, Field, Words, AFTER, FIRST_FREE_CELL, OWN_CELL, PERMISSION, PLACE, THREAD,
+};
 use crate::ledger::Order;
 use crate::queue::{Call, Queue};
 
@@ -24,6 +26,28 @@ pub enum Mistake {
     /// Comparing keys alone at these places, where request 2 compares items. At I2 and I3 the bag
     /// cannot tell: I5 compares with the node once more.
     KeysAlone { at: &'static [u32] },
+    /// A mistake in request 1's places.
+    OfList(ListMistake),
+}
+
+#[derive(Clone, Copy, Debug, PartialEq)]
+pub enum ListMistake {
+    /// 17 mends a dirty root with E1's after.
+    BackToE1,
+    /// 18 leaves the root clean.
+    RootLeftClean,
+    /// 18 frees the list's cells, as E2 frees its head's.
+    FreedAt18,
+    /// The items are handed out at once after 18, and the root is not mended.
+    NotMended,
+    /// Every after but 0 returns as 1 does.
+    AfterReadAsBit,
+    /// 19 hands out the second item in hand before the first.
+    SecondHandedOutFirst,
+    /// 19 leaves out the second item in hand.
+    SecondLeftOut,
+    /// Whoever answers took goes idle.
+    IdleByAnswer,
 }
 
 /// The machine, with a mistake or without.
@@ -65,10 +89,57 @@ impl Machine {
             Some(Mistake::KeysAlone { at }) if at.contains(&queue.place(thread)) => {
                 return turn_that_sees_no_tags(queue, thread, choice);
             }
+            Some(Mistake::OfList(mistake)) => {
+                return turn_of_a_mistaken_list(mistake, queue, thread, choice);
+            }
             _ => {}
         }
         queue.turn(thread, choice)
     }
+}
+
+fn turn_of_a_mistaken_list(
+    mistake: ListMistake,
+    queue: &mut Queue,
+    thread: u32,
+    choice: u32,
+) -> Answer {
+    let (place, after) = (queue.place(thread), queue.field(thread, AFTER));
+    let in_hand: Vec<u32> = queue.held_by(thread).collect();
+    match (mistake, place, &in_hand[..]) {
+        (ListMistake::NotMended, place::M1, _) if after == 3 => {
+            queue.set_field(thread, PLACE, place::P19);
+        }
+        (ListMistake::AfterReadAsBit, ..) => queue.set_field(thread, AFTER, after.min(1)),
+        (ListMistake::SecondHandedOutFirst, place::P19, &[first, second, ..]) => {
+            let [rest, of_first] = [second, first].map(|cell| queue.cell_at(cell) + 2);
+            queue.set_word(of_first, queue.word(rest));
+            queue.set_word(rest, first);
+            queue.set_field(thread, OWN_CELL, second);
+        }
+        (ListMistake::SecondLeftOut, place::P19, &[first, second, ..]) => {
+            queue.set_word(queue.cell_at(first) + 2, queue.cell(second)[2]);
+        }
+        _ => {}
+    }
+
+    let answer = queue.turn(thread, choice);
+    match (mistake, place, queue.place(thread)) {
+        (ListMistake::BackToE1, place::P17, place::M1) => queue.set_field(thread, AFTER, 0),
+        (ListMistake::RootLeftClean, place::P18, place::M1) => {
+            queue.set_word(queue.node_at(1) + 1, 0);
+        }
+        (ListMistake::FreedAt18, place::P18, place::M1) => {
+            let last = queue.held_by(thread).last().expect("a list has removed something");
+            queue.set_word(queue.cell_at(last) + 2, queue.word(FIRST_FREE_CELL));
+            queue.set_word(FIRST_FREE_CELL, queue.field(thread, OWN_CELL));
+        }
+        (ListMistake::IdleByAnswer, place::P19, _) => {
+            (PERMISSION + 1..THREAD).for_each(|field| queue.set_field(thread, field, 0));
+        }
+        _ => {}
+    }
+    answer
 }
 
 /// A turn that keeps the cell of a successful E2 as the thread's own cell and frees it at the answer.

@@ -1,9 +1,9 @@
 //! Each mistake is found: the search finds a disagreement with the bag, on a workload on which
 //! the machine without the mistake has none.
 
-use mound::{Refusal, Shape};
+use mound::Shape;
 
-use super::mistaken::{Machine, Mistake};
+use super::mistaken::{ListMistake, Machine, Mistake};
 use super::search::{explore, Counterexample, Step, Workload};
 use crate::fields::place::{I2, I3, I5, I7, M4, M5};
 use crate::ledger::Disagreement;
@@ -40,11 +40,13 @@ fn an_empty_list_that_grants_all() {
     assert_eq!(found.steps, [Step::Begin { thread: 2, call: Call::Put((3, 1)) }]);
 }
 
-/// Case J: 'empty' is answered before the take that emptied the queue answers.
+/// Case J: 'empty' is answered before the take, or the list, that emptied the queue answers.
 #[test]
 fn an_order_by_answers() {
-    let found = find(Mistake::OrderedByAnswer, &workload(2, [&[Call::Take], &[Call::Take]]));
-    assert_eq!(found.disagreement, Disagreement::EmptyAnswer);
+    for call in [Call::Take, Call::List] {
+        let found = find(Mistake::OrderedByAnswer, &workload(2, [&[call], &[Call::Take]]));
+        assert_eq!(found.disagreement, Disagreement::EmptyAnswer);
+    }
 }
 
 /// A cell that is freed and used again at the root is the same list with another item.
@@ -64,13 +66,12 @@ fn an_i8_that_does_not_test_the_parent() {
     assert_eq!(found.disagreement, Disagreement::EmptyAnswer);
 }
 
-/// Case K: a put begun after E2 finds the cell free.
+/// Case K: with E2 the cell is free, and the take holds it no more.
 #[test]
 fn a_cell_freed_at_the_answer() {
     let calls: [&[Call]; 2] = [&[Call::Put((3, 1))], &[Call::Take]];
     let found = find(Mistake::FreedAtAnswer, &workload(1, calls));
-    let refused = Err(Refusal::NoFreeCell);
-    assert_eq!(found.disagreement, Disagreement::Beginning { got: refused, due: Ok(()) });
+    assert_eq!(found.disagreement, Disagreement::OtherHand { thread: 2 });
 }
 
 /// Three items of one key.
@@ -117,4 +118,68 @@ fn keys_alone_at_m4() {
 fn keys_alone_at_m5() {
     let calls = [Call::Put(TAG_9), Call::Put(TAG_2), Call::Take, Call::Take];
     find_keys_alone(&[M5], &workload(3, [&calls, &[]]));
+}
+
+/// A mistake of lists, in a list by thread 1 that goes with these calls of thread 2, on a queue that
+/// holds these items.
+fn find_of_list(mistake: ListMistake, held: &[Item], others: &[Call]) -> Disagreement {
+    let workload = Workload { held: held.to_vec(), ..workload(2, [&[Call::List], others]) };
+    find(Mistake::OfList(mistake), &workload).disagreement
+}
+
+/// Two items that come to stand in the root's list, the last first.
+const IN_THE_ROOT: [Item; 2] = [TAG_9, TAG_2];
+/// Two of which the second comes to stand below the first.
+const BELOW_THE_ROOT: [Item; 2] = [TAG_2, TAG_9];
+
+/// A list that came back to E1 is a take then.
+#[test]
+fn a_list_that_comes_back_as_a_take() {
+    let found = find_of_list(ListMistake::BackToE1, &BELOW_THE_ROOT, &[Call::Take]);
+    assert_eq!(found, Disagreement::NoSuchOperation);
+}
+
+/// An item below an empty clean root is lost to takes.
+#[test]
+fn a_list_that_leaves_the_root_clean() {
+    let found = find_of_list(ListMistake::RootLeftClean, &BELOW_THE_ROOT, &[Call::Take]);
+    assert_eq!(found, Disagreement::EmptyAnswer);
+}
+
+#[test]
+fn a_list_that_frees_its_cells_at_18() {
+    let found = find_of_list(ListMistake::FreedAt18, &IN_THE_ROOT, &[]);
+    assert_eq!(found, Disagreement::OtherCells);
+}
+
+/// Others would mend the root when they find it dirty: the bag cannot tell.
+#[test]
+fn a_list_that_does_not_mend() {
+    let found = find_of_list(ListMistake::NotMended, &IN_THE_ROOT, &[]);
+    assert_eq!(found, Disagreement::DirtyAtRest);
+}
+
+#[test]
+fn a_list_that_returns_as_a_take() {
+    let found = find_of_list(ListMistake::AfterReadAsBit, &IN_THE_ROOT, &[]);
+    let got = (0, 0);
+    assert_eq!(found, Disagreement::OtherAnswer { got, due: TAG_2 });
+}
+
+#[test]
+fn a_list_in_another_order() {
+    let found = find_of_list(ListMistake::SecondHandedOutFirst, &IN_THE_ROOT, &[]);
+    assert_eq!(found, Disagreement::OtherAnswer { got: TAG_9, due: TAG_2 });
+}
+
+#[test]
+fn a_list_that_leaves_an_item_out() {
+    let found = find_of_list(ListMistake::SecondLeftOut, &IN_THE_ROOT, &[]);
+    assert_eq!(found, Disagreement::OtherIdleness { thread: 1 });
+}
+
+#[test]
+fn a_list_that_is_idle_with_its_first_item() {
+    let found = find_of_list(ListMistake::IdleByAnswer, &IN_THE_ROOT, &[]);
+    assert_eq!(found, Disagreement::OtherIdleness { thread: 1 });
 }

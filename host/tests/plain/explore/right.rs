@@ -6,15 +6,17 @@ use mound::Shape;
 
 use super::mistaken::Machine;
 use super::search::{explore, Explored, Workload};
-use crate::fields::place::{E1, E2, I1, I2, I3, I4, I5, I6, I7, I8, IDLE, M1, M2, M3, M4, M5, M6};
+use crate::fields::place::{
+    E1, E2, I1, I2, I3, I4, I5, I6, I7, I8, IDLE, M1, M2, M3, M4, M5, M6, P17, P18, P19,
+};
 use crate::queue::{Call, Item};
 
 /// The items that a queue holds at the start: the first few of these. A thread's number, which is the
 /// tag of its puts, is less than their tag.
 const HELD: [Item; 4] = [(5, 9), (6, 9), (7, 9), (8, 9)];
 
-/// From each place, the places where document 01 lets a turn go on.
-const WAYS: [(u32, &[u32]); 16] = [
+/// From each place, the places where document 01 and request 1 let a turn go on.
+const WAYS: [(u32, &[u32]); 19] = [
     (I1, &[I2]),
     (I2, &[I1, I2, I3, I4, I5]),
     (I3, &[I3, I5]),
@@ -26,11 +28,14 @@ const WAYS: [(u32, &[u32]); 16] = [
     (E1, &[IDLE, E2, M1]),
     (E2, &[E1, M1]),
     (M1, &[M2]),
-    (M2, &[IDLE, E1, M1, M3, M6]),
+    (M2, &[IDLE, E1, M1, M3, M6, P17, P19]),
     (M3, &[M4]),
     (M4, &[M1, M5, M6]),
     (M5, &[M1]),
-    (M6, &[IDLE, E1, M1]),
+    (M6, &[IDLE, E1, M1, P17, P19]),
+    (P17, &[IDLE, M1, P18]),
+    (P18, &[M1, P17]),
+    (P19, &[IDLE, P19]),
 ];
 
 fn shape(depth: u32, threads: u32, threshold: u32) -> Shape {
@@ -44,14 +49,14 @@ fn all_lists(bound: usize, length: u32) -> impl Iterator<Item = Vec<usize>> {
 }
 
 /// All workloads on a queue of `held` items in which each thread makes one to `longest` calls: takes,
-/// and puts of key 3, below all items held, or of another key. Threads differ in their number alone,
-/// so that workloads which are the same but for that are taken once.
+/// lists, and puts of key 3, below all items held, or of another key. Threads differ in their number
+/// alone, so that workloads which are the same but for that are taken once.
 fn workloads(shape: Shape, held: usize, key: u32, longest: u32) -> impl Iterator<Item = Workload> {
-    let lists: Vec<_> = (1..=longest).flat_map(|length| all_lists(3, length)).collect();
+    let lists: Vec<_> = (1..=longest).flat_map(|length| all_lists(4, length)).collect();
     let distinct = all_lists(lists.len(), shape.threads).filter(|chosen| chosen.is_sorted());
     distinct.map(move |chosen| {
         let calls_by = |(thread, list): (u32, &usize)| -> Vec<Call> {
-            let calls = [Call::Put((3, thread)), Call::Put((key, thread)), Call::Take];
+            let calls = [Call::Put((3, thread)), Call::Put((key, thread)), Call::Take, Call::List];
             lists[*list].iter().map(|&call| calls[call]).collect()
         };
         let calls = (1..).zip(&chosen).map(calls_by).collect();
@@ -65,7 +70,7 @@ fn workloads(shape: Shape, held: usize, key: u32, longest: u32) -> impl Iterator
 fn with_one_key(mut workload: Workload) -> Workload {
     let put = workload.calls.iter_mut().flatten().filter_map(|call| match call {
         Call::Put(item) => Some(item),
-        Call::Take => None,
+        Call::Take | Call::List => None,
     });
     for item in workload.held.iter_mut().chain(put) {
         *item = (5, item.0);
@@ -73,11 +78,22 @@ fn with_one_key(mut workload: Workload) -> Workload {
     workload
 }
 
-/// Explores each workload, as it is and with one key. The turns go every way that document 01 lets
-/// them go, but for those that these workloads do not lead to, and no other.
+/// The workload as it is and with one key. A list compares nothing: one with lists is taken in one of
+/// these ways, by the number of items held.
+fn both_ways(workload: Workload) -> Vec<Workload> {
+    let has_lists = workload.calls.iter().flatten().any(|&call| call == Call::List);
+    match workload.held.len() % 2 {
+        0 if has_lists => vec![with_one_key(workload)],
+        _ if has_lists => vec![workload],
+        _ => vec![with_one_key(workload.clone()), workload],
+    }
+}
+
+/// Explores each workload. The turns go every way that the papers let them go, but for those that
+/// these workloads do not lead to, and no other.
 fn agree_going_every_way_but(not_gone: &[(u32, u32)], workloads: impl Iterator<Item = Workload>) {
     let mut all = Explored::default();
-    for workload in workloads.flat_map(|workload| [with_one_key(workload.clone()), workload]) {
+    for workload in workloads.flat_map(both_ways) {
         match explore(&workload, Machine { mistake: None }) {
             Ok(explored) => {
                 all.states += explored.states;

@@ -60,8 +60,7 @@ pub fn explore(workload: &Workload, machine: Machine) -> Result<Explored, Counte
     let queue = Queue::laid_out(workload.shape, &workload.permissions).holding(&workload.held);
     let ledger = Ledger::of(&queue, machine.order());
     let start = State { queue, ledger, made: vec![0; workload.calls.len()] };
-    look_at_takes(&start.queue)
-        .map_err(|disagreement| Counterexample { steps: vec![], disagreement })?;
+    look_at(&start).map_err(|disagreement| Counterexample { steps: vec![], disagreement })?;
 
     let mut seen = HashSet::from([fingerprint(&start)]);
     let mut moves = BTreeSet::new();
@@ -79,7 +78,7 @@ pub fn explore(workload: &Workload, machine: Machine) -> Result<Explored, Counte
                 let after = step_from(&state, machine, step).map_err(counterexample)?;
                 moves.extend(move_of(step, &state.queue, &after.queue));
                 if seen.insert(fingerprint(&after)) {
-                    look_at_takes(&after.queue).map_err(counterexample)?;
+                    look_at(&after).map_err(counterexample)?;
                     reached.push((number, step));
                     next_frontier.push((reached.len(), after));
                 }
@@ -105,6 +104,12 @@ fn steps(workload: &Workload, state: &State) -> Vec<Step> {
         steps.extend((0..choices).map(|choice| Step::Turn { thread, choice }));
     }
     steps
+}
+
+/// What has to hold of a state by itself.
+fn look_at(state: &State) -> Result<(), Disagreement> {
+    state.ledger.look_at(&state.queue)?;
+    look_at_takes(&state.queue)
 }
 
 /// The state after a step, unless the bag disagrees.
