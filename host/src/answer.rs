@@ -21,14 +21,14 @@ pub enum Answer {
     /// The put ended: its item is in the queue.
     Inserted,
     /// The take ended with this item, which was the least, by key and then by tag, when it was
-    /// removed.
+    /// removed; or the list handed this item out, the next of those that it removed.
     Took {
         /// The item's key.
         key: u32,
         /// The item's tag.
         tag: u32,
     },
-    /// The take ended: it found the queue empty.
+    /// The take or the list ended: it found the queue empty.
     Empty,
     /// The turn was refused and nothing was done; the thread keeps its place.
     Refused(Refusal),

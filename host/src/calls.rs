@@ -31,6 +31,8 @@ mod exported {
 
         pub fn mound_take(region: *mut u8, region_len: usize, thread: u32) -> u32;
 
+        pub fn mound_list(region: *mut u8, region_len: usize, thread: u32) -> u32;
+
         pub fn mound_run(
             region: *mut u8,
             region_len: usize,
@@ -91,6 +93,16 @@ pub fn put(region: &mut [u8], thread: u32, key: u32, tag: u32) -> u32 {
 pub fn take(region: &mut [u8], thread: u32) -> u32 {
     // SAFETY: as in `put`.
     unsafe { exported::mound_take(region.as_mut_ptr(), region.len(), thread) }
+}
+
+/// Begins a list by a thread; turns do the rest. It removes all items of the root's list at once, the
+/// least of all first among them, and hands them out in their order, one a turn.
+///
+/// Refusals, in order: 7 (not readable), 3 (thread), 8 (permission, that of a take), 9 (busy). Cost:
+/// that of [`check`], then one word.
+pub fn list(region: &mut [u8], thread: u32) -> u32 {
+    // SAFETY: as in `put`.
+    unsafe { exported::mound_list(region.as_mut_ptr(), region.len(), thread) }
 }
 
 /// Serves the turns of a schedule, two words each (thread, choice), in order until it ends or the

@@ -6,7 +6,8 @@
 //! is refused says why by a [`Refusal`] and changes no byte.
 //!
 //! An item is a key with a tag. The least item leaves first: the one of the smallest key, and of
-//! equal keys the one of the smaller tag. Wholly equal items may be held beside each other.
+//! equal keys the one of the smaller tag. Wholly equal items may be held beside each other. A take
+//! removes one item; a list removes several at once, the least of all first among them.
 //!
 //! ```
 //! use mound::{Answer, Permission, Refusal, Region, Shape, Turn};

@@ -86,8 +86,8 @@ impl<'a> Region<'a> {
     /// - [`Refusal::Thread`] where there is no such thread;
     /// - [`Refusal::Item`] for a key of 4,294,967,295 or a tag above 65,535;
     /// - [`Refusal::Permission`] where the thread's list lacks put;
-    /// - [`Refusal::Busy`] where the thread has begun an operation that is not answered;
-    /// - [`Refusal::NoFreeCell`] where items and begun puts use all cells.
+    /// - [`Refusal::Busy`] where the thread has begun an operation that has not ended;
+    /// - [`Refusal::NoFreeCell`] where items, begun puts and lists' items in hand use all cells.
     pub fn put(&mut self, thread: u32, key: u32, tag: u32) -> Result<(), Refusal> {
         Refusal::result_of(calls::put(self.bytes, thread, key, tag))
     }
@@ -123,9 +123,47 @@ impl<'a> Region<'a> {
     /// In this order, and with no byte changed:
     /// - [`Refusal::Thread`] where there is no such thread;
     /// - [`Refusal::Permission`] where the thread's list lacks take;
-    /// - [`Refusal::Busy`] where the thread has begun an operation that is not answered.
+    /// - [`Refusal::Busy`] where the thread has begun an operation that has not ended.
     pub fn take(&mut self, thread: u32) -> Result<(), Refusal> {
         Refusal::result_of(calls::take(self.bytes, thread))
+    }
+
+    /// Begins a list by a thread, counted from 1: a take of all items that stand in the list at the
+    /// queue's root. It is for threads that take work for others: their items come as a sorted batch.
+    ///
+    /// The items leave the queue together, when one of the list's accesses removes them; the first of
+    /// them is then the least that the queue holds. Turns answer moved up to that access and while the
+    /// queue is put in order after it. From then on each turn of the thread answers the next item, in
+    /// their order by key and then by tag, and frees its cell; with the last the thread is idle. Or one
+    /// turn answers that the queue was empty.
+    ///
+    /// Cost: that of [`Region::check`], then the thread's record is written.
+    ///
+    /// ```
+    /// use mound::{Answer, Permission, Refusal, Region, Shape, Turn};
+    ///
+    /// let shape = Shape { depth: 2, cells: 2, threads: 2, threshold: 1 };
+    /// let mut bytes = vec![0; shape.byte_len()?];
+    /// let mut region =
+    ///     Region::layout(&mut bytes, shape, &[Permission::PUT_AND_TAKE, Permission::NONE])?;
+    /// for tag in [9, 2] {
+    ///     region.put(1, 5, tag)?;
+    ///     region.run([Turn { thread: 1, choice: 0 }; 4], u32::MAX)?;
+    /// }
+    /// region.list(1)?;
+    /// let run = region.run([Turn { thread: 1, choice: 0 }; 8], u32::MAX)?;
+    /// let [first, second] = [2, 9].map(|tag| Answer::Took { key: 5, tag });
+    /// assert!(run.answers().skip(5).eq([first, second, Answer::Idle]));
+    /// assert_eq!(region.list(2), Err(Refusal::Permission));
+    /// # Ok::<(), Refusal>(())
+    /// ```
+    ///
+    /// # Errors
+    ///
+    /// Those of [`Region::take`], in its order and with no byte changed; the permission is that of a
+    /// take.
+    pub fn list(&mut self, thread: u32) -> Result<(), Refusal> {
+        Refusal::result_of(calls::list(self.bytes, thread))
     }
 
     /// Serves turns in order until they end or the accesses made equal the limit; [`u32::MAX`] is no

@@ -4,12 +4,26 @@ use mound::Shape;
 
 use crate::both::{self, Ran};
 use crate::random::Random;
-use crate::tally::Outcome::{self, Check, Layout, Put, Take};
+use crate::tally::Outcome::{self, Check, Layout, List, Put, Take};
 use crate::tally::Tally;
 
 /// What beginnings answer in readable regions: begun, or refused.
-pub const BEGINNINGS: [Outcome; 10] =
-    [Put(0), Put(3), Put(4), Put(8), Put(9), Put(10), Take(0), Take(3), Take(8), Take(9)];
+pub const BEGINNINGS: [Outcome; 14] = [
+    Put(0),
+    Put(3),
+    Put(4),
+    Put(8),
+    Put(9),
+    Put(10),
+    Take(0),
+    Take(3),
+    Take(8),
+    Take(9),
+    List(0),
+    List(3),
+    List(8),
+    List(9),
+];
 
 /// Makes any call on a region that was laid out by that shape, so that no layout is accepted by
 /// another.
@@ -22,14 +36,16 @@ pub fn any(random: &mut Random, region: &mut [u8], shape: Shape, tally: &mut Tal
     }
 }
 
-/// Begins a put or a take.
+/// Begins a put, a take or a list.
 pub fn begin(random: &mut Random, region: &mut [u8], threads: u32) -> Outcome {
     let thread = match random.among(0..=9) {
         0 => random.one_of(&[0, threads + 1, 65, u32::MAX]),
         _ => random.among(1..=threads),
     };
-    if random.among(0..=2) == 0 {
-        return Take(both::take(random, region, thread));
+    match random.among(0..=8) {
+        0 => return List(both::list(random, region, thread)),
+        1 | 2 => return Take(both::take(random, region, thread)),
+        _ => {}
     }
     let key = match random.among(0..=9) {
         0 => u32::MAX,

@@ -6,7 +6,9 @@ use std::collections::BTreeSet;
 use mound::{plain, Answer, Shape};
 
 use crate::both;
-use crate::fields::place::{E1, E2, I1, I2, I3, I4, I5, I6, I7, I8, IDLE, M1, M2, M3, M4, M5, M6};
+use crate::fields::place::{
+    E1, E2, I1, I2, I3, I4, I5, I6, I7, I8, IDLE, M1, M2, M3, M4, M5, M6, P17, P18, P19,
+};
 use crate::fields::Words;
 use crate::queue::Queue;
 use crate::random::Random;
@@ -38,7 +40,7 @@ fn look_at(thread: u32, nothing_done: bool, before: &Queue, after: &Queue) {
 
 /// What a turn can answer at each place: the codes 0 moved, 1 idle, 2 inserted, 3 took, 4 empty, and
 /// the refusals 7 and 11.
-const ANSWERS: [(u32, &[u32]); 17] = [
+const ANSWERS: [(u32, &[u32]); 20] = [
     (IDLE, &[1]),
     (I1, &[0]),
     (I2, &[0, 7]),
@@ -56,6 +58,9 @@ const ANSWERS: [(u32, &[u32]); 17] = [
     (M4, &[0, 7]),
     (M5, &[0, 7, 11]),
     (M6, &[0, 3, 7, 11]),
+    (P17, &[0, 4]),
+    (P18, &[0, 7, 11]),
+    (P19, &[3, 7]),
 ];
 
 #[test]
@@ -99,9 +104,10 @@ fn is_readable_after_any_beginning() {
         let (key, tag) =
             (random.among_or_extreme(0..=u32::MAX), random.among_or_extreme(0..=65_536));
         let before = queue.clone();
-        let number = match random.among(0..=1) {
+        let number = match random.among(0..=2) {
             0 => both::put(random, &mut queue.bytes, thread, key, tag),
-            _ => both::take(random, &mut queue.bytes, thread),
+            1 => both::take(random, &mut queue.bytes, thread),
+            _ => both::list(random, &mut queue.bytes, thread),
         };
         look_at(thread, number != 0, &before, &queue);
     }

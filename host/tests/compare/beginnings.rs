@@ -1,4 +1,4 @@
-//! Put and take: laid-out regions, damaged ones, readable ones of every kind.
+//! Put, take and list: laid-out regions, damaged ones, readable ones of every kind.
 
 use crate::any_call::{self, BEGINNINGS};
 use crate::both;
@@ -7,7 +7,7 @@ use crate::damaged::{telling_values, SHAPES};
 use crate::fields::{place, Words, FIRST_FREE_CELL, PERMISSION, PLACE, WAITING};
 use crate::queue::Queue;
 use crate::random::Random;
-use crate::tally::Outcome::{Put, Take};
+use crate::tally::Outcome::{List, Put, Take};
 use crate::tally::Tally;
 
 #[test]
@@ -18,9 +18,10 @@ fn the_first_reason_in_order_refuses() {
         let mut region = beginning.region.clone();
         let number = both::put(random, &mut region, thread, key, tag);
         assert_eq!(number, both::number_of(beginning.put));
-        let mut region = beginning.region.clone();
-        let number = both::take(random, &mut region, thread);
-        assert_eq!(number, both::number_of(beginning.take));
+        for begin in [both::take, both::list] {
+            let number = begin(random, &mut beginning.region.clone(), thread);
+            assert_eq!(number, both::number_of(beginning.take));
+        }
     }
 }
 
@@ -62,7 +63,7 @@ fn damaged_regions() {
             }
         }
     }
-    tally.has_just(&[&BEGINNINGS[..], &[Put(7), Take(7)]].concat(), 50);
+    tally.has_just(&[&BEGINNINGS[..], &[Put(7), Take(7), List(7)]].concat(), 50);
 }
 
 #[test]
@@ -74,7 +75,7 @@ fn regions_of_another_length() {
             let mut region = bytes.clone();
             region.resize(length, 0);
             let outcome = any_call::begin(random, &mut region, shape.threads);
-            assert!(matches!(outcome, Put(7) | Take(7)), "{outcome:?} of {length} bytes");
+            assert!(matches!(outcome, Put(7) | Take(7) | List(7)), "{outcome:?} of {length} bytes");
         }
     }
 }

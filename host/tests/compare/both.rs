@@ -84,13 +84,30 @@ pub fn put(random: &mut Random, region: &mut [u8], thread: u32, key: u32, tag: u
 
 /// Begins a take.
 pub fn take(random: &mut Random, region: &mut [u8], thread: u32) -> u32 {
+    begin(random, region, thread, "take", calls::take, plain::take)
+}
+
+/// Begins a list.
+pub fn list(random: &mut Random, region: &mut [u8], thread: u32) -> u32 {
+    begin(random, region, thread, "list", calls::list, plain::list)
+}
+
+/// Begins an operation that is told its thread alone.
+fn begin(
+    random: &mut Random,
+    region: &mut [u8],
+    thread: u32,
+    name: &str,
+    by_library: fn(&mut [u8], u32) -> u32,
+    by_plain: fn(&mut [u8], u32) -> Result<(), Refusal>,
+) -> u32 {
     let before = region.to_vec();
     change(
         random,
         [region],
-        || format!("take by thread {thread} in {:?}", Start(&before)),
-        |[region]| calls::take(region, thread),
-        |[region]| number_of(plain::take(region, thread)),
+        || format!("{name} by thread {thread} in {:?}", Start(&before)),
+        |[region]| by_library(region, thread),
+        |[region]| number_of(by_plain(region, thread)),
     )
 }
 

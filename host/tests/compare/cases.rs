@@ -1,4 +1,5 @@
-//! The cases of document 01, from A to M, and those of request 3. Those of request 2 are in `items.rs`.
+//! The cases of document 01, from A to M, and those of request 3. Those of request 1 are in `lists.rs`,
+//! those of request 2 in `items.rs`.
 
 use mound::Answer::{self, Empty, Idle, Inserted, Moved, Took};
 use mound::{Served, Shape};
@@ -63,6 +64,10 @@ impl Case {
         both::take(&mut self.random, &mut self.queue.bytes, thread)
     }
 
+    pub fn list(&mut self, thread: u32) -> u32 {
+        both::list(&mut self.random, &mut self.queue.bytes, thread)
+    }
+
     fn run(&mut self, turns: &[(u32, u32)], limit: u32) -> Ran {
         run_turns(&mut self.random, &mut self.queue, turns, limit)
     }
@@ -119,7 +124,7 @@ fn case_d_permission_0() {
     let mut case = Case::laid_out(SMALL, &[0, 3]);
     let before = case.queue.clone();
     assert_eq!(case.put(1, 5), 8);
-    assert_eq!(case.take(1), 8);
+    assert_eq!([case.take(1), case.list(1)], [8, 8]);
     assert_eq!(case.turns(&[1]), [Idle]);
     assert!(case.queue == before);
 }

@@ -11,7 +11,7 @@ use crate::damaged::telling_values;
 use crate::fields::Words;
 use crate::queue::Queue;
 use crate::random::Random;
-use crate::tally::Outcome::{self, Check, Layout, Put, RefusedTurn, Run, Take, Turn};
+use crate::tally::Outcome::{self, Check, Layout, List, Put, RefusedTurn, Run, Take, Turn};
 use crate::tally::Tally;
 
 /// What comes up beside beginnings in regions that were laid out.
@@ -113,7 +113,7 @@ fn of_damaged_regions() {
             }
         }
     }
-    let refused = [Put(7), Take(7), Check(7), Run(7), RefusedTurn(7), RefusedTurn(11)];
+    let refused = [Put(7), Take(7), List(7), Check(7), Run(7), RefusedTurn(7), RefusedTurn(11)];
     has_just_these_beside_the_usual(&tally, &refused, 100);
 }
 
@@ -140,8 +140,9 @@ fn of_the_largest_shape() {
             tally.add_run(&ran);
         }
     }
-    let beginnings = [Put(0), Put(3), Put(4), Put(9), Take(0), Take(3), Take(9)];
+    let puts = [Put(0), Put(3), Put(4), Put(9)];
+    let takes = [Take(0), Take(3), Take(9), List(0), List(3), List(9)];
     let runs = [Run(0), Run(6), Turn(0), Turn(1), Turn(2), Turn(3), Turn(4)];
     let refused = [RefusedTurn(3), RefusedTurn(11)];
-    tally.has_just(&[&beginnings[..], &runs, &refused].concat(), 20);
+    tally.has_just(&[&puts[..], &takes, &runs, &refused].concat(), 20);
 }

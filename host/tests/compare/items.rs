@@ -9,24 +9,24 @@ use crate::fields::{D, FIRST_FREE_CELL, HI, LEAF, LO, NODE, PRESENT_DEPTH};
 use crate::queue::{Item, Queue, SMALL};
 use crate::values::{items, triples, RISING};
 
-const TAG_2: Item = (5, 2);
-const TAG_9: Item = (5, 9);
+pub const TAG_2: Item = (5, 2);
+pub const TAG_9: Item = (5, 9);
 /// Greater than every item of a laid-out region.
 const GREATEST: Item = (u32::MAX, 65_535);
 
-fn took((key, tag): Item) -> Answer {
+pub fn took((key, tag): Item) -> Answer {
     Took { key, tag }
 }
 
 /// What a thread's operation answers, which is to be at the last of this many turns.
-fn answered(case: &mut Case, thread: u32, turns: usize) -> Answer {
+pub fn answered(case: &mut Case, thread: u32, turns: usize) -> Answer {
     let answers = case.turns(&vec![thread; turns]);
     assert_eq!(answers[..turns - 1], vec![Moved; turns - 1]);
     answers[turns - 1]
 }
 
 /// Thread 1 puts an item, in this many turns.
-fn put(case: &mut Case, item: Item, turns: usize) {
+pub fn put(case: &mut Case, item: Item, turns: usize) {
     assert_eq!(case.put_item(1, item), 0);
     assert_eq!(answered(case, 1, turns), Inserted);
 }
@@ -38,7 +38,7 @@ fn take(case: &mut Case, turns: usize) -> Answer {
 }
 
 /// A queue of the cases' shape that holds an item at its root.
-fn with_root(item: Item) -> Case {
+pub fn with_root(item: Item) -> Case {
     let mut case = Case::fresh();
     put(&mut case, item, 4);
     case

@@ -18,6 +18,7 @@ mod histories;
 mod items;
 mod layout;
 mod length;
+mod lists;
 mod readable;
 mod runs;
 mod take_cost;

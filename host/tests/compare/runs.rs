@@ -94,7 +94,7 @@ fn served_by(answers: &[Answer], limit: u32) -> Served {
 #[test]
 fn the_region_comes_before_the_schedule_and_that_before_the_answers() {
     let mut unreadable = busy();
-    unreadable.set_field(2, PLACE, 17);
+    unreadable.set_field(2, PLACE, 20);
     let cut_short = Queue { bytes: busy().bytes[..344].to_vec() };
     for queue in [unreadable, cut_short, Queue { bytes: vec![] }] {
         for (length, room) in [(0, 0), (8, 12), (8, 0), (7, 12), (7, 0), (32_776, 0)] {
@@ -139,4 +139,18 @@ fn the_limit_counts_accesses() {
         let ran = run(&mut Queue::open_to_all(SMALL), &[(1, 0), (2, 0)], limit);
         assert_eq!(ran.result, Ok(Served { turns: served, accesses: 0 }));
     }
+}
+
+/// So are a list's hand-outs: two behind five that moved.
+#[test]
+fn a_hand_out_is_an_access() {
+    let mut queue = Queue::open_to_all(SMALL).holding(&[(5, 9), (5, 2)]);
+    assert_eq!(queue.list(1), Ok(()));
+    for limit in [0, 4, 5, 6, 7, 8] {
+        let ran = run(&mut queue.clone(), &[(1, 0); 8], limit);
+        let turns = if limit == 8 { 8 } else { limit };
+        assert_eq!(ran.result, Ok(Served { turns, accesses: limit.min(7) }));
+    }
+    let tooks = [2, 9].map(|tag| Answer::Took { key: 5, tag });
+    assert_eq!(run(&mut queue, &[(1, 0); 8], u32::MAX).answers[5..7], tooks);
 }

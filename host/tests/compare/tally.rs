@@ -12,6 +12,7 @@ pub enum Outcome {
     Layout(u32),
     Put(u32),
     Take(u32),
+    List(u32),
     Check(u32),
     Run(u32),
     /// A turn that was not refused, by its answer's code.

@@ -21,12 +21,13 @@ fn script(random: &mut Random) -> String {
             0 => random.one_of(&[0, threads + 1]),
             _ => random.among(1..=threads),
         };
-        let line = match random.among(0..=9) {
-            0 => {
+        let line = match random.among(0..=19) {
+            0 | 1 => {
                 let (key, tag) = (random.among(0..=greatest_key), random.among(0..=9));
                 format!("put {thread} {key} {tag}\n")
             }
-            1 => format!("take {thread} 0 0\n"),
+            2 => format!("take {thread} 0 0\n"),
+            3 => format!("list {thread} 0 0\n"),
             _ => format!("turn {thread} {} 0\n", random.among_or_extreme(0..=u32::MAX)),
         };
         script += &line;

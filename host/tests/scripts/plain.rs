@@ -36,6 +36,7 @@ fn run(script: &[u8], output: &mut String) {
 enum Call {
     Put(u32, u32),
     Take,
+    List,
     Turn(u32),
 }
 
@@ -73,6 +74,7 @@ fn parsed(line: &[u8]) -> Option<(u32, Call)> {
     match (&line[..space], &numbers[..]) {
         (b"put", &[thread, key, tag]) => Some((thread, Call::Put(key, tag))),
         (b"take", &[thread, 0, 0]) => Some((thread, Call::Take)),
+        (b"list", &[thread, 0, 0]) => Some((thread, Call::List)),
         (b"turn", &[thread, choice, 0]) => Some((thread, Call::Turn(choice))),
         _ => None,
     }
@@ -92,6 +94,7 @@ fn outcome(region: &mut [u8], thread: u32, call: Call) -> String {
     let begun = match call {
         Call::Put(key, tag) => plain::put(region, thread, key, tag),
         Call::Take => plain::take(region, thread),
+        Call::List => plain::list(region, thread),
         Call::Turn(choice) => return answered(plain::turn(region, thread, choice)),
     };
     begun.map_or_else(refused, |()| String::from("begun 0 0\n"))

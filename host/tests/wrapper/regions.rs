@@ -1,6 +1,6 @@
 //! Regions, shapes, permissions and refusals.
 
-use mound::{Permission, Refusal, Region, Shape};
+use mound::{Permission, Refusal, Region, Shape, Turn};
 
 use crate::{BOTH, SHAPE};
 
@@ -89,16 +89,22 @@ fn permissions_have_the_values_0_to_3() {
 }
 
 #[test]
-fn puts_and_takes_begin_or_say_why_not() -> Result<(), Refusal> {
+fn operations_begin_or_say_why_not() -> Result<(), Refusal> {
     let mut bytes = vec![0; SHAPE.byte_len()?];
     let mut region = Region::layout(&mut bytes, SHAPE, &[Permission::PUT, Permission::TAKE])?;
     assert_eq!(region.put(3, 5, 9), Err(Refusal::Thread));
     assert_eq!(region.put(1, u32::MAX, 9), Err(Refusal::Item));
     assert_eq!(region.put(2, 5, 9), Err(Refusal::Permission));
     assert_eq!(region.take(1), Err(Refusal::Permission));
+    assert_eq!(region.list(3), Err(Refusal::Thread));
+    assert_eq!(region.list(1), Err(Refusal::Permission));
     region.put(1, 5, 9)?;
     region.take(2)?;
     assert_eq!(region.put(1, 5, 9), Err(Refusal::Busy));
     assert_eq!(region.take(2), Err(Refusal::Busy));
+    assert_eq!(region.list(2), Err(Refusal::Busy));
+    region.run([Turn { thread: 2, choice: 0 }], u32::MAX)?;
+    region.list(2)?;
+    assert_eq!([region.take(2), region.list(2)], [Err(Refusal::Busy); 2]);
     region.check()
 }

@@ -100,14 +100,12 @@ fn every_answer_has_words_of_its_own() {
     }
 }
 
-/// Eight threads put 800 items, each thread its next one as soon as it is idle; then they all come
-/// out in the order of their keys, and those of one key in the order of their tags. No two items are
-/// equal.
-#[test]
-fn wake_ups_come_out_in_order() -> Result<(), Refusal> {
+/// A region in which eight threads have put 800 items, each thread its next one as soon as it was
+/// idle; and the items in their order. No two of them are equal.
+fn with_800_items(bytes: &mut Vec<u8>) -> Result<(Region<'_>, Vec<(u32, u32)>), Refusal> {
     let shape = Shape { depth: 11, cells: 1024, threads: 8, threshold: 2 };
-    let mut bytes = vec![0; shape.byte_len()?];
-    let mut region = Region::layout(&mut bytes, shape, &[Permission::PUT_AND_TAKE; 8])?;
+    bytes.resize(shape.byte_len()?, 0);
+    let mut region = Region::layout(bytes, shape, &[Permission::PUT_AND_TAKE; 8])?;
     let mut items: Vec<(u32, u32)> =
         (0..800u32).map(|n| (n.wrapping_mul(2_654_435_761) >> 24, n * 77 % 800)).collect();
     let turns: Vec<Turn> =
@@ -129,11 +127,47 @@ fn wake_ups_come_out_in_order() -> Result<(), Refusal> {
     }
 
     items.sort_unstable();
+    Ok((region, items))
+}
+
+/// They come out in the order of their keys, and those of one key in the order of their tags.
+#[test]
+fn wake_ups_come_out_in_order() -> Result<(), Refusal> {
+    let (mut bytes, mut run) = (vec![], Run::default());
+    let (mut region, items) = with_800_items(&mut bytes)?;
     for (key, tag) in items {
         region.take(3)?;
         region.run_into(&mut run, [Turn { thread: 3, choice: 0 }; 5 * 11], u32::MAX)?;
         let took = Answer::Took { key, tag };
         assert!(run.answers().any(|answer| answer == took), "{key} {tag} did not come");
     }
+    Ok(())
+}
+
+/// Lists by one thread take all items as well: each list's come in their order, and the first of them is
+/// the least that was left.
+#[test]
+fn lists_come_out_as_sorted_batches() -> Result<(), Refusal> {
+    let (mut bytes, mut run) = (vec![], Run::default());
+    let (mut region, mut left) = with_800_items(&mut bytes)?;
+    let mut batches = 0;
+    while !left.is_empty() {
+        region.list(3)?;
+        region.run_into(&mut run, [Turn { thread: 3, choice: 0 }; 1000], u32::MAX)?;
+        let items = run.answers().filter_map(|answer| match answer {
+            Answer::Took { key, tag } => Some((key, tag)),
+            _ => None,
+        });
+        let batch: Vec<(u32, u32)> = items.collect();
+        assert!(batch.is_sorted());
+        assert_eq!(batch.first(), left.first());
+        assert_eq!(run.answers().last(), Some(Answer::Idle));
+        left.retain(|item| batch.binary_search(item).is_err());
+        batches += 1;
+    }
+    assert!(batches < 800, "no list had two items");
+    region.list(3)?;
+    let run = region.run([Turn { thread: 3, choice: 0 }], u32::MAX)?;
+    assert!(run.answers().eq([Answer::Empty]));
     Ok(())
 }
