@@ -103,16 +103,16 @@ impl Turn<'_, '_> {
             let node = self.thread.get(Field::Node);
             return self.mend(node >> (node.ilog2() - deepest));
         }
-        match self.thread.after() {
-            After::TakeAgain => self.moved_to(Place::E1),
-            After::ListAgain => self.moved_to(Place::P17),
-            After::HandOut => self.moved_to(Place::P19),
+        self.moved_to(match self.thread.after() {
+            After::TakeAgain => Place::E1,
+            After::ListAgain => Place::P17,
+            After::HandOut => Place::P19,
             After::AnswerResult => {
                 let key = self.thread.get(Field::ResultKey);
                 let tag = self.thread.get(Field::ResultTag);
                 self.thread.go_idle();
-                Ok(Answer::Took { key, tag })
+                return Ok(Answer::Took { key, tag });
             }
-        }
+        })
     }
 }

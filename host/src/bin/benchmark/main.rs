@@ -22,6 +22,11 @@ const PAIRS_OF_CALLS: &str = "
 A put and a take by one thread, T 4, half of the cells in use: four calls, each run with just the
 turns that it takes. Beside them a push and a pop of a Mutex<BinaryHeap> with as many items.";
 
+const LISTS: &str = "
+A list of all items at the root, and as many takes of one item, by one thread, T 4; as many items of
+greater keys stand below. Accesses and times are for one item. The list is two calls, each take two,
+each run with just the turns that it takes.";
+
 const CHECKS: &str = "
 A check at the largest shape, D 12, C 2,048, T 64, of 20,547 words: a yes, and refusals by the first
 word out of range. The share is that of the library's time for a yes.";
@@ -41,6 +46,7 @@ fn main() {
     println!("rounds' own. Regions are set up anew before each round, which is not timed.");
     turns();
     pairs();
+    lists();
     checks();
     growth();
 }
@@ -57,6 +63,8 @@ fn turns() {
     row("D 4 T 4: 2 puts and 2 takes, then idle", 4096, crossing(SMALL, 4096));
     row("D 4 T 4: 2 puts and 2 takes", small, crossing(SMALL, small));
     row("D 4 T 4: 2 puts and 2 takes", 1, crossing(SMALL, small).one_turn_a_run());
+    let list = Work::turns_of_a_list(of_depth(10), 256);
+    row("D 10 T 4: a list of 256 items", list.turns, list);
     row("D 12 T 64: puts that find no leaf", 4096, endless(LARGE));
     row("D 12 T 64: 32 puts and 32 takes", large, crossing(LARGE, large));
     row("D 12 T 64: 32 puts and 32 takes", 1, crossing(LARGE, 64).one_turn_a_run());
@@ -85,6 +93,26 @@ fn pairs() {
         println!(
             "{depth:>4}{items:>8}{accesses:>10.1}{library:>10.0}{plain:>10.0}{ratio:>8.2}{heap:>8.0}"
         );
+    }
+}
+
+/// A list of all items at the root, beside takes of them one by one.
+fn lists() {
+    println!("{LISTS}");
+    println!(
+        "{:>4}{:>8}{:>10}{:>10}{:>10}{:>10}{:>8}",
+        "D", "items", "", "accesses", "library", "plain", "ratio"
+    );
+    for (depth, items) in [(6, 16), (10, 256)] {
+        let shape = of_depth(depth);
+        let works = [("list", Work::list(shape, items)), ("takes", Work::takes(shape, items))];
+        for (name, work) in works {
+            let accesses = f64::from(work.accesses) / f64::from(items);
+            let Times { library, plain, ratio } = measure(&work, items);
+            println!(
+                "{depth:>4}{items:>8}{name:>10}{accesses:>10.1}{library:>10.1}{plain:>10.1}{ratio:>8.2}"
+            );
+        }
     }
 }
 

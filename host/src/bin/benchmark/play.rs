@@ -20,6 +20,9 @@ pub enum Call {
     Take {
         thread: u32,
     },
+    List {
+        thread: u32,
+    },
     /// A run of these turns of the work's schedule, without a limit.
     Run(Range<usize>),
     Check,
@@ -29,6 +32,7 @@ pub enum Call {
 pub trait Queue {
     fn put(region: &mut [u8], thread: u32, item: Item);
     fn take(region: &mut [u8], thread: u32);
+    fn list(region: &mut [u8], thread: u32);
     fn run(region: &mut [u8], schedule: &[u8], answers: &mut [u8]);
     fn check(region: &[u8]);
 }
@@ -43,6 +47,10 @@ impl Queue for Library {
 
     fn take(region: &mut [u8], thread: u32) {
         black_box(calls::take(region, thread));
+    }
+
+    fn list(region: &mut [u8], thread: u32) {
+        black_box(calls::list(region, thread));
     }
 
     fn run(region: &mut [u8], schedule: &[u8], answers: &mut [u8]) {
@@ -66,6 +74,10 @@ impl Queue for Plain {
         _ = black_box(plain::take(region, thread));
     }
 
+    fn list(region: &mut [u8], thread: u32) {
+        _ = black_box(plain::list(region, thread));
+    }
+
     fn run(region: &mut [u8], schedule: &[u8], answers: &mut [u8]) {
         _ = black_box(plain::run(region, schedule, u32::MAX, answers));
     }
@@ -81,6 +93,7 @@ pub fn play<Q: Queue>(work: &Work, region: &mut [u8], answers: &mut [u8]) {
         match call {
             Call::Put { thread, item } => Q::put(region, *thread, *item),
             Call::Take { thread } => Q::take(region, *thread),
+            Call::List { thread } => Q::list(region, *thread),
             Call::Run(turns) => {
                 Q::run(region, &work.schedule[8 * turns.start..8 * turns.end], answers)
             }

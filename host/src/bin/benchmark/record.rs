@@ -62,6 +62,17 @@ impl Recorder {
         recorder.started()
     }
 
+    /// A queue that holds as many items as it has cells: these many in the root's list, of the keys 1, 2,
+    /// .., and the others, of greater keys, below.
+    pub fn with_list_at_root(shape: Shape, items: u32) -> Recorder {
+        let mut recorder = Recorder::laid_out(shape);
+        // A key above all before it goes below them, one below them to the root.
+        for key in (items..=shape.cells).chain((1..items).rev()) {
+            recorder.put_item_and_run((key, 0));
+        }
+        recorder.started()
+    }
+
     fn laid_out(shape: Shape) -> Recorder {
         let mut region = vec![0; shape.byte_len().expect("a shape in range")];
         plain::layout(&mut region, shape, &vec![3; shape.threads as usize]).expect("its length");
@@ -126,6 +137,10 @@ impl Recorder {
     /// Puts a random item by thread 1.
     pub fn put_and_run(&mut self) {
         let item = self.random.next_item();
+        self.put_item_and_run(item);
+    }
+
+    fn put_item_and_run(&mut self, item: Item) {
         self.put(1, item);
         self.run_until(|recorder| {
             let choice = recorder.random.next();
@@ -136,7 +151,22 @@ impl Recorder {
     /// Takes an item by thread 1.
     pub fn take_and_run(&mut self) {
         self.take(1);
-        self.run_until(|recorder| matches!(recorder.turn(1, 0), Answer::Took { .. }));
+        self.run_until_taken(1);
+    }
+
+    /// Runs turns of thread 1 until it has answered this many items.
+    pub fn run_until_taken(&mut self, items: u32) {
+        let mut taken = 0;
+        self.run_until(|recorder| {
+            taken += u32::from(matches!(recorder.turn(1, 0), Answer::Took { .. }));
+            taken == items
+        });
+    }
+
+    /// Begins a list by thread 1.
+    pub fn list(&mut self) {
+        plain::list(&mut self.region, 1).expect("it is idle");
+        self.work.calls.push(Call::List { thread: 1 });
     }
 
     fn put(&mut self, thread: u32, item @ (key, tag): Item) {

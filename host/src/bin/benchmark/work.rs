@@ -53,6 +53,32 @@ impl Work {
         recorder.work()
     }
 
+    /// A list by thread 1 of all items at the root, this many; the other cells are in use below it.
+    pub fn list(shape: Shape, items: u32) -> Work {
+        let mut recorder = Recorder::with_list_at_root(shape, items);
+        recorder.list();
+        recorder.run_until_taken(items);
+        recorder.work()
+    }
+
+    /// The run of such a list alone.
+    pub fn turns_of_a_list(shape: Shape, items: u32) -> Work {
+        let mut recorder = Recorder::with_list_at_root(shape, items);
+        recorder.list();
+        let mut recorder = recorder.started();
+        recorder.run_until_taken(items);
+        recorder.work()
+    }
+
+    /// As many takes by thread 1, one after the other, of the same items.
+    pub fn takes(shape: Shape, items: u32) -> Work {
+        let mut recorder = Recorder::with_list_at_root(shape, items);
+        for _ in 0..items {
+            recorder.take_and_run();
+        }
+        recorder.work()
+    }
+
     /// This many checks of a region that is laid out.
     pub fn checks(shape: Shape, checks: usize) -> Work {
         let mut work = Recorder::holding(shape, 0).work();

@@ -78,22 +78,43 @@ fn with_one_key(mut workload: Workload) -> Workload {
     workload
 }
 
-/// The workload as it is and with one key. A list compares nothing: one with lists is taken in one of
-/// these ways, by the number of items held.
-fn both_ways(workload: Workload) -> Vec<Workload> {
-    let has_lists = workload.calls.iter().flatten().any(|&call| call == Call::List);
-    match workload.held.len() % 2 {
-        0 if has_lists => vec![with_one_key(workload)],
-        _ if has_lists => vec![workload],
-        _ => vec![with_one_key(workload.clone()), workload],
+fn has_lists(workload: &Workload) -> bool {
+    workload.calls.iter().flatten().any(|&call| call == Call::List)
+}
+
+/// The workload with the items held in the root's list, since they were put from the last on.
+fn with_one_list(mut workload: Workload) -> Workload {
+    workload.held.reverse();
+    workload
+}
+
+/// The workload as it is and with one key. With lists, which compare nothing, it is one of these two, by
+/// the number of items held, and the workload with the items in one list.
+fn variants(workload: Workload) -> Vec<Workload> {
+    if !has_lists(&workload) {
+        return vec![with_one_key(workload.clone()), workload];
     }
+    match workload.held.len() {
+        0 => vec![with_one_key(workload)],
+        1 => vec![workload],
+        2 | 4 => vec![with_one_list(workload.clone()), with_one_key(workload)],
+        _ => vec![with_one_list(workload.clone()), workload],
+    }
+}
+
+fn two_threads_with_two_calls_at_depth_3() -> impl Iterator<Item = Workload> {
+    (0..=4).flat_map(|held| workloads(shape(3, 2, 1), held, 6, 2))
+}
+
+fn has_four_calls_and_lists(workload: &Workload) -> bool {
+    workload.calls.iter().flatten().count() == 4 && has_lists(workload)
 }
 
 /// Explores each workload. The turns go every way that the papers let them go, but for those that
 /// these workloads do not lead to, and no other.
 fn agree_going_every_way_but(not_gone: &[(u32, u32)], workloads: impl Iterator<Item = Workload>) {
     let mut all = Explored::default();
-    for workload in workloads.flat_map(both_ways) {
+    for workload in workloads.flat_map(variants) {
         match explore(&workload, Machine { mistake: None }) {
             Ok(explored) => {
                 all.states += explored.states;
@@ -117,8 +138,11 @@ fn two_threads_at_depth_2() {
 #[test]
 #[cfg_attr(debug_assertions, ignore = "slow without --release")]
 fn two_threads_at_depth_3() {
-    let workloads = (0..=4).flat_map(|held| workloads(shape(3, 2, 1), held, 6, 2));
-    agree_going_every_way_but(&[(I2, I2)], workloads);
+    let workloads = two_threads_with_two_calls_at_depth_3();
+    agree_going_every_way_but(
+        &[(I2, I2)],
+        workloads.filter(|workload| !has_four_calls_and_lists(workload)),
+    );
 }
 
 #[test]
@@ -136,15 +160,22 @@ fn three_threads_at_depth_3() {
 }
 
 #[test]
-#[ignore = "about ten seconds"]
+#[ignore = "about five seconds"]
+fn two_threads_at_depth_3_with_four_calls_and_lists() {
+    let workloads = two_threads_with_two_calls_at_depth_3();
+    agree_going_every_way_but(&[(I2, I1), (I2, I2)], workloads.filter(has_four_calls_and_lists));
+}
+
+#[test]
+#[ignore = "about a minute"]
 fn two_threads_at_depth_2_with_three_calls_each() {
     let workloads = (0..=2).flat_map(|held| workloads(shape(2, 2, 1), held, 7, 3));
     agree_going_every_way_but(&[(I2, I2), (I3, I3)], workloads);
 }
 
 #[test]
-#[ignore = "about a minute, and a gigabyte"]
+#[ignore = "about three minutes, and a gigabyte"]
 fn three_threads_at_depth_3_with_more_items() {
     let workloads = (2..=4).flat_map(|held| workloads(shape(3, 3, 1), held, 7, 1));
-    agree_going_every_way_but(&[(I2, I2), (I2, I5)], workloads);
+    agree_going_every_way_but(&[(I2, I2)], workloads);
 }
