@@ -59,7 +59,7 @@ pub fn take(region: &mut [u8], thread: u32) -> Result<(), Refusal> {
     Machine::open(region)?.take(thread)
 }
 
-/// Begins a list.
+/// Begins a list, a take of all items at the root.
 ///
 /// # Errors
 ///

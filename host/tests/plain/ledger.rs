@@ -38,6 +38,8 @@ pub enum Disagreement {
     OtherHand { thread: u32 },
     /// A cell is neither in the tree nor held nor free, or it is twice in these.
     OtherCells,
+    /// A free cell has a key or a tag.
+    FreeCellNotWiped,
     /// A node is dirty while no operation is under way.
     DirtyAtRest,
     /// A take alone would make another number of accesses than its figure says.
@@ -99,7 +101,7 @@ impl Ledger {
         Ledger { order, bag: queue.items(), operations }
     }
 
-    /// Whether the thread is between a beginning and its answer.
+    /// Whether the thread is between a beginning and its end.
     pub fn is_busy(&self, thread: u32) -> bool {
         self.operations[thread as usize - 1] != Operation::None
     }
@@ -236,7 +238,8 @@ impl Ledger {
 
     /// What holds at every moment: the tree holds what the bag holds, unless the bag is behind by its
     /// order; each thread is idle or not, and holds cells, as its operation has it; each cell is in the
-    /// tree, held or free, once; and where nothing is under way, all nodes are clean.
+    /// tree, held or free, once, and the free ones are wiped; and where nothing is under way, all nodes
+    /// are clean.
     pub fn look_at(&self, queue: &Queue) -> Result<(), Disagreement> {
         if self.order == Order::Deciding && self.bag != queue.items() {
             return Err(Disagreement::OtherTree);
@@ -255,6 +258,9 @@ impl Ledger {
         cells.sort_unstable();
         if !cells.into_iter().eq(1..=queue.shape().cells) {
             return Err(Disagreement::OtherCells);
+        }
+        if queue.free().any(|cell| queue.item(cell) != (0, 0)) {
+            return Err(Disagreement::FreeCellNotWiped);
         }
         let at_rest = self.operations.iter().all(|operation| *operation == Operation::None);
         if at_rest && !queue.all_clean() {
