@@ -10,24 +10,27 @@ use Rattle.region.specs.declared.frame.Frame.{Frame}
 use Rattle.region.specs.declared.thread.Thread.{Thread}
 use Rattle.access.specs.Effect.{effectBytes}
 use Rattle.access.specs.Inner.{ofKind}
-use Rattle.access.specs.Plan.{changesNothing}
+use Rattle.access.specs.Plan.{changesNothing, ends}
 use Rattle.access.specs.declared.plan.Plan.{Plan}
 
--- the record that is stored: an idle one with nothing left in it
-unfoldable pub storedRecord : Thread → Thread
-storedRecord t = pick (isIdle t) (goneIdle t) t
+-- the record that is stored after an answer. Where an operation ends with its answer the thread is idle; a hand-out may answer and go on, so there
+-- it is idle by its place
+unfoldable pub idleAtEnd : Answer → Thread → Thread
+idleAtEnd a t = pick (ends a) (goneIdle t) t
+
+unfoldable pub idleByPlace : Answer → Thread → Thread
+idleByPlace a t = pick (isIdle t) (goneIdle t) t
 
 -- the region with a plan's record stored, or as it was where the turn is idle or refused
-unfoldable pub recordBytes : Frame → List ℕ → ℕ → Plan → List ℕ
-unfolding storedRecord
-recordBytes f b n p = pick (changesNothing (p .answer)) b (setThreadIn f b n (storedRecord (p .thread)))
+unfoldable pub recordBytes : (Answer → Thread → Thread) → Frame → List ℕ → ℕ → Plan → List ℕ
+recordBytes stored f b n p = pick (changesNothing (p .answer)) b (setThreadIn f b n (stored (p .answer) (p .thread)))
 
 -- what storing it answers and leaves: the answer is the plan's
-pub record Stored (f : Frame) (b b′ : List ℕ) (n : ℕ) (p : Plan) (r : Answer) : Type 0 where
+pub record Stored (stored : Answer → Thread → Thread) (f : Frame) (b b′ : List ℕ) (n : ℕ) (p : Plan) (r : Answer) : Type 0 where
   pub answer : r ≡ p .answer
-  pub bytes : b′ ≡ recordBytes f b n p
+  pub bytes : b′ ≡ recordBytes stored f b n p
 
 -- what a turn that ends with plan p answers and leaves, where it carries out effects of kind k
-pub record Ended (k : ℕ) (f : Frame) (b b′ : List ℕ) (n : ℕ) (p : Plan) (r : Answer) : Type 0 where
+pub record Ended (stored : Answer → Thread → Thread) (k : ℕ) (f : Frame) (b b′ : List ℕ) (n : ℕ) (p : Plan) (r : Answer) : Type 0 where
   pub answer : r ≡ p .answer
-  pub bytes : b′ ≡ effectBytes f (recordBytes f b n p) (ofKind k (p .effect))
+  pub bytes : b′ ≡ effectBytes f (recordBytes stored f b n p) (ofKind k (p .effect))

@@ -6,11 +6,11 @@ ghost use lib.ListN.{length};
 ghost use Rattle.region.specs.Inner.{Within};
 ghost use Rattle.region.specs.Shared.{sharedIn, threadIn};
 ghost use Rattle.access.specs.Inner.{cleaning, detaching, exchanging, freeing, growing, popping, pushing, reading};
-ghost use Rattle.access.specs.Plan.{changesNothing};
+ghost use Rattle.access.specs.Plan.{changesNothing, ends};
 ghost use Rattle.extract.specs.Extract.{handOut, listReadRoot, readRoot, removeHead, removeList};
 ghost use Rattle.insert.specs.Insert.{growDepth, insertAtRoot, insertBelow, readAncestor, readDepth, readLeaf, readParent, readTarget};
 ghost use Rattle.moundify.specs.Moundify.{mendClean, mendReadDepth, mendReadLeft, mendReadNode, mendReadRight, mendSwap};
-ghost use Rattle.turns.specs.Inner.{Ended, Stored};
+ghost use Rattle.turns.specs.Inner.{Ended, Stored, idleAtEnd, idleByPlace};
 use access::Plan;
 use region::Answer;
 use region::Frame;
@@ -29,12 +29,44 @@ fn changes_nothing(answer: Answer) -> bool
     }
 }
 
-// Stores the record of thread n as its plan has it; an idle or refused turn stores nothing. Answers what the plan answers. A
-// record that has become idle has a branch of its own, so that the compiled code of the other branch stores no field that the
-// turn left alone.
+// Whether an operation ends with this answer.
+fn ends(answer: Answer) -> bool
+    ensures { λ r. ⌜ r ≡ ends answer ⌝ }
+{
+    match answer {
+        Answer::Moved => false,
+        Answer::Idle => false,
+        Answer::Inserted => true,
+        Answer::Took(_) => true,
+        Answer::Empty => true,
+        Answer::Refused(_) => false,
+    }
+}
+
+// Stores the record of thread n as its plan has it; an idle or refused turn stores nothing. Answers what the plan answers. The
+// record of an ended operation is idle, and has a branch of its own, so that the compiled code of the other branch stores no
+// field that the turn left alone.
 fn store_record(f: Frame, b: &mut [u8], n: u32, plan: Plan) -> Answer
     requires { ⌜ Within f (length (now b)) ⌝ }
-    ensures { λ r. ⌜ Stored f (now (b .entry)) (now (b .exit)) n plan r ⌝ }
+    ensures { λ r. ⌜ Stored idleAtEnd f (now (b .entry)) (now (b .exit)) n plan r ⌝ }
+{
+    let answer = plan.answer;
+    if changes_nothing(answer) {
+        return answer;
+    }
+    let record = plan.thread;
+    if ends(answer) {
+        f.store_thread(b, n, record.gone_idle());
+        return answer;
+    }
+    f.store_thread(b, n, record);
+    answer
+}
+
+// The same after a hand-out, which answers took and may go on: the record is idle by its place.
+fn store_hand(f: Frame, b: &mut [u8], n: u32, plan: Plan) -> Answer
+    requires { ⌜ Within f (length (now b)) ⌝ }
+    ensures { λ r. ⌜ Stored idleByPlace f (now (b .entry)) (now (b .exit)) n plan r ⌝ }
 {
     let answer = plan.answer;
     if changes_nothing(answer) {
@@ -52,7 +84,7 @@ fn store_record(f: Frame, b: &mut [u8], n: u32, plan: Plan) -> Answer
 // I1
 pub fn turn_read_depth(f: Frame, b: &mut [u8], n: u32) -> Answer
     requires { ⌜ Within f (length (now b)) ⌝ }
-    ensures { λ r. ⌜ Ended reading f (now (b .entry)) (now (b .exit)) n (readDepth (sharedIn f (now (b .entry))) (threadIn f (now (b .entry)) n)) r ⌝ }
+    ensures { λ r. ⌜ Ended idleAtEnd reading f (now (b .entry)) (now (b .exit)) n (readDepth (sharedIn f (now (b .entry))) (threadIn f (now (b .entry)) n)) r ⌝ }
 {
     let plan = insert::read_depth(f, b, f.load_thread(b, n));
     store_record(f, b, n, plan)
@@ -61,7 +93,7 @@ pub fn turn_read_depth(f: Frame, b: &mut [u8], n: u32) -> Answer
 // I2
 pub fn turn_read_leaf(f: Frame, b: &mut [u8], n: u32, choice: u32) -> Answer
     requires { ⌜ Within f (length (now b)) ⌝ }
-    ensures { λ r. ⌜ Ended reading f (now (b .entry)) (now (b .exit)) n (readLeaf (f .shape) (sharedIn f (now (b .entry))) (threadIn f (now (b .entry)) n) choice) r ⌝ }
+    ensures { λ r. ⌜ Ended idleAtEnd reading f (now (b .entry)) (now (b .exit)) n (readLeaf (f .shape) (sharedIn f (now (b .entry))) (threadIn f (now (b .entry)) n) choice) r ⌝ }
 {
     let plan = insert::read_leaf(f, b, f.load_thread(b, n), choice);
     store_record(f, b, n, plan)
@@ -70,7 +102,7 @@ pub fn turn_read_leaf(f: Frame, b: &mut [u8], n: u32, choice: u32) -> Answer
 // I3
 pub fn turn_read_ancestor(f: Frame, b: &mut [u8], n: u32) -> Answer
     requires { ⌜ Within f (length (now b)) ⌝ }
-    ensures { λ r. ⌜ Ended reading f (now (b .entry)) (now (b .exit)) n (readAncestor (sharedIn f (now (b .entry))) (threadIn f (now (b .entry)) n)) r ⌝ }
+    ensures { λ r. ⌜ Ended idleAtEnd reading f (now (b .entry)) (now (b .exit)) n (readAncestor (sharedIn f (now (b .entry))) (threadIn f (now (b .entry)) n)) r ⌝ }
 {
     let plan = insert::read_ancestor(f, b, f.load_thread(b, n));
     store_record(f, b, n, plan)
@@ -79,7 +111,7 @@ pub fn turn_read_ancestor(f: Frame, b: &mut [u8], n: u32) -> Answer
 // I4
 pub fn turn_grow_depth(f: Frame, b: &mut [u8], n: u32) -> Answer
     requires { ⌜ Within f (length (now b)) ⌝ }
-    ensures { λ r. ⌜ Ended growing f (now (b .entry)) (now (b .exit)) n (growDepth (f .shape) (sharedIn f (now (b .entry))) (threadIn f (now (b .entry)) n)) r ⌝ }
+    ensures { λ r. ⌜ Ended idleAtEnd growing f (now (b .entry)) (now (b .exit)) n (growDepth (f .shape) (sharedIn f (now (b .entry))) (threadIn f (now (b .entry)) n)) r ⌝ }
 {
     let plan = insert::grow_depth(f, b, f.load_thread(b, n));
     let effect = plan.effect;
@@ -91,7 +123,7 @@ pub fn turn_grow_depth(f: Frame, b: &mut [u8], n: u32) -> Answer
 // I5
 pub fn turn_read_target(f: Frame, b: &mut [u8], n: u32) -> Answer
     requires { ⌜ Within f (length (now b)) ⌝ }
-    ensures { λ r. ⌜ Ended reading f (now (b .entry)) (now (b .exit)) n (readTarget (sharedIn f (now (b .entry))) (threadIn f (now (b .entry)) n)) r ⌝ }
+    ensures { λ r. ⌜ Ended idleAtEnd reading f (now (b .entry)) (now (b .exit)) n (readTarget (sharedIn f (now (b .entry))) (threadIn f (now (b .entry)) n)) r ⌝ }
 {
     let plan = insert::read_target(f, b, f.load_thread(b, n));
     store_record(f, b, n, plan)
@@ -100,7 +132,7 @@ pub fn turn_read_target(f: Frame, b: &mut [u8], n: u32) -> Answer
 // I6
 pub fn turn_insert_at_root(f: Frame, b: &mut [u8], n: u32) -> Answer
     requires { ⌜ Within f (length (now b)) ⌝ }
-    ensures { λ r. ⌜ Ended pushing f (now (b .entry)) (now (b .exit)) n (insertAtRoot (sharedIn f (now (b .entry))) (threadIn f (now (b .entry)) n)) r ⌝ }
+    ensures { λ r. ⌜ Ended idleAtEnd pushing f (now (b .entry)) (now (b .exit)) n (insertAtRoot (sharedIn f (now (b .entry))) (threadIn f (now (b .entry)) n)) r ⌝ }
 {
     let plan = insert::insert_at_root(f, b, f.load_thread(b, n));
     let effect = plan.effect;
@@ -112,7 +144,7 @@ pub fn turn_insert_at_root(f: Frame, b: &mut [u8], n: u32) -> Answer
 // I7
 pub fn turn_read_parent(f: Frame, b: &mut [u8], n: u32) -> Answer
     requires { ⌜ Within f (length (now b)) ⌝ }
-    ensures { λ r. ⌜ Ended reading f (now (b .entry)) (now (b .exit)) n (readParent (sharedIn f (now (b .entry))) (threadIn f (now (b .entry)) n)) r ⌝ }
+    ensures { λ r. ⌜ Ended idleAtEnd reading f (now (b .entry)) (now (b .exit)) n (readParent (sharedIn f (now (b .entry))) (threadIn f (now (b .entry)) n)) r ⌝ }
 {
     let plan = insert::read_parent(f, b, f.load_thread(b, n));
     store_record(f, b, n, plan)
@@ -121,7 +153,7 @@ pub fn turn_read_parent(f: Frame, b: &mut [u8], n: u32) -> Answer
 // I8
 pub fn turn_insert_below(f: Frame, b: &mut [u8], n: u32) -> Answer
     requires { ⌜ Within f (length (now b)) ⌝ }
-    ensures { λ r. ⌜ Ended pushing f (now (b .entry)) (now (b .exit)) n (insertBelow (sharedIn f (now (b .entry))) (threadIn f (now (b .entry)) n)) r ⌝ }
+    ensures { λ r. ⌜ Ended idleAtEnd pushing f (now (b .entry)) (now (b .exit)) n (insertBelow (sharedIn f (now (b .entry))) (threadIn f (now (b .entry)) n)) r ⌝ }
 {
     let plan = insert::insert_below(f, b, f.load_thread(b, n));
     let effect = plan.effect;
@@ -133,7 +165,7 @@ pub fn turn_insert_below(f: Frame, b: &mut [u8], n: u32) -> Answer
 // E1
 pub fn turn_read_root(f: Frame, b: &mut [u8], n: u32) -> Answer
     requires { ⌜ Within f (length (now b)) ⌝ }
-    ensures { λ r. ⌜ Ended reading f (now (b .entry)) (now (b .exit)) n (readRoot (sharedIn f (now (b .entry))) (threadIn f (now (b .entry)) n)) r ⌝ }
+    ensures { λ r. ⌜ Ended idleAtEnd reading f (now (b .entry)) (now (b .exit)) n (readRoot (sharedIn f (now (b .entry))) (threadIn f (now (b .entry)) n)) r ⌝ }
 {
     let plan = extract::read_root(f, b, f.load_thread(b, n));
     store_record(f, b, n, plan)
@@ -142,7 +174,7 @@ pub fn turn_read_root(f: Frame, b: &mut [u8], n: u32) -> Answer
 // E2
 pub fn turn_remove_head(f: Frame, b: &mut [u8], n: u32) -> Answer
     requires { ⌜ Within f (length (now b)) ⌝ }
-    ensures { λ r. ⌜ Ended popping f (now (b .entry)) (now (b .exit)) n (removeHead (sharedIn f (now (b .entry))) (threadIn f (now (b .entry)) n)) r ⌝ }
+    ensures { λ r. ⌜ Ended idleAtEnd popping f (now (b .entry)) (now (b .exit)) n (removeHead (sharedIn f (now (b .entry))) (threadIn f (now (b .entry)) n)) r ⌝ }
 {
     let plan = extract::remove_head(f, b, f.load_thread(b, n));
     let effect = plan.effect;
@@ -154,7 +186,7 @@ pub fn turn_remove_head(f: Frame, b: &mut [u8], n: u32) -> Answer
 // M1
 pub fn turn_mend_read_node(f: Frame, b: &mut [u8], n: u32, w: u32) -> Answer
     requires { ⌜ Within f (length (now b)) ⌝ }
-    ensures { λ r. ⌜ Ended reading f (now (b .entry)) (now (b .exit)) n (mendReadNode (sharedIn f (now (b .entry))) (threadIn f (now (b .entry)) n) w) r ⌝ }
+    ensures { λ r. ⌜ Ended idleAtEnd reading f (now (b .entry)) (now (b .exit)) n (mendReadNode (sharedIn f (now (b .entry))) (threadIn f (now (b .entry)) n) w) r ⌝ }
 {
     let plan = moundify::mend_read_node(f, b, f.load_thread(b, n), w);
     store_record(f, b, n, plan)
@@ -163,7 +195,7 @@ pub fn turn_mend_read_node(f: Frame, b: &mut [u8], n: u32, w: u32) -> Answer
 // M2
 pub fn turn_mend_read_depth(f: Frame, b: &mut [u8], n: u32, w: u32) -> Answer
     requires { ⌜ Within f (length (now b)) ⌝ }
-    ensures { λ r. ⌜ Ended reading f (now (b .entry)) (now (b .exit)) n (mendReadDepth (sharedIn f (now (b .entry))) (threadIn f (now (b .entry)) n) w) r ⌝ }
+    ensures { λ r. ⌜ Ended idleAtEnd reading f (now (b .entry)) (now (b .exit)) n (mendReadDepth (sharedIn f (now (b .entry))) (threadIn f (now (b .entry)) n) w) r ⌝ }
 {
     let plan = moundify::mend_read_depth(f, b, f.load_thread(b, n), w);
     store_record(f, b, n, plan)
@@ -172,7 +204,7 @@ pub fn turn_mend_read_depth(f: Frame, b: &mut [u8], n: u32, w: u32) -> Answer
 // M3
 pub fn turn_mend_read_left(f: Frame, b: &mut [u8], n: u32, w: u32) -> Answer
     requires { ⌜ Within f (length (now b)) ⌝ }
-    ensures { λ r. ⌜ Ended reading f (now (b .entry)) (now (b .exit)) n (mendReadLeft (f .shape) (sharedIn f (now (b .entry))) (threadIn f (now (b .entry)) n) w) r ⌝ }
+    ensures { λ r. ⌜ Ended idleAtEnd reading f (now (b .entry)) (now (b .exit)) n (mendReadLeft (f .shape) (sharedIn f (now (b .entry))) (threadIn f (now (b .entry)) n) w) r ⌝ }
 {
     let plan = moundify::mend_read_left(f, b, f.load_thread(b, n), w);
     store_record(f, b, n, plan)
@@ -181,7 +213,7 @@ pub fn turn_mend_read_left(f: Frame, b: &mut [u8], n: u32, w: u32) -> Answer
 // M4
 pub fn turn_mend_read_right(f: Frame, b: &mut [u8], n: u32, w: u32) -> Answer
     requires { ⌜ Within f (length (now b)) ⌝ }
-    ensures { λ r. ⌜ Ended reading f (now (b .entry)) (now (b .exit)) n (mendReadRight (f .shape) (sharedIn f (now (b .entry))) (threadIn f (now (b .entry)) n) w) r ⌝ }
+    ensures { λ r. ⌜ Ended idleAtEnd reading f (now (b .entry)) (now (b .exit)) n (mendReadRight (f .shape) (sharedIn f (now (b .entry))) (threadIn f (now (b .entry)) n) w) r ⌝ }
 {
     let plan = moundify::mend_read_right(f, b, f.load_thread(b, n), w);
     store_record(f, b, n, plan)
@@ -190,7 +222,7 @@ pub fn turn_mend_read_right(f: Frame, b: &mut [u8], n: u32, w: u32) -> Answer
 // M5
 pub fn turn_mend_swap(f: Frame, b: &mut [u8], n: u32, w: u32) -> Answer
     requires { ⌜ Within f (length (now b)) ⌝ }
-    ensures { λ r. ⌜ Ended exchanging f (now (b .entry)) (now (b .exit)) n (mendSwap (f .shape) (sharedIn f (now (b .entry))) (threadIn f (now (b .entry)) n) w) r ⌝ }
+    ensures { λ r. ⌜ Ended idleAtEnd exchanging f (now (b .entry)) (now (b .exit)) n (mendSwap (f .shape) (sharedIn f (now (b .entry))) (threadIn f (now (b .entry)) n) w) r ⌝ }
 {
     let plan = moundify::mend_swap(f, b, f.load_thread(b, n), w);
     let effect = plan.effect;
@@ -202,7 +234,7 @@ pub fn turn_mend_swap(f: Frame, b: &mut [u8], n: u32, w: u32) -> Answer
 // M6
 pub fn turn_mend_clean(f: Frame, b: &mut [u8], n: u32, w: u32) -> Answer
     requires { ⌜ Within f (length (now b)) ⌝ }
-    ensures { λ r. ⌜ Ended cleaning f (now (b .entry)) (now (b .exit)) n (mendClean (sharedIn f (now (b .entry))) (threadIn f (now (b .entry)) n) w) r ⌝ }
+    ensures { λ r. ⌜ Ended idleAtEnd cleaning f (now (b .entry)) (now (b .exit)) n (mendClean (sharedIn f (now (b .entry))) (threadIn f (now (b .entry)) n) w) r ⌝ }
 {
     let plan = moundify::mend_clean(f, b, f.load_thread(b, n), w);
     let effect = plan.effect;
@@ -214,7 +246,7 @@ pub fn turn_mend_clean(f: Frame, b: &mut [u8], n: u32, w: u32) -> Answer
 // 17
 pub fn turn_list_read_root(f: Frame, b: &mut [u8], n: u32) -> Answer
     requires { ⌜ Within f (length (now b)) ⌝ }
-    ensures { λ r. ⌜ Ended reading f (now (b .entry)) (now (b .exit)) n (listReadRoot (sharedIn f (now (b .entry))) (threadIn f (now (b .entry)) n)) r ⌝ }
+    ensures { λ r. ⌜ Ended idleAtEnd reading f (now (b .entry)) (now (b .exit)) n (listReadRoot (sharedIn f (now (b .entry))) (threadIn f (now (b .entry)) n)) r ⌝ }
 {
     let plan = extract::list_read_root(f, b, f.load_thread(b, n));
     store_record(f, b, n, plan)
@@ -223,7 +255,7 @@ pub fn turn_list_read_root(f: Frame, b: &mut [u8], n: u32) -> Answer
 // 18
 pub fn turn_remove_list(f: Frame, b: &mut [u8], n: u32) -> Answer
     requires { ⌜ Within f (length (now b)) ⌝ }
-    ensures { λ r. ⌜ Ended detaching f (now (b .entry)) (now (b .exit)) n (removeList (sharedIn f (now (b .entry))) (threadIn f (now (b .entry)) n)) r ⌝ }
+    ensures { λ r. ⌜ Ended idleAtEnd detaching f (now (b .entry)) (now (b .exit)) n (removeList (sharedIn f (now (b .entry))) (threadIn f (now (b .entry)) n)) r ⌝ }
 {
     let plan = extract::remove_list(f, b, f.load_thread(b, n));
     let effect = plan.effect;
@@ -235,11 +267,11 @@ pub fn turn_remove_list(f: Frame, b: &mut [u8], n: u32) -> Answer
 // 19
 pub fn turn_hand_out(f: Frame, b: &mut [u8], n: u32) -> Answer
     requires { ⌜ Within f (length (now b)) ⌝ }
-    ensures { λ r. ⌜ Ended freeing f (now (b .entry)) (now (b .exit)) n (handOut (sharedIn f (now (b .entry))) (threadIn f (now (b .entry)) n)) r ⌝ }
+    ensures { λ r. ⌜ Ended idleByPlace freeing f (now (b .entry)) (now (b .exit)) n (handOut (sharedIn f (now (b .entry))) (threadIn f (now (b .entry)) n)) r ⌝ }
 {
     let plan = extract::hand_out(f, b, f.load_thread(b, n));
     let effect = plan.effect;
-    let answer = store_record(f, b, n, plan);
+    let answer = store_hand(f, b, n, plan);
     access::carry_freeing(f, b, effect);
     answer
 }
