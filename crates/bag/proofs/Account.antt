@@ -19,7 +19,7 @@ use Rattle.begin.specs.Begin.{hasFreeCell, putRefusal, putRefusalIn}
 use Rattle.mound.specs.Ledger.{Ledger}
 use Rattle.mound.proofs.Account.{all-cells, full-without, not-full-with}
 use Rattle.mound.proofs.Steps.{Invariant}
-use Rattle.bag.specs.Account.{treeCells, begunPuts, freeCells, handCells, AllCellsAccounted, NothingElseRefuses, RefusedWhenFull, PutsRefusedWhenFull}
+use Rattle.bag.specs.Account.{treeCells, begunPuts, freeCells, handCells, AllCellsAccounted, Full, NoneFreeWhenFull, NothingElseRefuses, RefusedWhenFull, PutsRefusedWhenFull}
 
 -- where nothing else refuses a put, the first free cell decides
 cell-decides : (b : List ℕ) (t : ℕ) (i : Item) → NothingElseRefuses b t i
@@ -32,6 +32,20 @@ module _ (b : List ℕ) (l : Ledger) (here : Invariant (shapeIn b) (sharedIn (fr
   pub all-cells-accounted : AllCellsAccounted b
   unfolding treeCells begunPuts handCells freeCells frameOf
   all-cells-accounted = all-cells (shapeIn b) (sharedIn (frameIn b) b) (threadIn (frameIn b) b) l here
+
+  -- no cell is free exactly when the others fill all
+  pub none-free-when-full : NoneFreeWhenFull b
+  unfolding treeCells begunPuts handCells frameOf
+  none-free-when-full =
+      record {
+        none-full = full-without (shapeIn b) (sharedIn (frameIn b) b) (threadIn (frameIn b) b) l here;
+        full-none = λ full. go full (ℕ-discrete (sharedIn (frameIn b) b .free) 0);
+      }
+    where
+      go : Full b → Dec (sharedIn (frameIn b) b .free ≡ 0) → sharedIn (frameIn b) b .free ≡ 0
+      go full (yes e) = e
+      go full (no n) =
+          absurd (not-full-with (shapeIn b) (sharedIn (frameIn b) b) (threadIn (frameIn b) b) l here (omega arith) full)
 
   pub puts-refused-when-full : PutsRefusedWhenFull b
   unfolding treeCells begunPuts handCells sharedIn frameOf pick

@@ -14,4 +14,3 @@ pub mod Start
 pub mod TakeCost
 pub mod Theorems
 pub mod TookInOrder
-pub mod WholeHistories

@@ -22,8 +22,8 @@ use Rattle.mound.proofs.Plans.{Planned, moves, refuses, rests, operation-moves}
 use Rattle.mound.proofs.Steps.{owns}
 use Rattle.bag.specs.History.{history}
 use Rattle.bag.specs.Moments.{Throughout, regionAfter}
-use Rattle.bag.specs.Theorems.{CellsAccounted, NoTurnUnreadable, RefusedTenWhenFull, SmallerTagFirst, StaysReadable, TakesCostExactly, TakesEndInTime}
-use Rattle.bag.proofs.Account.{all-cells-accounted, puts-refused-when-full}
+use Rattle.bag.specs.Theorems.{CellsAccounted, NoTurnUnreadable, NoneFree, RefusedTenWhenFull, SmallerTagFirst, StaysReadable, TakesCostExactly, TakesEndInTime}
+use Rattle.bag.proofs.Account.{all-cells-accounted, none-free-when-full, puts-refused-when-full}
 use Rattle.bag.proofs.Histories.{Kept, kept-after}
 use Rattle.bag.proofs.LeastFirst.{stays-behind}
 use Rattle.bag.proofs.Proved.{Moves, QueueRegion, history-kept, laid-queue, region-is-a-bag}
@@ -87,6 +87,12 @@ unfolding frameOf
 cells-accounted s ps b e calls n earlier later split =
     let w = holds s ps b e calls n earlier later split in
     all-cells-accounted (regionAfter (layoutBytes s ps b) earlier) (w .0) (w .1 .region .holds)
+
+pub none-free : NoneFree
+unfolding frameOf
+none-free s ps b e calls n earlier later split =
+    let w = holds s ps b e calls n earlier later split in
+    none-free-when-full (regionAfter (layoutBytes s ps b) earlier) (w .0) (w .1 .region .holds)
 
 pub refused-ten-when-full : RefusedTenWhenFull
 unfolding frameOf

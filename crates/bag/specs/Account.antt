@@ -48,6 +48,11 @@ AllCellsAccounted b = takenCells b + freeCells (frameIn b) b ≡ shapeIn b .cell
 abbrev pub Full : List ℕ → Type 0
 Full b = takenCells b ≡ shapeIn b .cells
 
+-- "no cell is free exactly when tree, begun puts and items in hand fill all" (request 1)
+pub record NoneFreeWhenFull (b : List ℕ) : Type 0 where
+  pub none-full : sharedIn (frameIn b) b .free ≡ 0 → Full b
+  pub full-none : Full b → sharedIn (frameIn b) b .free ≡ 0
+
 -- "Put 7, 3, 4, 8, 9, 10.": the five tests before the last pass
 pub record NothingElseRefuses (b : List ℕ) (t : ℕ) (i : Item) : Type 0 where
   pub region : readable b ≡ true

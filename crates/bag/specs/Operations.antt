@@ -1,6 +1,6 @@
 -- What begins, decides and answers an operation, and how often an operation decides. "An operation begins with a put or take call that is
--- not refused", or with a list (request 1), which may have several answers. It is answered by the first turn of its thread, before that thread's next beginning, that answers inserted, took or empty.
--- A deciding access belongs to its thread's operation begun last."
+-- not refused", or with a list (request 1). "It is answered by the first turn of its thread, before that thread's next beginning, that answers
+-- inserted, took or empty.", and a list by later ones too. "A deciding access belongs to its thread's operation begun last."
 use Prim.Native.Nat.{ℕ, _+_, _≤_}
 use mathlib.Core.Path.{_≡_}
 use mathlib.Core.Bool.{Bool, true, false, _&&_}

@@ -11,7 +11,7 @@ use Rattle.readable.specs.Readable.{frameIn, readable, shapeIn}
 use Rattle.machine.specs.Turn.{turnAnswer}
 use Rattle.mound.specs.Ledger.{Least}
 use Rattle.mound.specs.Told.{decidesList}
-use Rattle.bag.specs.Account.{AllCellsAccounted, PutsRefusedWhenFull}
+use Rattle.bag.specs.Account.{AllCellsAccounted, NoneFreeWhenFull, PutsRefusedWhenFull}
 use Rattle.bag.specs.Demand3.{inTree}
 use Rattle.bag.specs.History.{Moment}
 use Rattle.bag.specs.Moments.{EachMoment, InEveryHistory, Throughout}
@@ -30,7 +30,11 @@ NoTurnUnreadable = Throughout λ s permissions b. (t choice : ℕ) → turnAnswe
 abbrev pub CellsAccounted : Type 0
 CellsAccounted = Throughout λ s permissions b. AllCellsAccounted b
 
--- a put is refused 10 exactly when tree, begun puts and items in hand fill all
+-- "From a laid-out region no cell is free exactly when tree, begun puts and items in hand fill all." (document 02, request 1)
+abbrev pub NoneFree : Type 0
+NoneFree = Throughout λ s permissions b. NoneFreeWhenFull b
+
+-- a put is refused 10 exactly then
 abbrev pub RefusedTenWhenFull : Type 0
 RefusedTenWhenFull = Throughout λ s permissions b. PutsRefusedWhenFull b
 
@@ -61,7 +65,8 @@ copies b i = inTree (frameIn b) b i
 -- copies fewer, but for the 18 of a list, which takes all that stand behind the least item
 abbrev pub StaysBehind : List ℕ → Moment → Type 0
 StaysBehind before m =
-    ((t : ℕ) (is : List Item) → tells (m .event) ≡ decidesList t is → ⊥) → (i j : Item) → i .key ≡ j .key → i .tag < j .tag → 1 ≤ copies before i → copies before j ≤ copies (m .region) j
+    ((t : ℕ) (is : List Item) → tells (m .event) ≡ decidesList t is → ⊥) → (i j : Item) → i .key ≡ j .key → i .tag < j .tag
+    → 1 ≤ copies before i → copies before j ≤ copies (m .region) j
 
 -- "Equal keys, smaller tag first" (request 2)
 abbrev pub SmallerTagFirst : Type 0

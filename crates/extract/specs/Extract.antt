@@ -31,7 +31,7 @@ unfoldable pub readRoot : Shared → Thread → Plan
 unfolding afterRootRead
 readRoot m t = afterRootRead t (readNode m 1) 0 RemoveHead
 
--- 17 (request 1): "17 .. read .. the root", "after is 2 for back to 17", "An empty clean root answers empty"
+-- 17 (request 1): "Places 17 and 18 read and empty the root", "after is 2 for back to 17", "An empty clean root answers empty"
 unfoldable pub listReadRoot : Shared → Thread → Plan
 unfolding afterRootRead
 listReadRoot m t = afterRootRead t (readNode m 1) 2 RemoveList
@@ -70,7 +70,7 @@ unfoldable pub removeHead : Shared → Thread → Plan
 unfolding casRoot afterRemoval
 removeHead m t = casRoot m t ReadRoot (afterRemoval t (t .copies .first))
 
--- 18 (request 1): "18 .. empt[ies] the root (failure: 17)", "an 18 that would take an empty list is 7"
+-- 18 (request 1): "Places 17 and 18 read and empty the root (failure: 17)", "an 18 that would take an empty list is 7"
 unfoldable pub removeList : Shared → Thread → Plan
 unfolding casRoot afterListRemoval
 removeList m t = casRoot m t ListReadRoot (afterListRemoval t (t .copies .first))

@@ -28,7 +28,7 @@ use Rattle.access.specs.declared.plan.Plan.{Plan}
 use Rattle.insert.specs.Insert.{afterAncestorRead, growDepth, insertAt, insertAtRoot, insertBelow, afterFailedTry, afterLeafRead, readAncestor, readDepth, readLeaf, readParent, readTarget, searchOn}
 use Rattle.extract.specs.Extract.{afterListRemoval, afterRemoval, afterRootRead, casRoot, handOut, handedOut, listReadRoot, readRoot, removeHead, removeList}
 use Rattle.moundify.specs.Moundify.{afterChildrenRead, cleanAt, afterDepthRead, exchangeAt, exchangeWith, mendClean, mendSwap, mendReadDepth, mendReadLeft, mendReadNode, mendReadRight, returning, returned, returnAnswer}
-use Rattle.turns.specs.Inner.{idleAtEnd, idleByPlace, recordBytes}
+use Rattle.turns.specs.Inner.{idleAtEnd, idleByPlace, recordBytes, storedBy}
 use Rattle.machine.specs.Turn.{carriedOut, decideAt}
 
 -- the kind of effects that a place has
@@ -53,29 +53,6 @@ kindAt (MendClean w) = cleaning
 kindAt ListReadRoot = reading
 kindAt RemoveList = detaching
 kindAt HandOut = freeing
-
--- how a place's record is stored
-abbrev pub storedAt : Place → Answer → Thread → Thread
-storedAt Idle = idleAtEnd
-storedAt ReadDepth = idleAtEnd
-storedAt ReadLeaf = idleAtEnd
-storedAt ReadAncestor = idleAtEnd
-storedAt GrowDepth = idleAtEnd
-storedAt ReadTarget = idleAtEnd
-storedAt InsertAtRoot = idleAtEnd
-storedAt ReadParent = idleAtEnd
-storedAt InsertBelow = idleAtEnd
-storedAt ReadRoot = idleAtEnd
-storedAt RemoveHead = idleAtEnd
-storedAt (MendReadNode w) = idleAtEnd
-storedAt (MendReadDepth w) = idleAtEnd
-storedAt (MendReadLeft w) = idleAtEnd
-storedAt (MendReadRight w) = idleAtEnd
-storedAt (MendSwap w) = idleAtEnd
-storedAt (MendClean w) = idleAtEnd
-storedAt ListReadRoot = idleAtEnd
-storedAt RemoveList = idleAtEnd
-storedAt HandOut = idleByPlace
 
 -- storing the record and carrying out an effect of kind k is carrying the plan out
 pub record Fits (stored : Answer → Thread → Thread) (k : ℕ) (p : Plan) : Type 0 where
@@ -160,7 +137,7 @@ unfolding casRoot onTo moved refused plan
 root-cas m t back h = or _ (or _ (stops refl) (or _ (stops refl) h)) goes
 
 -- The plan of every place.
-pub plan-fits : (s : Shape) (m : Shared) (t : Thread) (c : ℕ) (z : Place) → Fits (storedAt z) (kindAt z) (decideAt s m t c z)
+pub plan-fits : (s : Shape) (m : Shared) (t : Thread) (c : ℕ) (z : Place) → Fits (storedBy (kindAt z)) (kindAt z) (decideAt s m t c z)
 unfolding plan moved onTo refused readDepth readLeaf afterLeafRead afterFailedTry searchOn readAncestor afterAncestorRead growDepth readTarget insertAtRoot insertAt readParent insertBelow readRoot removeHead afterRemoval mendReadNode mendReadDepth afterDepthRead mendReadLeft mendReadRight afterChildrenRead mendSwap exchangeWith exchangeAt mendClean cleanAt listReadRoot removeList afterListRemoval handOut handedOut
 plan-fits s m t c Idle = stops refl
 plan-fits s m t c ReadDepth = goes

@@ -25,7 +25,7 @@ use Rattle.readable.specs.Readable.{frameIn, readable}
 use Rattle.readable.proofs.Laws.{readable-within}
 use Rattle.turns.specs.Inner.{Ended}
 use Rattle.machine.specs.Turn.{Turned, TurnedOn, carriedOut, decide, decideAt, turnAnswer, turnBytes, turnOnAnswer, turnOnBytes, turnPlan}
-use Rattle.machine.proofs.PlaceEffects.{kindAt, plan-fits, storedAt}
+use Rattle.machine.proofs.PlaceEffects.{kindAt, plan-fits}
 
 -- A turn: refused where there is no such thread, idle, or the plan that the thread's place decides is carried out.
 module _ (f : Frame) (b : List ℕ) (t c : ℕ) where
@@ -57,7 +57,7 @@ module _ (f : Frame) (b : List ℕ) (t c : ℕ) where
         exists (between 1 t (f .shape .threads)) refl
         (ap (λ y. eqb (placeNumber (y .place)) 0) (sym eh) ∙ ap (λ y. eqb (placeNumber y) 0) ez ∙ n)
 
-    pub turned : eqb (placeNumber z) 0 ≡ false → (b′ : List ℕ) (r : Answer) → Ended (storedAt z) (kindAt z) f b b′ t planAt r → Turned f b b′ t c r
+    pub turned : eqb (placeNumber z) 0 ≡ false → (b′ : List ℕ) (r : Answer) → Ended (kindAt z) f b b′ t planAt r → Turned f b b′ t c r
     unfolding turnAnswer turnBytes
     turned n b′ r h =
         record {

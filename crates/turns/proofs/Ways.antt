@@ -16,7 +16,7 @@ use Rattle.access.specs.Plan.{changesNothing, ends}
 use Rattle.access.specs.declared.effect.Effect.{Effect}
 use Rattle.access.specs.declared.effect.Effect.the-variants.{Nothing, Grow, Push, Pop, Exchange, Clean, Detach, Free}
 use Rattle.access.specs.declared.plan.Plan.{Plan}
-use Rattle.turns.specs.Inner.{Ended, Stored, idleAtEnd, idleByPlace, recordBytes}
+use Rattle.turns.specs.Inner.{Ended, Stored, idleAtEnd, idleByPlace, recordBytes, storedBy}
 
 -- Storing a plan's record: none, an idle one, or another; the test w is by the answer, or by the place.
 module _ (f : Frame) (b : List ℕ) (n : ℕ) (p : Plan) (q : Bool) (eq : q ≡ changesNothing (p .answer)) where
@@ -57,8 +57,8 @@ no-effect f b (Clean n v) = refl
 no-effect f b (Detach v) = refl
 no-effect f b (Free c) = refl
 
-module _ (D : Shape → Shared → Thread → Plan) {stored : Answer → Thread → Thread} (f : Frame) (b b₁ : List ℕ) (n : ℕ) (x : Thread) (p : Plan)
-    (r : Answer) (ex : x ≡ threadIn f b n) (ep : p ≡ D (f .shape) (sharedIn f b) x) (h : Stored stored f b b₁ n p r) where
+module _ (D : Shape → Shared → Thread → Plan) (f : Frame) (b b₁ : List ℕ) (n : ℕ) (x : Thread) (p : Plan)
+    (r : Answer) (ex : x ≡ threadIn f b n) (ep : p ≡ D (f .shape) (sharedIn f b) x) where
   abbrev plan : Plan
   plan = D (f .shape) (sharedIn f b) (threadIn f b n)
 
@@ -66,25 +66,26 @@ module _ (D : Shape → Shared → Thread → Plan) {stored : Answer → Thread 
   decided = ep ∙ ap (D (f .shape) (sharedIn f b)) ex
 
   -- with an effect of kind k
-  pub changes : (k : ℕ) (b₂ : List ℕ) → b₂ ≡ effectBytes f b₁ (ofKind k (p .effect)) → Ended stored k f b b₂ n plan r
-  changes k b₂ e₂ =
+  pub changes : (k : ℕ) → Stored (storedBy k) f b b₁ n p r → (b₂ : List ℕ) → b₂ ≡ effectBytes f b₁ (ofKind k (p .effect))
+      → Ended k f b b₂ n plan r
+  changes k h b₂ e₂ =
       record {
         answer = h .answer ∙ ap (λ q. q .answer) decided;
         bytes =
             e₂
             ∙ ap (λ l. effectBytes f l (ofKind k (p .effect))) (h .bytes)
-            ∙ ap (λ q. effectBytes f (recordBytes stored f b n q) (ofKind k (q .effect))) decided;
+            ∙ ap (λ q. effectBytes f (recordBytes (storedBy k) f b n q) (ofKind k (q .effect))) decided;
       }
 
   -- with none
-  pub reads : Ended stored reading f b b₁ n plan r
-  reads = changes reading b₁ (no-effect f b₁ (p .effect))
+  pub reads : Stored idleAtEnd f b b₁ n p r → Ended reading f b b₁ n plan r
+  reads h = changes reading h b₁ (no-effect f b₁ (p .effect))
 
-module _ (D : Shape → Shared → Thread → ℕ → Plan) {stored : Answer → Thread → Thread} (f : Frame) (b b₁ : List ℕ) (n w : ℕ) (x : Thread) (p : Plan)
-    (r : Answer) (ex : x ≡ threadIn f b n) (ep : p ≡ D (f .shape) (sharedIn f b) x w) (h : Stored stored f b b₁ n p r) where
-  pub changes-by : (k : ℕ) (b₂ : List ℕ) → b₂ ≡ effectBytes f b₁ (ofKind k (p .effect))
-      → Ended stored k f b b₂ n (D (f .shape) (sharedIn f b) (threadIn f b n) w) r
-  changes-by = changes (λ s m t. D s m t w) f b b₁ n x p r ex ep h
+module _ (D : Shape → Shared → Thread → ℕ → Plan) (f : Frame) (b b₁ : List ℕ) (n w : ℕ) (x : Thread) (p : Plan)
+    (r : Answer) (ex : x ≡ threadIn f b n) (ep : p ≡ D (f .shape) (sharedIn f b) x w) where
+  pub changes-by : (k : ℕ) → Stored (storedBy k) f b b₁ n p r → (b₂ : List ℕ) → b₂ ≡ effectBytes f b₁ (ofKind k (p .effect))
+      → Ended k f b b₂ n (D (f .shape) (sharedIn f b) (threadIn f b n) w) r
+  changes-by = changes (λ s m t. D s m t w) f b b₁ n x p r ex ep
 
-  pub reads-by : Ended stored reading f b b₁ n (D (f .shape) (sharedIn f b) (threadIn f b n) w) r
-  reads-by = reads (λ s m t. D s m t w) f b b₁ n x p r ex ep h
+  pub reads-by : Stored idleAtEnd f b b₁ n p r → Ended reading f b b₁ n (D (f .shape) (sharedIn f b) (threadIn f b n) w) r
+  reads-by = reads (λ s m t. D s m t w) f b b₁ n x p r ex ep

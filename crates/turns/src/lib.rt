@@ -84,7 +84,7 @@ fn store_hand(f: Frame, b: &mut [u8], n: u32, plan: Plan) -> Answer
 // I1
 pub fn turn_read_depth(f: Frame, b: &mut [u8], n: u32) -> Answer
     requires { ⌜ Within f (length (now b)) ⌝ }
-    ensures { λ r. ⌜ Ended idleAtEnd reading f (now (b .entry)) (now (b .exit)) n (readDepth (sharedIn f (now (b .entry))) (threadIn f (now (b .entry)) n)) r ⌝ }
+    ensures { λ r. ⌜ Ended reading f (now (b .entry)) (now (b .exit)) n (readDepth (sharedIn f (now (b .entry))) (threadIn f (now (b .entry)) n)) r ⌝ }
 {
     let plan = insert::read_depth(f, b, f.load_thread(b, n));
     store_record(f, b, n, plan)
@@ -93,7 +93,7 @@ pub fn turn_read_depth(f: Frame, b: &mut [u8], n: u32) -> Answer
 // I2
 pub fn turn_read_leaf(f: Frame, b: &mut [u8], n: u32, choice: u32) -> Answer
     requires { ⌜ Within f (length (now b)) ⌝ }
-    ensures { λ r. ⌜ Ended idleAtEnd reading f (now (b .entry)) (now (b .exit)) n (readLeaf (f .shape) (sharedIn f (now (b .entry))) (threadIn f (now (b .entry)) n) choice) r ⌝ }
+    ensures { λ r. ⌜ Ended reading f (now (b .entry)) (now (b .exit)) n (readLeaf (f .shape) (sharedIn f (now (b .entry))) (threadIn f (now (b .entry)) n) choice) r ⌝ }
 {
     let plan = insert::read_leaf(f, b, f.load_thread(b, n), choice);
     store_record(f, b, n, plan)
@@ -102,7 +102,7 @@ pub fn turn_read_leaf(f: Frame, b: &mut [u8], n: u32, choice: u32) -> Answer
 // I3
 pub fn turn_read_ancestor(f: Frame, b: &mut [u8], n: u32) -> Answer
     requires { ⌜ Within f (length (now b)) ⌝ }
-    ensures { λ r. ⌜ Ended idleAtEnd reading f (now (b .entry)) (now (b .exit)) n (readAncestor (sharedIn f (now (b .entry))) (threadIn f (now (b .entry)) n)) r ⌝ }
+    ensures { λ r. ⌜ Ended reading f (now (b .entry)) (now (b .exit)) n (readAncestor (sharedIn f (now (b .entry))) (threadIn f (now (b .entry)) n)) r ⌝ }
 {
     let plan = insert::read_ancestor(f, b, f.load_thread(b, n));
     store_record(f, b, n, plan)
@@ -111,7 +111,7 @@ pub fn turn_read_ancestor(f: Frame, b: &mut [u8], n: u32) -> Answer
 // I4
 pub fn turn_grow_depth(f: Frame, b: &mut [u8], n: u32) -> Answer
     requires { ⌜ Within f (length (now b)) ⌝ }
-    ensures { λ r. ⌜ Ended idleAtEnd growing f (now (b .entry)) (now (b .exit)) n (growDepth (f .shape) (sharedIn f (now (b .entry))) (threadIn f (now (b .entry)) n)) r ⌝ }
+    ensures { λ r. ⌜ Ended growing f (now (b .entry)) (now (b .exit)) n (growDepth (f .shape) (sharedIn f (now (b .entry))) (threadIn f (now (b .entry)) n)) r ⌝ }
 {
     let plan = insert::grow_depth(f, b, f.load_thread(b, n));
     let effect = plan.effect;
@@ -123,7 +123,7 @@ pub fn turn_grow_depth(f: Frame, b: &mut [u8], n: u32) -> Answer
 // I5
 pub fn turn_read_target(f: Frame, b: &mut [u8], n: u32) -> Answer
     requires { ⌜ Within f (length (now b)) ⌝ }
-    ensures { λ r. ⌜ Ended idleAtEnd reading f (now (b .entry)) (now (b .exit)) n (readTarget (sharedIn f (now (b .entry))) (threadIn f (now (b .entry)) n)) r ⌝ }
+    ensures { λ r. ⌜ Ended reading f (now (b .entry)) (now (b .exit)) n (readTarget (sharedIn f (now (b .entry))) (threadIn f (now (b .entry)) n)) r ⌝ }
 {
     let plan = insert::read_target(f, b, f.load_thread(b, n));
     store_record(f, b, n, plan)
@@ -132,7 +132,7 @@ pub fn turn_read_target(f: Frame, b: &mut [u8], n: u32) -> Answer
 // I6
 pub fn turn_insert_at_root(f: Frame, b: &mut [u8], n: u32) -> Answer
     requires { ⌜ Within f (length (now b)) ⌝ }
-    ensures { λ r. ⌜ Ended idleAtEnd pushing f (now (b .entry)) (now (b .exit)) n (insertAtRoot (sharedIn f (now (b .entry))) (threadIn f (now (b .entry)) n)) r ⌝ }
+    ensures { λ r. ⌜ Ended pushing f (now (b .entry)) (now (b .exit)) n (insertAtRoot (sharedIn f (now (b .entry))) (threadIn f (now (b .entry)) n)) r ⌝ }
 {
     let plan = insert::insert_at_root(f, b, f.load_thread(b, n));
     let effect = plan.effect;
@@ -144,7 +144,7 @@ pub fn turn_insert_at_root(f: Frame, b: &mut [u8], n: u32) -> Answer
 // I7
 pub fn turn_read_parent(f: Frame, b: &mut [u8], n: u32) -> Answer
     requires { ⌜ Within f (length (now b)) ⌝ }
-    ensures { λ r. ⌜ Ended idleAtEnd reading f (now (b .entry)) (now (b .exit)) n (readParent (sharedIn f (now (b .entry))) (threadIn f (now (b .entry)) n)) r ⌝ }
+    ensures { λ r. ⌜ Ended reading f (now (b .entry)) (now (b .exit)) n (readParent (sharedIn f (now (b .entry))) (threadIn f (now (b .entry)) n)) r ⌝ }
 {
     let plan = insert::read_parent(f, b, f.load_thread(b, n));
     store_record(f, b, n, plan)
@@ -153,7 +153,7 @@ pub fn turn_read_parent(f: Frame, b: &mut [u8], n: u32) -> Answer
 // I8
 pub fn turn_insert_below(f: Frame, b: &mut [u8], n: u32) -> Answer
     requires { ⌜ Within f (length (now b)) ⌝ }
-    ensures { λ r. ⌜ Ended idleAtEnd pushing f (now (b .entry)) (now (b .exit)) n (insertBelow (sharedIn f (now (b .entry))) (threadIn f (now (b .entry)) n)) r ⌝ }
+    ensures { λ r. ⌜ Ended pushing f (now (b .entry)) (now (b .exit)) n (insertBelow (sharedIn f (now (b .entry))) (threadIn f (now (b .entry)) n)) r ⌝ }
 {
     let plan = insert::insert_below(f, b, f.load_thread(b, n));
     let effect = plan.effect;
@@ -165,7 +165,7 @@ pub fn turn_insert_below(f: Frame, b: &mut [u8], n: u32) -> Answer
 // E1
 pub fn turn_read_root(f: Frame, b: &mut [u8], n: u32) -> Answer
     requires { ⌜ Within f (length (now b)) ⌝ }
-    ensures { λ r. ⌜ Ended idleAtEnd reading f (now (b .entry)) (now (b .exit)) n (readRoot (sharedIn f (now (b .entry))) (threadIn f (now (b .entry)) n)) r ⌝ }
+    ensures { λ r. ⌜ Ended reading f (now (b .entry)) (now (b .exit)) n (readRoot (sharedIn f (now (b .entry))) (threadIn f (now (b .entry)) n)) r ⌝ }
 {
     let plan = extract::read_root(f, b, f.load_thread(b, n));
     store_record(f, b, n, plan)
@@ -174,7 +174,7 @@ pub fn turn_read_root(f: Frame, b: &mut [u8], n: u32) -> Answer
 // E2
 pub fn turn_remove_head(f: Frame, b: &mut [u8], n: u32) -> Answer
     requires { ⌜ Within f (length (now b)) ⌝ }
-    ensures { λ r. ⌜ Ended idleAtEnd popping f (now (b .entry)) (now (b .exit)) n (removeHead (sharedIn f (now (b .entry))) (threadIn f (now (b .entry)) n)) r ⌝ }
+    ensures { λ r. ⌜ Ended popping f (now (b .entry)) (now (b .exit)) n (removeHead (sharedIn f (now (b .entry))) (threadIn f (now (b .entry)) n)) r ⌝ }
 {
     let plan = extract::remove_head(f, b, f.load_thread(b, n));
     let effect = plan.effect;
@@ -186,7 +186,7 @@ pub fn turn_remove_head(f: Frame, b: &mut [u8], n: u32) -> Answer
 // M1
 pub fn turn_mend_read_node(f: Frame, b: &mut [u8], n: u32, w: u32) -> Answer
     requires { ⌜ Within f (length (now b)) ⌝ }
-    ensures { λ r. ⌜ Ended idleAtEnd reading f (now (b .entry)) (now (b .exit)) n (mendReadNode (sharedIn f (now (b .entry))) (threadIn f (now (b .entry)) n) w) r ⌝ }
+    ensures { λ r. ⌜ Ended reading f (now (b .entry)) (now (b .exit)) n (mendReadNode (sharedIn f (now (b .entry))) (threadIn f (now (b .entry)) n) w) r ⌝ }
 {
     let plan = moundify::mend_read_node(f, b, f.load_thread(b, n), w);
     store_record(f, b, n, plan)
@@ -195,7 +195,7 @@ pub fn turn_mend_read_node(f: Frame, b: &mut [u8], n: u32, w: u32) -> Answer
 // M2
 pub fn turn_mend_read_depth(f: Frame, b: &mut [u8], n: u32, w: u32) -> Answer
     requires { ⌜ Within f (length (now b)) ⌝ }
-    ensures { λ r. ⌜ Ended idleAtEnd reading f (now (b .entry)) (now (b .exit)) n (mendReadDepth (sharedIn f (now (b .entry))) (threadIn f (now (b .entry)) n) w) r ⌝ }
+    ensures { λ r. ⌜ Ended reading f (now (b .entry)) (now (b .exit)) n (mendReadDepth (sharedIn f (now (b .entry))) (threadIn f (now (b .entry)) n) w) r ⌝ }
 {
     let plan = moundify::mend_read_depth(f, b, f.load_thread(b, n), w);
     store_record(f, b, n, plan)
@@ -204,7 +204,7 @@ pub fn turn_mend_read_depth(f: Frame, b: &mut [u8], n: u32, w: u32) -> Answer
 // M3
 pub fn turn_mend_read_left(f: Frame, b: &mut [u8], n: u32, w: u32) -> Answer
     requires { ⌜ Within f (length (now b)) ⌝ }
-    ensures { λ r. ⌜ Ended idleAtEnd reading f (now (b .entry)) (now (b .exit)) n (mendReadLeft (f .shape) (sharedIn f (now (b .entry))) (threadIn f (now (b .entry)) n) w) r ⌝ }
+    ensures { λ r. ⌜ Ended reading f (now (b .entry)) (now (b .exit)) n (mendReadLeft (f .shape) (sharedIn f (now (b .entry))) (threadIn f (now (b .entry)) n) w) r ⌝ }
 {
     let plan = moundify::mend_read_left(f, b, f.load_thread(b, n), w);
     store_record(f, b, n, plan)
@@ -213,7 +213,7 @@ pub fn turn_mend_read_left(f: Frame, b: &mut [u8], n: u32, w: u32) -> Answer
 // M4
 pub fn turn_mend_read_right(f: Frame, b: &mut [u8], n: u32, w: u32) -> Answer
     requires { ⌜ Within f (length (now b)) ⌝ }
-    ensures { λ r. ⌜ Ended idleAtEnd reading f (now (b .entry)) (now (b .exit)) n (mendReadRight (f .shape) (sharedIn f (now (b .entry))) (threadIn f (now (b .entry)) n) w) r ⌝ }
+    ensures { λ r. ⌜ Ended reading f (now (b .entry)) (now (b .exit)) n (mendReadRight (f .shape) (sharedIn f (now (b .entry))) (threadIn f (now (b .entry)) n) w) r ⌝ }
 {
     let plan = moundify::mend_read_right(f, b, f.load_thread(b, n), w);
     store_record(f, b, n, plan)
@@ -222,7 +222,7 @@ pub fn turn_mend_read_right(f: Frame, b: &mut [u8], n: u32, w: u32) -> Answer
 // M5
 pub fn turn_mend_swap(f: Frame, b: &mut [u8], n: u32, w: u32) -> Answer
     requires { ⌜ Within f (length (now b)) ⌝ }
-    ensures { λ r. ⌜ Ended idleAtEnd exchanging f (now (b .entry)) (now (b .exit)) n (mendSwap (f .shape) (sharedIn f (now (b .entry))) (threadIn f (now (b .entry)) n) w) r ⌝ }
+    ensures { λ r. ⌜ Ended exchanging f (now (b .entry)) (now (b .exit)) n (mendSwap (f .shape) (sharedIn f (now (b .entry))) (threadIn f (now (b .entry)) n) w) r ⌝ }
 {
     let plan = moundify::mend_swap(f, b, f.load_thread(b, n), w);
     let effect = plan.effect;
@@ -234,7 +234,7 @@ pub fn turn_mend_swap(f: Frame, b: &mut [u8], n: u32, w: u32) -> Answer
 // M6
 pub fn turn_mend_clean(f: Frame, b: &mut [u8], n: u32, w: u32) -> Answer
     requires { ⌜ Within f (length (now b)) ⌝ }
-    ensures { λ r. ⌜ Ended idleAtEnd cleaning f (now (b .entry)) (now (b .exit)) n (mendClean (sharedIn f (now (b .entry))) (threadIn f (now (b .entry)) n) w) r ⌝ }
+    ensures { λ r. ⌜ Ended cleaning f (now (b .entry)) (now (b .exit)) n (mendClean (sharedIn f (now (b .entry))) (threadIn f (now (b .entry)) n) w) r ⌝ }
 {
     let plan = moundify::mend_clean(f, b, f.load_thread(b, n), w);
     let effect = plan.effect;
@@ -246,7 +246,7 @@ pub fn turn_mend_clean(f: Frame, b: &mut [u8], n: u32, w: u32) -> Answer
 // 17
 pub fn turn_list_read_root(f: Frame, b: &mut [u8], n: u32) -> Answer
     requires { ⌜ Within f (length (now b)) ⌝ }
-    ensures { λ r. ⌜ Ended idleAtEnd reading f (now (b .entry)) (now (b .exit)) n (listReadRoot (sharedIn f (now (b .entry))) (threadIn f (now (b .entry)) n)) r ⌝ }
+    ensures { λ r. ⌜ Ended reading f (now (b .entry)) (now (b .exit)) n (listReadRoot (sharedIn f (now (b .entry))) (threadIn f (now (b .entry)) n)) r ⌝ }
 {
     let plan = extract::list_read_root(f, b, f.load_thread(b, n));
     store_record(f, b, n, plan)
@@ -255,7 +255,7 @@ pub fn turn_list_read_root(f: Frame, b: &mut [u8], n: u32) -> Answer
 // 18
 pub fn turn_remove_list(f: Frame, b: &mut [u8], n: u32) -> Answer
     requires { ⌜ Within f (length (now b)) ⌝ }
-    ensures { λ r. ⌜ Ended idleAtEnd detaching f (now (b .entry)) (now (b .exit)) n (removeList (sharedIn f (now (b .entry))) (threadIn f (now (b .entry)) n)) r ⌝ }
+    ensures { λ r. ⌜ Ended detaching f (now (b .entry)) (now (b .exit)) n (removeList (sharedIn f (now (b .entry))) (threadIn f (now (b .entry)) n)) r ⌝ }
 {
     let plan = extract::remove_list(f, b, f.load_thread(b, n));
     let effect = plan.effect;
@@ -267,7 +267,7 @@ pub fn turn_remove_list(f: Frame, b: &mut [u8], n: u32) -> Answer
 // 19
 pub fn turn_hand_out(f: Frame, b: &mut [u8], n: u32) -> Answer
     requires { ⌜ Within f (length (now b)) ⌝ }
-    ensures { λ r. ⌜ Ended idleByPlace freeing f (now (b .entry)) (now (b .exit)) n (handOut (sharedIn f (now (b .entry))) (threadIn f (now (b .entry)) n)) r ⌝ }
+    ensures { λ r. ⌜ Ended freeing f (now (b .entry)) (now (b .exit)) n (handOut (sharedIn f (now (b .entry))) (threadIn f (now (b .entry)) n)) r ⌝ }
 {
     let plan = extract::hand_out(f, b, f.load_thread(b, n));
     let effect = plan.effect;

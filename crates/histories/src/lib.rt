@@ -1,0 +1,1 @@
+// Whole histories, computed from the definitions: two proofs, and no code.
