@@ -29,7 +29,7 @@ use Rattle.readable.proofs.Laws.{Good}
 use Rattle.preserved.proofs.PlansGood.{or-left, or-right}
 use Rattle.run.specs.Run.{Turn}
 use Rattle.machine.specs.Turn.{decide, decideAt, turnAnswer, turnPlan}
-use Rattle.mound.specs.Told.{Told, nothing, decidesEmpty, decidesPut}
+use Rattle.mound.specs.Told.{nothing, decidesEmpty, decidesPut}
 use Rattle.mound.proofs.Steps.{effectTells, quietTells}
 use Rattle.bag.specs.Demand3.{Says, moved as says-moved, idle, refused as says-refused, inserted, empty, took, removed, list-removed}
 use Rattle.bag.specs.History.{ServedTurn, turned, rootItem, rootItems, servedOn}

@@ -28,7 +28,7 @@ use Rattle.access.specs.declared.plan.Plan.{Plan}
 use Rattle.insert.specs.Insert.{afterAncestorRead, growDepth, insertAt, insertAtRoot, insertBelow, afterFailedTry, afterLeafRead, readAncestor, readDepth, readLeaf, readParent, readTarget, searchOn}
 use Rattle.extract.specs.Extract.{afterListRemoval, afterRemoval, afterRootRead, casRoot, handOut, handedOut, listReadRoot, readRoot, removeHead, removeList}
 use Rattle.moundify.specs.Moundify.{afterChildrenRead, cleanAt, afterDepthRead, exchangeAt, exchangeWith, mendClean, mendSwap, mendReadDepth, mendReadLeft, mendReadNode, mendReadRight, returning, returned, returnAnswer}
-use Rattle.turns.specs.Inner.{idleAtEnd, idleByPlace, recordBytes, storedBy}
+use Rattle.turns.specs.Inner.{goesIdle, idleByAnswer, idleByPlace, recordBytes}
 use Rattle.machine.specs.Turn.{carriedOut, decideAt}
 
 -- the kind of effects that a place has
@@ -54,10 +54,9 @@ kindAt ListReadRoot = reading
 kindAt RemoveList = detaching
 kindAt HandOut = freeing
 
--- storing the record and carrying out an effect of kind k is carrying the plan out
-pub record Fits (stored : Answer → Thread → Thread) (k : ℕ) (p : Plan) : Type 0 where
-  pub carried : (f : Frame) (b : List ℕ) (n : ℕ)
-      → effectBytes f (recordBytes stored f b n p) (ofKind k (p .effect)) ≡ carriedOut f b n p
+-- storing the record, gone idle where `idle` says so of the plan, and carrying out an effect of kind k is carrying the plan out
+pub record Fits (idle : Plan → Bool) (k : ℕ) (p : Plan) : Type 0 where
+  pub carried : (f : Frame) (b : List ℕ) (n : ℕ) → effectBytes f (recordBytes f b n p (idle p)) (ofKind k (p .effect)) ≡ carriedOut f b n p
 
 -- the effect is nothing or of kind k
 record OfKind (k : ℕ) (e : Effect) : Type 0 where
@@ -84,60 +83,60 @@ itself (Free c) = record { same = refl }
 
 -- Each end of a plan: on to another place, refused or idle, the operation ends, or an item is handed out.
 module _ {k : ℕ} {t : Thread} where
-  on : {e : Effect} → OfKind k e → Fits idleAtEnd k (record { effect = e; thread = t; answer = Moved })
-  unfolding recordBytes idleAtEnd carriedOut pick
+  on : {e : Effect} → OfKind k e → Fits idleByAnswer k (record { effect = e; thread = t; answer = Moved })
+  unfolding recordBytes carriedOut pick
   on h = record { carried = λ f b n. rw (h .same) refl }
 
-  goes : Fits idleAtEnd k (record { effect = Nothing; thread = t; answer = Moved })
+  goes : Fits idleByAnswer k (record { effect = Nothing; thread = t; answer = Moved })
   goes = on none
 
-  stops : {stored : Answer → Thread → Thread} {a : Answer} → changesNothing a ≡ true
-      → Fits stored k (record { effect = Nothing; thread = t; answer = a })
+  stops : {idle : Plan → Bool} {a : Answer} → changesNothing a ≡ true
+      → Fits idle k (record { effect = Nothing; thread = t; answer = a })
   unfolding effectBytes recordBytes carriedOut pick
   stops g = let h : OfKind k Nothing = none in record { carried = λ f b n. rw (h .same, g) refl }
 
 rests : {k : ℕ} {e : Effect} (t : Thread) {a : Answer} → OfKind k e → changesNothing a ≡ false → ends a ≡ true
-    → Fits idleAtEnd k (record { effect = e; thread = goneIdle t; answer = a })
-unfolding recordBytes idleAtEnd carriedOut goneIdle pick
+    → Fits idleByAnswer k (record { effect = e; thread = goneIdle t; answer = a })
+unfolding recordBytes carriedOut goneIdle pick
 rests t h g e = record { carried = λ f b n. rw (h .same, g, e) refl }
 
 -- with the last item the thread is idle, with any other it stays
 hands : {k : ℕ} {e : Effect} {i : Item} (t u : Thread) (q : Bool) → OfKind k e
     → Fits idleByPlace k (record { effect = e; thread = pick q (goneIdle t) (atPlace u HandOut); answer = Took i })
-unfolding recordBytes idleByPlace carriedOut goneIdle isIdle atPlace pick
+unfolding recordBytes carriedOut goneIdle isIdle atPlace pick
 hands t u true h = record { carried = λ f b n. rw (h .same) refl }
 hands t u false h = record { carried = λ f b n. rw (h .same) refl }
 
-or : {stored : Answer → Thread → Thread} {k : ℕ} (q : Bool) {a b : Plan} → Fits stored k a → Fits stored k b → Fits stored k (pick q a b)
+or : {idle : Plan → Bool} {k : ℕ} (q : Bool) {a b : Plan} → Fits idle k a → Fits idle k b → Fits idle k (pick q a b)
 unfolding pick
 or true h g = h
 or false h g = g
 
-back : {k : ℕ} (e : Effect) (t : Thread) (w : ℕ) → OfKind k e → Fits idleAtEnd k (returning e t w)
+back : {k : ℕ} (e : Effect) (t : Thread) (w : ℕ) → OfKind k e → Fits idleByAnswer k (returning e t w)
 unfolding returning returnAnswer returned plan goneIdle pick
 back {k} e t w h = go (eqb w 0) (eqb (t .after) 1) _ _
   where
     go : (p q : Bool) (x y : Thread)
-        → Fits idleAtEnd k (plan e (pick p (pick q (goneIdle t) x) y) (pick (p && q) (Took (t .result)) Moved))
+        → Fits idleByAnswer k (plan e (pick p (pick q (goneIdle t) x) y) (pick (p && q) (Took (t .result)) Moved))
     go true true x y = rests t h refl refl
     go true false x y = on h
     go false q x y = on h
 
-exchanged : (s : Shape) (m : Shared) (t : Thread) (w c : ℕ) (k : Node) → Fits idleAtEnd exchanging (exchangeWith s m t w c k)
+exchanged : (s : Shape) (m : Shared) (t : Thread) (w c : ℕ) (k : Node) → Fits idleByAnswer exchanging (exchangeWith s m t w c k)
 unfolding exchangeWith exchangeAt plan onTo moved refused
 exchanged s m t w c k = or _ (or _ (or _ (stops refl) (on (itself (Exchange _ _ _ _)))) goes) (stops refl)
 
-root-read : (t : Thread) (q : NodeCopy) (after : ℕ) (next : Place) → Fits idleAtEnd reading (afterRootRead t q after next)
+root-read : (t : Thread) (q : NodeCopy) (after : ℕ) (next : Place) → Fits idleByAnswer reading (afterRootRead t q after next)
 unfolding afterRootRead plan moved onTo
 root-read t q after next = or _ goes (or _ (rests t none refl refl) goes)
 
-root-cas : {k : ℕ} (m : Shared) (t : Thread) (back : Place) {removed : Plan} → Fits idleAtEnd k removed
-    → Fits idleAtEnd k (casRoot m t back removed)
+root-cas : {k : ℕ} (m : Shared) (t : Thread) (back : Place) {removed : Plan} → Fits idleByAnswer k removed
+    → Fits idleByAnswer k (casRoot m t back removed)
 unfolding casRoot onTo moved refused plan
 root-cas m t back h = or _ (or _ (stops refl) (or _ (stops refl) h)) goes
 
 -- The plan of every place.
-pub plan-fits : (s : Shape) (m : Shared) (t : Thread) (c : ℕ) (z : Place) → Fits (storedBy (kindAt z)) (kindAt z) (decideAt s m t c z)
+pub plan-fits : (s : Shape) (m : Shared) (t : Thread) (c : ℕ) (z : Place) → Fits (goesIdle (kindAt z)) (kindAt z) (decideAt s m t c z)
 unfolding plan moved onTo refused readDepth readLeaf afterLeafRead afterFailedTry searchOn readAncestor afterAncestorRead growDepth readTarget insertAtRoot insertAt readParent insertBelow readRoot removeHead afterRemoval mendReadNode mendReadDepth afterDepthRead mendReadLeft mendReadRight afterChildrenRead mendSwap exchangeWith exchangeAt mendClean cleanAt listReadRoot removeList afterListRemoval handOut handedOut
 plan-fits s m t c Idle = stops refl
 plan-fits s m t c ReadDepth = goes

@@ -5,7 +5,7 @@ use mathlib.Core.Bool.{Bool, true, false}
 use mathlib.Core.List.{List}
 use Rattle.region.specs.Pick.{pick}
 use Rattle.region.specs.Shared.{Shared, setThreadIn, sharedIn, threadIn}
-use Rattle.region.specs.Thread.{goneIdle, isIdle}
+use Rattle.region.specs.Thread.{goneIdle}
 use Rattle.region.specs.declared.answer.Answer.{Answer}
 use Rattle.region.specs.declared.frame.Frame.{Frame}
 use Rattle.region.specs.declared.shape.Shape.{Shape}
@@ -16,32 +16,22 @@ use Rattle.access.specs.Plan.{changesNothing, ends}
 use Rattle.access.specs.declared.effect.Effect.{Effect}
 use Rattle.access.specs.declared.effect.Effect.the-variants.{Nothing, Grow, Push, Pop, Exchange, Clean, Detach, Free}
 use Rattle.access.specs.declared.plan.Plan.{Plan}
-use Rattle.turns.specs.Inner.{Ended, Stored, idleAtEnd, idleByPlace, recordBytes, storedBy}
+use Rattle.turns.specs.Inner.{Ended, Stored, goesIdle, recordBytes}
 
--- Storing a plan's record: none, an idle one, or another; the test w is by the answer, or by the place.
-module _ (f : Frame) (b : List ℕ) (n : ℕ) (p : Plan) (q : Bool) (eq : q ≡ changesNothing (p .answer)) where
-  pub none-stored : (stored : Answer → Thread → Thread) → q ≡ true → Stored stored f b b n p (p .answer)
+-- Storing a plan's record: none, an idle one, or another; w is the test that was made.
+module _ (f : Frame) (b : List ℕ) (n : ℕ) (p : Plan) (idle q : Bool) (eq : q ≡ changesNothing (p .answer)) where
+  pub none-stored : q ≡ true → Stored f b b n p idle (p .answer)
   unfolding recordBytes pick
-  none-stored stored g = record { answer = refl; bytes = rw (← eq, g) refl }
+  none-stored g = record { answer = refl; bytes = rw (← eq, g) refl }
 
-  module _ (g : q ≡ false) (b′ : List ℕ) (w : Bool) where
-    module _ (ew : w ≡ ends (p .answer)) where
-      pub idle-stored : w ≡ true → (u : Thread) → u ≡ goneIdle (p .thread) → b′ ≡ setThreadIn f b n u → Stored idleAtEnd f b b′ n p (p .answer)
-      unfolding recordBytes idleAtEnd pick
-      idle-stored z u eu e = record { answer = refl; bytes = rw (← eq, g, ← ew, z) (e ∙ ap (setThreadIn f b n) eu) }
+  module _ (g : q ≡ false) (b′ : List ℕ) (w : Bool) (ew : w ≡ idle) where
+    pub idle-stored : w ≡ true → (u : Thread) → u ≡ goneIdle (p .thread) → b′ ≡ setThreadIn f b n u → Stored f b b′ n p idle (p .answer)
+    unfolding recordBytes pick
+    idle-stored z u eu e = record { answer = refl; bytes = rw (← eq, g, ← ew, z) (e ∙ ap (setThreadIn f b n) eu) }
 
-      pub record-stored : w ≡ false → b′ ≡ setThreadIn f b n (p .thread) → Stored idleAtEnd f b b′ n p (p .answer)
-      unfolding recordBytes idleAtEnd pick
-      record-stored z e = record { answer = refl; bytes = rw (← eq, g, ← ew, z) e }
-
-    module _ (ew : w ≡ isIdle (p .thread)) where
-      pub last-stored : w ≡ true → (u : Thread) → u ≡ goneIdle (p .thread) → b′ ≡ setThreadIn f b n u → Stored idleByPlace f b b′ n p (p .answer)
-      unfolding recordBytes idleByPlace pick
-      last-stored z u eu e = record { answer = refl; bytes = rw (← eq, g, ← ew, z) (e ∙ ap (setThreadIn f b n) eu) }
-
-      pub hand-stored : w ≡ false → b′ ≡ setThreadIn f b n (p .thread) → Stored idleByPlace f b b′ n p (p .answer)
-      unfolding recordBytes idleByPlace pick
-      hand-stored z e = record { answer = refl; bytes = rw (← eq, g, ← ew, z) e }
+    pub record-stored : w ≡ false → b′ ≡ setThreadIn f b n (p .thread) → Stored f b b′ n p idle (p .answer)
+    unfolding recordBytes pick
+    record-stored z e = record { answer = refl; bytes = rw (← eq, g, ← ew, z) e }
 
 -- The end of a turn: D is the plan that the place decides, by the shape, shared memory and the thread's record, and in two of the laws
 -- by a number, the choice or the waiting levels.
@@ -66,7 +56,7 @@ module _ (D : Shape → Shared → Thread → Plan) (f : Frame) (b b₁ : List �
   decided = ep ∙ ap (D (f .shape) (sharedIn f b)) ex
 
   -- with an effect of kind k
-  pub changes : (k : ℕ) → Stored (storedBy k) f b b₁ n p r → (b₂ : List ℕ) → b₂ ≡ effectBytes f b₁ (ofKind k (p .effect))
+  pub changes : (k : ℕ) → Stored f b b₁ n p (goesIdle k p) r → (b₂ : List ℕ) → b₂ ≡ effectBytes f b₁ (ofKind k (p .effect))
       → Ended k f b b₂ n plan r
   changes k h b₂ e₂ =
       record {
@@ -74,18 +64,18 @@ module _ (D : Shape → Shared → Thread → Plan) (f : Frame) (b b₁ : List �
         bytes =
             e₂
             ∙ ap (λ l. effectBytes f l (ofKind k (p .effect))) (h .bytes)
-            ∙ ap (λ q. effectBytes f (recordBytes (storedBy k) f b n q) (ofKind k (q .effect))) decided;
+            ∙ ap (λ q. effectBytes f (recordBytes f b n q (goesIdle k q)) (ofKind k (q .effect))) decided;
       }
 
   -- with none
-  pub reads : Stored idleAtEnd f b b₁ n p r → Ended reading f b b₁ n plan r
+  pub reads : Stored f b b₁ n p (ends (p .answer)) r → Ended reading f b b₁ n plan r
   reads h = changes reading h b₁ (no-effect f b₁ (p .effect))
 
 module _ (D : Shape → Shared → Thread → ℕ → Plan) (f : Frame) (b b₁ : List ℕ) (n w : ℕ) (x : Thread) (p : Plan)
     (r : Answer) (ex : x ≡ threadIn f b n) (ep : p ≡ D (f .shape) (sharedIn f b) x w) where
-  pub changes-by : (k : ℕ) → Stored (storedBy k) f b b₁ n p r → (b₂ : List ℕ) → b₂ ≡ effectBytes f b₁ (ofKind k (p .effect))
+  pub changes-by : (k : ℕ) → Stored f b b₁ n p (goesIdle k p) r → (b₂ : List ℕ) → b₂ ≡ effectBytes f b₁ (ofKind k (p .effect))
       → Ended k f b b₂ n (D (f .shape) (sharedIn f b) (threadIn f b n) w) r
   changes-by = changes (λ s m t. D s m t w) f b b₁ n x p r ex ep
 
-  pub reads-by : Stored idleAtEnd f b b₁ n p r → Ended reading f b b₁ n (D (f .shape) (sharedIn f b) (threadIn f b n) w) r
+  pub reads-by : Stored f b b₁ n p (ends (p .answer)) r → Ended reading f b b₁ n (D (f .shape) (sharedIn f b) (threadIn f b n) w) r
   reads-by = reads (λ s m t. D s m t w) f b b₁ n x p r ex ep

@@ -5,12 +5,13 @@ ghost use mathlib.Core.Path.{_≡_};
 ghost use lib.ListN.{length};
 ghost use Rattle.region.specs.Inner.{Within};
 ghost use Rattle.region.specs.Shared.{sharedIn, threadIn};
+ghost use Rattle.region.specs.Thread.{isIdle};
 ghost use Rattle.access.specs.Inner.{cleaning, detaching, exchanging, freeing, growing, popping, pushing, reading};
 ghost use Rattle.access.specs.Plan.{changesNothing, ends};
 ghost use Rattle.extract.specs.Extract.{handOut, listReadRoot, readRoot, removeHead, removeList};
 ghost use Rattle.insert.specs.Insert.{growDepth, insertAtRoot, insertBelow, readAncestor, readDepth, readLeaf, readParent, readTarget};
 ghost use Rattle.moundify.specs.Moundify.{mendClean, mendReadDepth, mendReadLeft, mendReadNode, mendReadRight, mendSwap};
-ghost use Rattle.turns.specs.Inner.{Ended, Stored, idleAtEnd, idleByPlace};
+ghost use Rattle.turns.specs.Inner.{Ended, Stored};
 use access::Plan;
 use region::Answer;
 use region::Frame;
@@ -48,7 +49,7 @@ fn ends(answer: Answer) -> bool
 // field that the turn left alone.
 fn store_record(f: Frame, b: &mut [u8], n: u32, plan: Plan) -> Answer
     requires { ⌜ Within f (length (now b)) ⌝ }
-    ensures { λ r. ⌜ Stored idleAtEnd f (now (b .entry)) (now (b .exit)) n plan r ⌝ }
+    ensures { λ r. ⌜ Stored f (now (b .entry)) (now (b .exit)) n plan (ends (plan .answer)) r ⌝ }
 {
     let answer = plan.answer;
     if changes_nothing(answer) {
@@ -63,10 +64,11 @@ fn store_record(f: Frame, b: &mut [u8], n: u32, plan: Plan) -> Answer
     answer
 }
 
-// The same after a hand-out, which answers took and may go on: the record is idle by its place.
+// The same after a hand-out, which answers took and may go on: the record is idle by its place. One function for both would be
+// called and not copied into each place.
 fn store_hand(f: Frame, b: &mut [u8], n: u32, plan: Plan) -> Answer
     requires { ⌜ Within f (length (now b)) ⌝ }
-    ensures { λ r. ⌜ Stored idleByPlace f (now (b .entry)) (now (b .exit)) n plan r ⌝ }
+    ensures { λ r. ⌜ Stored f (now (b .entry)) (now (b .exit)) n plan (isIdle (plan .thread)) r ⌝ }
 {
     let answer = plan.answer;
     if changes_nothing(answer) {
