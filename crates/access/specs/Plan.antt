@@ -37,7 +37,7 @@ changesNothing (Took i) = false
 changesNothing Empty = false
 changesNothing (Refused n) = true
 
--- the answers with which an operation ends: "inserted, took or empty"
+-- the answers of an operation, "inserted, took or empty": it ends with the first, a list with the last
 abbrev pub ends : Answer → Bool
 ends Moved = false
 ends Idle = false
