@@ -69,7 +69,7 @@ nodeMaxima cells = nodeWords (greatestNode cells)
 abbrev pub cellMaxima : ℕ → List ℕ
 cellMaxima cells = cellWords (greatestCell cells)
 
--- "place 0..16", with request 1 0..19: no place of the greatest number has waiting levels, so it is written over M6's
+-- "place 0..16", with request 1 0..19: the place of the greatest number carries no waiting levels, so its number is written over M6's
 abbrev pub threadMaxima : Shape → List ℕ
 threadMaxima s = set (threadWords (greatestThread s)) placeWord (placeNumber HandOut)
 
