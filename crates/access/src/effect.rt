@@ -145,7 +145,7 @@ pub fn carry_freeing(f: Frame, b: &mut [u8], effect: Effect)
     requires { ⌜ Within f (length (now b)) ⌝ }
     ensures { λ r. ⌜ now (b .exit) ≡ effectBytes f (now (b .entry)) (ofKind freeing effect) ⌝ }
 {
-    if let Effect::Free(cell) = effect {
-        free_cell(f, b, cell);
+    if let Effect::Free(held) = effect {
+        free_cell(f, b, held);
     }
 }

@@ -46,6 +46,11 @@ module _ {X : Type 0} (P : List ℕ → X → Type 0) (F : Event → X → X →
   kept-after [] later b x g k = (x, g)
   kept-after (m ∷ earlier) later b x g k = kept-after earlier later (m .region) (k .0) (k .2) (k .3)
 
+  -- what is known somewhere on the way
+  pub kept-on : (earlier later : List Moment) (x : X) → Kept x (earlier ++ later) → (x′ : X) × Kept x′ later
+  kept-on [] later x k = (x, k)
+  kept-on (m ∷ earlier) later x k = kept-on earlier later (k .0) (k .3)
+
   -- one moment, and what comes behind it
   then : (x : X) (e : Event) (b : List ℕ) (rest : List Moment) → Next P F x e b → ((x′ : X) → P b x′ → Kept x′ rest)
       → Kept x (record { event = e; region = b } ∷ rest)

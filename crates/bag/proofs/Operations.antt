@@ -68,7 +68,7 @@ none-here true k e = absurd (omega arith)
 none-here false k e = refl
 
 module _ (t : ℕ) where
-  elsewhere : (op : ℕ → Operation) (u : ℕ) (o : Operation) → eqb t u ≡ false → upd op u o t ≡ op t
+  pub elsewhere : (op : ℕ → Operation) (u : ℕ) (o : Operation) → eqb t u ≡ false → upd op u o t ≡ op t
   unfolding pick upd
   elsewhere op u o ne = ap (λ q. pick q o (op t)) ne
 

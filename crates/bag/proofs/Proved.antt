@@ -41,7 +41,7 @@ use Rattle.bag.specs.Told.{callTells, tells}
 use Rattle.bag.specs.TookInOrder.{TookInOrder}
 use Rattle.bag.proofs.Answers.{turn-says, turn-tells}
 use Rattle.bag.proofs.EmptyList.{empty-list-changes-nothing}
-use Rattle.bag.proofs.Histories.{Kept, Next, calls-kept}
+use Rattle.bag.proofs.Histories.{Kept, Next, calls-kept, kept-on}
 use Rattle.bag.proofs.Operations.{Followed, at-most-once, exactly-once}
 use Rattle.bag.proofs.Regions.{Follow, Region, list-follows, put-follows, take-follows, turn-next}
 use Rattle.bag.proofs.Start.{laid-region}
@@ -203,16 +203,10 @@ module _ (s : Shape) where
   answers-say [] b l k = tt
   answers-say (m ∷ ms) b l k = (k .1 .says, answers-say ms (m .region) (k .0) (k .3))
 
-  -- the ledger somewhere on the way
-  kept-on : (before later : List Moment) (l : Ledger) → Kept (QueueRegion s) Moves l (before ++ later)
-      → (l′ : Ledger) × Kept (QueueRegion s) Moves l′ later
-  kept-on [] later l k = (l, k)
-  kept-on (m ∷ before) later l k = kept-on before later (k .0) (k .3)
-
   took-in-order : (ms : List Moment) (l : Ledger) → Kept (QueueRegion s) Moves l ms → TookInOrder ms
   unfolding isIdle frameOf
   took-in-order ms l k t x removed before since later split takes z =
-      let on = kept-on before (x ∷ (since ++ later)) l (subst (Kept (QueueRegion s) Moves l) split k) in
+      let on = kept-on (QueueRegion s) Moves before (x ∷ (since ++ later)) l (subst (Kept (QueueRegion s) Moves l) split k) in
       let now = on .1 in
       let told = tells (x .event) in
       let p = all-paid t (QueueRegion s) Moves (λ e l l′ f. (f .follows, f .says)) since later (x .region) (now .0) (now .2) (now .3) z removed

@@ -29,7 +29,7 @@ use Rattle.bag.specs.Operations.{beginning, begins, count}
 use Rattle.bag.specs.Told.{callTells, tells}
 use Rattle.bag.specs.TookInOrder.{NeverFalls, Removes, handed, handedAt, one-item as one-removed, tookBy, whole-list as list-taken}
 use Rattle.bag.proofs.Histories.{Kept}
-use Rattle.bag.proofs.Operations.{none-here}
+use Rattle.bag.proofs.Operations.{elsewhere, none-here}
 
 -- what an operation owes
 abbrev firstOwed : Item → Operation → Item
@@ -129,10 +129,6 @@ module _ (t : ℕ) where
     split : owed ≡ toldTook t x ++ rest
     now : after ≡ stillOwing rest
 
-  elsewhere : (op : ℕ → Operation) (u : ℕ) (o : Operation) → eqb t u ≡ false → upd op u o t ≡ op t
-  unfolding pick upd
-  elsewhere op u o ne = ap (λ q. pick q o (op t)) ne
-
   -- an operation that owes is none of the others
   not-owing : (owed : List Item) (o : Operation) → 1 ≤ stage o → stage o ≤ 3 → stillOwing owed ≡ o → ⊥
   not-owing [] o l u e = let k = ap stage e in omega arith
@@ -148,7 +144,7 @@ module _ (t : ℕ) where
       where
         go : (q : Bool) → eqb t u ≡ q → Pays x owed (upd op u o′ t)
         go true k = absurd (not-owing owed o least most (sym here ∙ ap op (eqb-true t u k) ∙ e))
-        go false k = untouched (upd op u o′ t) (elsewhere op u o′ k)
+        go false k = untouched (upd op u o′ t) (elsewhere t op u o′ k)
 
   undecided-stage : (o : Operation) → Undecided o → (1 ≤ stage o) × (stage o ≤ 3)
   undecided-stage o one-item = (omega arith, omega arith)
@@ -175,15 +171,15 @@ module _ (t : ℕ) where
       where
         go : (q : Bool) → eqb t u ≡ q → Pays (answersTook u i) owed (upd op u (stillOwing is) t)
         go true k = pays-first owed here (eqb-true t u k) k
-        go false k = untouched (answersTook u i) op owed here (ap (λ p. pick p (i ∷ []) []) k) _ (elsewhere op u (stillOwing is) k)
+        go false k = untouched (answersTook u i) op owed here (ap (λ p. pick p (i ∷ []) []) k) _ (elsewhere t op u (stillOwing is) k)
 
   -- every moment that begins no operation of t's
   pays : (x : Told) (l l′ : Ledger) → Follows x l l′ → beginning t x ≡ false → (owed : List Item) → l .operation t ≡ stillOwing owed
       → Pays x owed (l′ .operation t)
   pays x l l′ still ne owed h = untouched x (l .operation) owed h refl _ refl
-  pays x l l′ (put-begins {t = u} e) ne owed h = untouched x (l .operation) owed h refl _ (elsewhere (l .operation) u _ ne)
-  pays x l l′ (take-begins {t = u} e) ne owed h = untouched x (l .operation) owed h refl _ (elsewhere (l .operation) u _ ne)
-  pays x l l′ (list-begins {t = u} e) ne owed h = untouched x (l .operation) owed h refl _ (elsewhere (l .operation) u _ ne)
+  pays x l l′ (put-begins {t = u} e) ne owed h = untouched x (l .operation) owed h refl _ (elsewhere t (l .operation) u _ ne)
+  pays x l l′ (take-begins {t = u} e) ne owed h = untouched x (l .operation) owed h refl _ (elsewhere t (l .operation) u _ ne)
+  pays x l l′ (list-begins {t = u} e) ne owed h = untouched x (l .operation) owed h refl _ (elsewhere t (l .operation) u _ ne)
   pays x l l′ (put-decides {t = u} {i = i} e) ne owed h = aside x (l .operation) owed h refl u (putting i) none e (omega arith) (omega arith)
   pays x l l′ (take-decides {t = u} {i = i} e _) ne owed h =
       aside x (l .operation) owed h refl u taking (owing i []) e (omega arith) (omega arith)

@@ -219,16 +219,30 @@ module _ (s : Shape) (m : Shared) (own : ℕ → ℕ) {all : ℕ} (g : Mound s m
   unfolding effectShared
   grow-counts i = counted-same s m _ own (g .held) refl refl (λ n. refl) i
 
+-- The first cell c that thread t holds changes, and no other: it begins no node's list, and what lies behind it and what others hold stays.
+module _ (s : Shape) (m : Shared) (own : ℕ → ℕ) {all : ℕ} (g : Mound s m own all) (t c : ℕ) (mine : own t ≡ c) (some : 1 ≤ c) (cell′ : ℕ → Cell)
+    (others : (d : ℕ) → (d ≡ c → ⊥) → cell′ d ≡ m .cell d) where
+  first-held : g .held .owner c ≡ 2 * t + 1
+  first-held = subst (λ y. g .held .owner y ≡ 2 * t + 1) mine (own-owner s m own (g .held) t (omega (arith, mine, some)))
+
+  heads-stay : (y : ℕ) → 1 ≤ y → cell′ (m .node y .first) ≡ m .cell (m .node y .first)
+  heads-stay y p = others (m .node y .first) λ e.
+      let o = first-owner s m own (g .held) y p (omega (arith, e, some)) in
+      omega (arith, o, first-held, ap (g .held .owner) e)
+
+  rest-held : ItemsStay (m .cell) cell′ (m .cell c .next)
+  rest-held =
+      subst (λ y. ItemsStay (m .cell) cell′ (m .cell y .next)) mine
+      (rest-stays s m own (g .held) cell′ t (omega (arith, mine, some)) (λ d ne. others d (λ z. ne (z ∙ sym mine))))
+
+  others-held : (u : ℕ) → (u ≡ t → ⊥) → ItemsStay (m .cell) cell′ (own u)
+  others-held u ne = thread-items-stay s m own (g .held) cell′ c others u (λ e. ne (omega (arith, e, first-held)))
+
 -- Pushing.
 module _ (s : Shape) (m : Shared) (own own′ : ℕ → ℕ) {all : ℕ} (g : Mound s m own all) (t n : ℕ) (v : Node) (c x : ℕ) (lt : 1 ≤ t) (ut : t ≤ s .threads)
     (a : PushAllowed m own t n v c x) (left : own′ t ≡ m .cell c .next) (still : (u : ℕ) → (u ≡ t → ⊥) → own′ u ≡ own u) where
   abbrev pushed : Shared
   pushed = effectShared m (Push n v c x)
-
-  -- the pushed cell is the thread's, so no other chain has it
-  push-owner : g .held .owner c ≡ 2 * t + 1
-  push-owner =
-      subst (λ y. g .held .owner y ≡ 2 * t + 1) (a .mine) (own-owner s m own (g .held) t (omega (arith, a .mine, a .cell)))
 
   push-cells : (d : ℕ) → (d ≡ c → ⊥) → pushed .cell d ≡ m .cell d
   unfolding effectShared
@@ -236,12 +250,8 @@ module _ (s : Shape) (m : Shared) (own own′ : ℕ → ℕ) {all : ℕ} (g : Mo
 
   push-others : (y : ℕ) → 1 ≤ y → (y ≡ n → ⊥) → readNode pushed y ≡ readNode m y
   unfolding effectShared
-  push-others y p ne = read-same m pushed y (upd-other (m .node) n y v ne) (push-cells (m .node y .first) apart)
-    where
-      apart : m .node y .first ≡ c → ⊥
-      apart e =
-          let o = first-owner s m own (g .held) y p (omega (arith, e, a .cell)) in
-          omega (arith, o, push-owner, ap (g .held .owner) e)
+  push-others y p ne =
+      read-same m pushed y (upd-other (m .node) n y v ne) (heads-stay s m own g t c (a .mine) (a .cell) (pushed .cell) push-cells y p)
 
   push-node : pushed .node n ≡ v
   unfolding effectShared
@@ -303,17 +313,14 @@ module _ (s : Shape) (m : Shared) (own own′ : ℕ → ℕ) {all : ℕ} (g : Mo
 
   -- what the thread still holds
   pub push-rest : ItemsStay (m .cell) (pushed .cell) (m .cell c .next)
-  push-rest =
-      subst (λ y. ItemsStay (m .cell) (pushed .cell) (m .cell y .next)) (a .mine)
-      (rest-stays s m own (g .held) (pushed .cell) t (omega (arith, a .mine, a .cell))
-      (λ d ne. push-cells d (λ z. ne (z ∙ sym (a .mine)))))
+  push-rest = rest-held s m own g t c (a .mine) (a .cell) (pushed .cell) push-cells
 
   pub push-keeps : Keeps s m pushed own own′ all t
   push-keeps =
       record {
         mound = push-mound;
         rely = push-relies;
-        kept = λ u ne. thread-items-stay s m own (g .held) (pushed .cell) c push-cells u (λ e. ne (omega (arith, e, push-owner)));
+        kept = others-held s m own g t c (a .mine) (a .cell) (pushed .cell) push-cells;
       }
 
 -- Every node reads as before.
@@ -591,23 +598,13 @@ module _ (s : Shape) (m : Shared) (own own′ : ℕ → ℕ) {all : ℕ} (g : Mo
   abbrev freed-one : Shared
   freed-one = effectShared m (Free c)
 
-  -- the cell is the thread's, so no other chain has it
-  free-cell-owner : g .held .owner c ≡ 2 * t + 1
-  free-cell-owner =
-      subst (λ y. g .held .owner y ≡ 2 * t + 1) (a .mine) (own-owner s m own (g .held) t (omega (arith, a .mine, a .cell)))
-
   free-cells : (d : ℕ) → (d ≡ c → ⊥) → freed-one .cell d ≡ m .cell d
   unfolding effectShared
   free-cells d ne = upd-other (m .cell) c d _ ne
 
   free-others : (y : ℕ) → 1 ≤ y → readNode freed-one y ≡ readNode m y
   unfolding effectShared
-  free-others y p = read-same m freed-one y refl (free-cells (m .node y .first) apart)
-    where
-      apart : m .node y .first ≡ c → ⊥
-      apart e =
-          let o = first-owner s m own (g .held) y p (omega (arith, e, a .cell)) in
-          omega (arith, o, free-cell-owner, ap (g .held .owner) e)
+  free-others y p = read-same m freed-one y refl (heads-stay s m own g t c (a .mine) (a .cell) (freed-one .cell) free-cells y p)
 
   free-holds : Held s freed-one own′ all × ((i : Item) → counted s freed-one i ≡ counted s m i)
   unfolding effectShared
@@ -620,10 +617,7 @@ module _ (s : Shape) (m : Shared) (own own′ : ℕ → ℕ) {all : ℕ} (g : Mo
 
   -- what the thread still holds
   pub free-rest : ItemsStay (m .cell) (freed-one .cell) (m .cell c .next)
-  free-rest =
-      subst (λ y. ItemsStay (m .cell) (freed-one .cell) (m .cell y .next)) (a .mine)
-      (rest-stays s m own (g .held) (freed-one .cell) t (omega (arith, a .mine, a .cell))
-      (λ d ne. free-cells d (λ z. ne (z ∙ sym (a .mine)))))
+  free-rest = rest-held s m own g t c (a .mine) (a .cell) (freed-one .cell) free-cells
 
   free-mound : Mound s freed-one own′ all
   unfolding effectShared
@@ -635,5 +629,5 @@ module _ (s : Shape) (m : Shared) (own own′ : ℕ → ℕ) {all : ℕ} (g : Mo
       record {
         mound = free-mound;
         rely = rely-same m freed-one (omega arith) free-others;
-        kept = λ u ne. thread-items-stay s m own (g .held) (freed-one .cell) c free-cells u (λ e. ne (omega (arith, e, free-cell-owner)));
+        kept = others-held s m own g t c (a .mine) (a .cell) (freed-one .cell) free-cells;
       }
