@@ -3,7 +3,7 @@ use Prim.Native.Nat.{ℕ}
 use mathlib.Core.Bool.{Bool, true, false}
 use Rattle.region.specs.Thread.{atPlace}
 use Rattle.region.specs.declared.answer.Answer.{Answer}
-use Rattle.region.specs.declared.answer.Answer.the-variants.{Moved, Idle, Inserted, Took, Empty, Refused}
+use Rattle.region.specs.declared.answer.Answer.the-variants.{Moved, Idle, Inserted, Took, Empty, Refused, Withdrawn}
 use Rattle.region.specs.declared.place.Place.{Place}
 use Rattle.region.specs.declared.thread.Thread.{Thread}
 use Rattle.access.specs.declared.effect.Effect.{Effect}
@@ -36,12 +36,15 @@ changesNothing Inserted = false
 changesNothing (Took i) = false
 changesNothing Empty = false
 changesNothing (Refused n) = true
+changesNothing Withdrawn = false
 
--- the answers of an operation, "inserted, took or empty": it ends with the first, a list with the last
-abbrev pub ends : Answer → Bool
-ends Moved = false
-ends Idle = false
-ends Inserted = true
-ends (Took i) = true
-ends Empty = true
-ends (Refused n) = false
+-- the answers of an operation, "inserted, took or empty". It ends with the first, a list with the last. Withdrawn (request 5) ends an
+-- operation too, and is no answer of it.
+abbrev pub answersOperation : Answer → Bool
+answersOperation Moved = false
+answersOperation Idle = false
+answersOperation Inserted = true
+answersOperation (Took i) = true
+answersOperation Empty = true
+answersOperation (Refused n) = false
+answersOperation Withdrawn = false

@@ -12,7 +12,8 @@ use Rattle.region.specs.Thread.{isIdle}
 use Rattle.region.specs.declared.frame.Frame.{Frame}
 use Rattle.region.specs.declared.record.Item.{Item}
 use Rattle.readable.specs.Readable.{readable, frameIn, shapeIn}
-use Rattle.begin.specs.Begin.{isItem, mayPut, putRefusal}
+use Rattle.permission.specs.Grants.{mayPut}
+use Rattle.begin.specs.Begin.{isItem, putRefusal}
 use Rattle.mound.specs.Account.{anyItem, inHands, putsAmong}
 use Rattle.mound.specs.Tree.{inList, inNodes}
 

@@ -1,5 +1,6 @@
 -- The calls on a region, with their arguments as given (document 01, The bag: "any list of calls on it .. put, take, run, check
--- and refused layouts, with whatever arguments, refused or not"; and request 1's list). That they are the exported functions is Exported.antt.
+-- and refused layouts, with whatever arguments, refused or not"; request 1's list and request 5's permit). That they are the exported functions
+-- is Exported.antt.
 use Prim.Native.Nat.{ℕ}
 use mathlib.Core.Path.{_≡_}
 use mathlib.Core.List.{List, [], _∷_}
@@ -11,6 +12,7 @@ use Rattle.region.specs.declared.shape.Shape.{Shape}
 use Rattle.layout.specs.Layout.{layoutRefusal, layoutBytes}
 use Rattle.readable.specs.Readable.{checkAnswer}
 use Rattle.begin.specs.Begin.{putBytes, putRefusal, takeBytes, takeRefusal}
+use Rattle.permission.specs.Permit.{permitBytes, permitRefusal}
 use Rattle.run.specs.Run.{runRefusal, runResult}
 
 pub data Call : Type 0 where
@@ -18,6 +20,7 @@ pub data Call : Type 0 where
   put : ℕ → Item → Call
   take : ℕ → Call
   list : ℕ → Call
+  permit : ℕ → ℕ → Call
   run : List ℕ → ℕ → List ℕ → Call
   check : Call
 
@@ -27,6 +30,7 @@ refusalOf b (layout s permissions) = layoutRefusal s permissions (length b)
 refusalOf b (put t i) = putRefusal b t i
 refusalOf b (take t) = takeRefusal b t
 refusalOf b (list t) = takeRefusal b t
+refusalOf b (permit t p) = permitRefusal b t p
 refusalOf b (run schedule limit answers) = runRefusal b schedule (length answers)
 refusalOf b check = checkAnswer b
 
@@ -36,6 +40,7 @@ after b (layout s permissions) = layoutBytes s permissions b
 after b (put t i) = putBytes b t i
 after b (take t) = takeBytes b t ReadRoot
 after b (list t) = takeBytes b t ListReadRoot
+after b (permit t p) = permitBytes b t p
 after b (run schedule limit answers) = runResult b schedule limit answers .region
 after b check = b
 
@@ -46,5 +51,6 @@ NoAcceptedLayout l (layout s permissions ∷ cs) = (layoutRefusal s permissions 
 NoAcceptedLayout l (put t i ∷ cs) = NoAcceptedLayout l cs
 NoAcceptedLayout l (take t ∷ cs) = NoAcceptedLayout l cs
 NoAcceptedLayout l (list t ∷ cs) = NoAcceptedLayout l cs
+NoAcceptedLayout l (permit t p ∷ cs) = NoAcceptedLayout l cs
 NoAcceptedLayout l (run schedule limit answers ∷ cs) = NoAcceptedLayout l cs
 NoAcceptedLayout l (check ∷ cs) = NoAcceptedLayout l cs

@@ -1,25 +1,22 @@
 -- Demand 3, whole: `RegionIsABag`, proved by the one term `region-is-a-bag` of proofs/Proved.antt.
-use Prim.Native.Nat.{ℕ, _-_, _≤_}
+use Prim.Native.Nat.{ℕ}
 use mathlib.Core.Path.{_≡_}
-use mathlib.Core.Bool.{Bool, true, false}
 use mathlib.Core.List.{List, [], _∷_}
-use lib.Dec.{eqb}
-use lib.ListN.{getD}
 use Rattle.region.specs.Shape.{nodeCount}
 use Rattle.region.specs.Shared.{sharedIn}
 use Rattle.region.specs.declared.answer.Answer.{Answer}
-use Rattle.region.specs.declared.answer.Answer.the-variants.{Moved, Idle, Inserted, Took, Empty, Refused}
+use Rattle.region.specs.declared.answer.Answer.the-variants.{Moved, Idle, Inserted, Took, Empty, Refused, Withdrawn}
 use Rattle.region.specs.declared.frame.Frame.{Frame}
 use Rattle.region.specs.declared.record.Item.{Item}
 use Rattle.region.specs.declared.shape.Shape.{Shape}
 use Rattle.readable.specs.Readable.{frameIn}
 use Rattle.mound.specs.Ledger.{Ledger, Follows, emptyLedger}
-use Rattle.mound.specs.Told.{Told, nothing, decidesPut, decidesTake, decidesList, decidesEmpty, answersTook}
+use Rattle.mound.specs.Told.{Told, nothing, decidesPut, decidesTake, decidesList, decidesEmpty, answersTook, withdraws}
 use Rattle.mound.specs.Tree.{inNodes, sameItem}
-use Rattle.bag.specs.Calls.{layout, put, take, list, run, check}
 use Rattle.bag.specs.History.{Event, called, turned, Moment}
 use Rattle.bag.specs.Moments.{InEveryHistory, EachMoment}
-use Rattle.bag.specs.Operations.{AnsweredDecidesOnce, DecidesAtMostOnce}
+use Rattle.bag.specs.Operations.{AnsweredDecidesOnce, DecidesAtMostOnce, WithdrawnNeverDecides}
+use Rattle.bag.specs.Permission.{Granted, StaysBarred, WithdrawnLeaves}
 use Rattle.bag.specs.Told.{tells}
 use Rattle.bag.specs.TookInOrder.{TookInOrder}
 
@@ -48,20 +45,11 @@ pub data Says (t : ℕ) : Answer → Told → Type 0 where
   took : {i : Item} → Says t (Took i) (answersTook t i)
   empty : Says t Empty (decidesEmpty t)
   refused : {n : ℕ} → Says t (Refused n) nothing
+  withdrawn : Says t Withdrawn (withdraws t)
 
 abbrev pub AnswerSays : Event → Type 0
 AnswerSays (called c r) = Unit
 AnswerSays (turned x) = Says (x .thread) (x .answer) (tells (turned x))
-
--- a call or turn of thread t
-abbrev pub makes : ℕ → Event → Bool
-makes t (called (layout s permissions) r) = false
-makes t (called (put u i) r) = eqb t u
-makes t (called (take u) r) = eqb t u
-makes t (called (list u) r) = eqb t u
-makes t (called (run schedule limit answers) r) = false
-makes t (called check r) = false
-makes t (turned x) = eqb t (x .thread)
 
 -- of a region b that was laid out with this shape and permission list, and its history
 pub record Demand3 (s : Shape) (permissions b : List ℕ) (ms : List Moment) : Type 0 where
@@ -74,9 +62,14 @@ pub record Demand3 (s : Shape) (permissions b : List ℕ) (ms : List Moment) : T
   pub took-in-order : TookInOrder ms
   -- a turn's answer says what it told
   pub answers-say : EachMoment (λ before m. AnswerSays (m .event)) b ms
-  -- "no call or turn of a thread with an empty permission list changes it"
-  pub empty-list : (t : ℕ) → 1 ≤ t → t ≤ s .threads → getD permissions (t - 1) 0 ≡ 0
-      → EachMoment (λ before m. makes t (m .event) ≡ true → m .region ≡ before) b ms
+  -- "a permission must still be there when the operation takes effect" (request 5)
+  pub permitted : EachMoment (λ before m. Granted before (tells (m .event))) b ms
+  -- "A withdrawn operation has no deciding access"; its put's cell is free again (request 5)
+  pub withdrawn-never : WithdrawnNeverDecides ms
+  pub withdrawn-leaves : EachMoment WithdrawnLeaves b ms
+  -- "while a thread is idle with an empty list, no put, take, list or turn of it changes the region" (request 5, in place of demand 3's last
+  -- sentence)
+  pub empty-list : EachMoment StaysBarred b ms
 
 -- "For every list of calls on a laid-out region .. whatever the order of turns and the leaf choices"
 abbrev pub RegionIsABag : Type 0

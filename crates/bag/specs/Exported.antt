@@ -10,9 +10,10 @@ use Rattle.region.specs.declared.shape.Shape.{Shape}
 use Rattle.layout.specs.Layout.{LaidOut}
 use Rattle.readable.specs.Readable.{checkAnswer}
 use Rattle.begin.specs.Begin.{PutBegun, TakeBegun}
+use Rattle.permission.specs.Permit.{PermitSet}
 use Rattle.run.specs.Run.{runResult}
 use Rattle.queue.specs.Calls.{RunDone}
-use Rattle.bag.specs.Calls.{Call, layout, put, take, list, run, check, refusalOf, after}
+use Rattle.bag.specs.Calls.{Call, layout, put, take, list, permit, run, check, refusalOf, after}
 use Rattle.bag.specs.History.{servedMoments}
 
 -- a call on the region b that answered r and left b′
@@ -20,12 +21,14 @@ pub record Made (b : List ℕ) (c : Call) (b′ : List ℕ) (r : ℕ) : Type 0 w
   pub answer : r ≡ refusalOf b c
   pub region : b′ ≡ after b c
 
--- `mound_layout`, `mound_put`, `mound_take`, `mound_list`, `mound_run` and `mound_check`, by their contracts in crates/queue/src/lib.rt
+-- `mound_layout`, `mound_put`, `mound_take`, `mound_list`, `mound_permit`, `mound_run` and `mound_check`, by their contracts in
+-- crates/queue/src/lib.rt
 pub record CallsAreExported : Type 0 where
   pub layout-made : (s : Shape) (permissions b b′ : List ℕ) (r : ℕ) → LaidOut s permissions b b′ r → Made b (layout s permissions) b′ r
   pub put-made : (b b′ : List ℕ) (t : ℕ) (i : Item) (r : ℕ) → PutBegun b b′ t i r → Made b (put t i) b′ r
   pub take-made : (b b′ : List ℕ) (t r : ℕ) → TakeBegun b b′ t ReadRoot r → Made b (take t) b′ r
   pub list-made : (b b′ : List ℕ) (t r : ℕ) → TakeBegun b b′ t ListReadRoot r → Made b (list t) b′ r
+  pub permit-made : (b b′ : List ℕ) (t p r : ℕ) → PermitSet b b′ t p r → Made b (permit t p) b′ r
   -- bits 0 to 15 of a run's answer are its refusal
   pub run-made : (b b′ schedule : List ℕ) (limit : ℕ) (a a′ : List ℕ) (r : ℕ) → RunDone b b′ schedule limit a a′ r
       → Made b (run schedule limit a) b′ (r % 65536)

@@ -15,7 +15,7 @@ use Rattle.readable.specs.Readable.{frameIn}
 use Rattle.run.specs.Run.{Served, Turn, runRefusal, serve, soFar, turnsFrom}
 use Rattle.machine.specs.Turn.{turnAnswer, turnBytes}
 use Rattle.mound.specs.Tree.{itemsOf, listFrom}
-use Rattle.bag.specs.Calls.{Call, layout, put, take, list, run, check, refusalOf, after}
+use Rattle.bag.specs.Calls.{Call, layout, put, take, list, permit, run, check, refusalOf, after}
 
 -- a served turn: its thread, the place where that stood and where it stands afterwards, the answer, and the item of the root's head cell and
 -- the items of the root's list just before
@@ -74,6 +74,7 @@ servedMoments b (layout s permissions) = []
 servedMoments b (put t i) = []
 servedMoments b (take t) = []
 servedMoments b (list t) = []
+servedMoments b (permit t p) = []
 servedMoments b (run schedule limit answers) =
     pick
     (eqb (runRefusal b schedule (length answers)) done)

@@ -7,6 +7,7 @@ pub mod Exported
 pub mod History
 pub mod Moments
 pub mod Operations
+pub mod Permission
 pub mod TakeCost
 pub mod Theorems
 pub mod Told

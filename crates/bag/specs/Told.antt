@@ -5,11 +5,11 @@ use Rattle.region.specs.Answer.{done}
 use Rattle.region.specs.Pick.{pick}
 use Rattle.region.specs.Place.{placeNumber}
 use Rattle.region.specs.declared.answer.Answer.{Answer}
-use Rattle.region.specs.declared.answer.Answer.the-variants.{Moved, Idle, Inserted, Took, Empty, Refused}
+use Rattle.region.specs.declared.answer.Answer.the-variants.{Moved, Idle, Inserted, Took, Empty, Refused, Withdrawn}
 use Rattle.region.specs.declared.place.Place.{Place}
 use Rattle.region.specs.declared.place.Place.the-variants.{InsertAtRoot, InsertBelow, ReadRoot, RemoveHead, MendReadNode, ListReadRoot, RemoveList}
-use Rattle.mound.specs.Told.{Told, nothing, beginsPut, beginsTake, beginsList, decidesPut, decidesTake, decidesList, decidesEmpty, answersTook}
-use Rattle.bag.specs.Calls.{Call, layout, put, take, list, run, check}
+use Rattle.mound.specs.Told.{Told, nothing, beginsPut, beginsTake, beginsList, decidesPut, decidesTake, decidesList, decidesEmpty, answersTook, withdraws}
+use Rattle.bag.specs.Calls.{Call, layout, put, take, list, permit, run, check}
 use Rattle.bag.specs.History.{Event, called, turned, ServedTurn}
 
 -- "An operation begins with a put or take call that is not refused.", or with a list
@@ -18,6 +18,7 @@ callTells (layout s permissions) = nothing
 callTells (put t i) = beginsPut t i
 callTells (take t) = beginsTake t
 callTells (list t) = beginsList t
+callTells (permit t p) = nothing
 callTells (run schedule limit answers) = nothing
 callTells check = nothing
 
@@ -43,6 +44,7 @@ answerTells x Inserted =
 answerTells x (Took i) = answersTook (x .thread) i
 answerTells x Empty = pick (stands (x .from) ReadRoot || stands (x .from) ListReadRoot) (decidesEmpty (x .thread)) nothing
 answerTells x (Refused n) = nothing
+answerTells x Withdrawn = withdraws (x .thread)
 
 abbrev pub tells : Event → Told
 tells (called c r) = pick (eqb r done) (callTells c) nothing

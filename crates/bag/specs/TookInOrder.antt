@@ -9,7 +9,7 @@ use Rattle.region.specs.Pick.{pick}
 use Rattle.region.specs.Shared.{threadIn}
 use Rattle.region.specs.Thread.{isIdle}
 use Rattle.region.specs.declared.answer.Answer.{Answer}
-use Rattle.region.specs.declared.answer.Answer.the-variants.{Moved, Idle, Inserted, Took, Empty, Refused}
+use Rattle.region.specs.declared.answer.Answer.the-variants.{Moved, Idle, Inserted, Took, Empty, Refused, Withdrawn}
 use Rattle.region.specs.declared.record.Item.{Item}
 use Rattle.access.specs.Order.{itemLe}
 use Rattle.readable.specs.Readable.{frameIn}
@@ -27,6 +27,7 @@ handed Inserted = []
 handed (Took i) = i ∷ []
 handed Empty = []
 handed (Refused n) = []
+handed Withdrawn = []
 
 abbrev pub handedAt : ℕ → Event → List Item
 handedAt t (called c r) = []

@@ -1,11 +1,9 @@
--- What the tests of the beginnings tell: a thread that may put or take has a permission, and an idle one stands at no place. On a
--- readable region each beginning is the one under its frame. Assumes nothing.
-use Prim.Native.Nat.{ℕ, _/_, _%_, _≤_}
-use native.Mathlib.Omega.{arith}
+-- A thread that passes the test of idleness stands at no place. On a readable region each beginning is the one under its frame. Assumes
+-- nothing.
+use Prim.Native.Nat.{ℕ}
 use mathlib.Core.Path.{_≡_, refl, sym, ap}
 use mathlib.Core.Bool.{true, true≢false}
 use mathlib.Core.List.{List}
-use borrow.Author.Tests.{eqb-true}
 use lib.Dec.{eqb}
 use Rattle.region.specs.Answer.{done}
 use Rattle.region.specs.Pick.{pick}
@@ -16,16 +14,7 @@ use Rattle.region.specs.declared.place.Place.the-variants.{Idle, ReadDepth, Rea
 use Rattle.region.specs.declared.record.Item.{Item}
 use Rattle.region.specs.declared.thread.Thread.{Thread}
 use Rattle.readable.specs.Readable.{frameIn, readable}
-use Rattle.begin.specs.Begin.{acceptedPut, acceptedTake, mayPut, mayTake, putBytes, putBytesIn, putRefusal, putRefusalIn, takeBytes, takeBytesIn, takeRefusal, takeRefusalIn}
-
--- "0 is the empty list and grants nothing"
-pub may-put : (t : Thread) → mayPut t ≡ true → 1 ≤ t .permission
-unfolding mayPut
-may-put t e = let z = eqb-true (t .permission % 2) 1 e in omega arith
-
-pub may-take : (t : Thread) → mayTake t ≡ true → 1 ≤ t .permission
-unfolding mayTake
-may-take t e = let z = eqb-true (t .permission / 2 % 2) 1 e in omega arith
+use Rattle.begin.specs.Begin.{acceptedPut, acceptedTake, putBytes, putBytesIn, putRefusal, putRefusalIn, takeBytes, takeBytesIn, takeRefusal, takeRefusalIn}
 
 idle-place : (x : Place) → eqb (placeNumber x) 0 ≡ true → x ≡ Idle
 idle-place Idle e = refl

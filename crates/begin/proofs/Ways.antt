@@ -22,8 +22,9 @@ use Rattle.region.specs.declared.record.Item.{Item}
 use Rattle.region.specs.declared.thread.Thread.{Thread}
 use Rattle.region.proofs.Views.{length-setCellIn}
 use Rattle.readable.specs.Readable.{frameIn, readable}
+use Rattle.permission.specs.Grants.{mayPut, mayTake}
 use Rattle.readable.proofs.Laws.{readable-within}
-use Rattle.begin.specs.Begin.{PutBegun, PutBegunIn, TakeBegun, TakeBegunIn, isItem, mayPut, mayTake, acceptedPut, hasFreeCell, putBytes, putBytesIn, putRefusal, putRefusalIn, takeBytes, takeBytesIn, takeRefusal, takeRefusalIn}
+use Rattle.begin.specs.Begin.{PutBegun, PutBegunIn, TakeBegun, TakeBegunIn, isItem, acceptedPut, hasFreeCell, putBytes, putBytesIn, putRefusal, putRefusalIn, takeBytes, takeBytesIn, takeRefusal, takeRefusalIn}
 
 -- What a beginning asks of a thread and an item.
 module _ (i : Item) where

@@ -1,6 +1,6 @@
 -- Beginning a put, a take of one item and a take of the root's list (document 01, The sixteen places and the refusals; document 02, request 1),
 -- under a frame and on a whole region that holds one queue.
-use Prim.Native.Nat.{ℕ, _/_, _%_}
+use Prim.Native.Nat.{ℕ}
 use mathlib.Core.Path.{_≡_}
 use mathlib.Core.Bool.{Bool, not, _&&_}
 use mathlib.Core.List.{List}
@@ -17,15 +17,8 @@ use Rattle.region.specs.declared.frame.Frame.{Frame}
 use Rattle.region.specs.declared.place.Place.{Place}
 use Rattle.region.specs.declared.place.Place.the-variants.{ReadRoot, ListReadRoot}
 use Rattle.region.specs.declared.record.Item.{Item}
-use Rattle.region.specs.declared.thread.Thread.{Thread}
 use Rattle.readable.specs.Readable.{frameIn, readable}
-
--- "bit 0 put, bit 1 take; 0 is the empty list and grants nothing"
-unfoldable pub mayPut : Thread → Bool
-mayPut t = eqb (t .permission % 2) 1
-
-unfoldable pub mayTake : Thread → Bool
-mayTake t = eqb (t .permission / 2 % 2) 1
+use Rattle.permission.specs.Grants.{mayPut, mayTake}
 
 -- "Keys are 0 to 4,294,967,294.", "Tags are 0 to 65,535."
 unfoldable pub isItem : Item → Bool

@@ -6,7 +6,7 @@ ghost use Rattle.region.specs.Answer.{done, threadBusy, noFreeCell, _unless_oth
 ghost use Rattle.region.specs.Inner.{Within};
 ghost use Rattle.region.specs.Thread.{isIdle};
 ghost use Rattle.region.specs.declared.place.Place.the-variants.{ReadRoot, ListReadRoot};
-ghost use Rattle.begin.specs.Begin.{PutBegun, PutBegunIn, TakeBegun, TakeBegunIn, isItem, mayPut, mayTake, acceptedPut, hasFreeCell, putRefusalIn, takeRefusalIn};
+ghost use Rattle.begin.specs.Begin.{PutBegun, PutBegunIn, TakeBegun, TakeBegunIn, isItem, acceptedPut, hasFreeCell, putRefusalIn, takeRefusalIn};
 use region::BAD_ITEM;
 use region::BAD_THREAD;
 use region::Cell;
@@ -19,18 +19,6 @@ use region::Place;
 use region::THREAD_BUSY;
 use region::Thread;
 use region::UNREADABLE;
-
-fn may_put(t: Thread) -> bool
-    ensures { λ r. ⌜ r ≡ mayPut t ⌝ }
-{
-    t.permission % 2 == 1
-}
-
-fn may_take(t: Thread) -> bool
-    ensures { λ r. ⌜ r ≡ mayTake t ⌝ }
-{
-    t.permission / 2 % 2 == 1
-}
 
 fn is_item(i: Item) -> bool
     ensures { λ r. ⌜ r ≡ isItem i ⌝ }
@@ -68,7 +56,7 @@ fn put_refusal(f: Frame, b: &[u8], thread: u32, item: Item) -> u32
         return BAD_ITEM;
     }
     let t = f.load_thread(b, thread);
-    if !may_put(t) {
+    if !permission::may_put(t) {
         return NOT_PERMITTED;
     }
     put_busy(f, b, t)
@@ -120,7 +108,7 @@ fn take_refusal(f: Frame, b: &[u8], thread: u32) -> u32
         return BAD_THREAD;
     }
     let t = f.load_thread(b, thread);
-    if !may_take(t) {
+    if !permission::may_take(t) {
         return NOT_PERMITTED;
     }
     if !t.is_idle() {

@@ -9,7 +9,7 @@ use Rattle.region.specs.Pick.{pick}
 use Rattle.region.specs.Shared.{Shared}
 use Rattle.region.specs.Thread.{atPlace, goneIdle, isIdle, withDepth}
 use Rattle.region.specs.declared.answer.Answer.{Answer}
-use Rattle.region.specs.declared.answer.Answer.the-variants.{Moved, Took}
+use Rattle.region.specs.declared.answer.Answer.the-variants.{Moved, Took, Withdrawn}
 use Rattle.region.specs.declared.frame.Frame.{Frame}
 use Rattle.region.specs.declared.place.Place.{Place}
 use Rattle.region.specs.declared.place.Place.the-variants.{Idle, ReadDepth, ReadLeaf, ReadAncestor, GrowDepth, ReadTarget, InsertAtRoot, ReadParent, InsertBelow, ReadRoot, RemoveHead, MendReadNode, MendReadDepth, MendReadLeft, MendReadRight, MendSwap, MendClean, ListReadRoot, RemoveList, HandOut}
@@ -20,7 +20,7 @@ use Rattle.region.specs.declared.shape.Shape.{Shape}
 use Rattle.region.specs.declared.thread.Thread.{Thread}
 use Rattle.access.specs.Effect.{effectBytes}
 use Rattle.access.specs.Inner.{cleaning, detaching, exchanging, freeing, growing, kindOf, ofKind, popping, pushing, reading}
-use Rattle.access.specs.Plan.{plan, moved, onTo, refused, ends, changesNothing}
+use Rattle.access.specs.Plan.{plan, moved, onTo, refused, answersOperation, changesNothing}
 use Rattle.access.specs.Read.{readNode}
 use Rattle.access.specs.declared.effect.Effect.{Effect}
 use Rattle.access.specs.declared.effect.Effect.the-variants.{Nothing, Grow, Push, Pop, Exchange, Clean, Detach, Free}
@@ -29,6 +29,7 @@ use Rattle.insert.specs.Insert.{afterAncestorRead, growDepth, insertAt, insertA
 use Rattle.extract.specs.Extract.{afterListRemoval, afterRemoval, afterRootRead, casRoot, handOut, handedOut, listReadRoot, readRoot, removeHead, removeList}
 use Rattle.moundify.specs.Moundify.{afterChildrenRead, cleanAt, afterDepthRead, exchangeAt, exchangeWith, mendClean, mendSwap, mendReadDepth, mendReadLeft, mendReadNode, mendReadRight, returning, returned, returnAnswer}
 use Rattle.turns.specs.Inner.{goesIdle, idleByAnswer, idleByPlace, recordBytes}
+use Rattle.permission.specs.Withdraw.{withdrawal}
 use Rattle.machine.specs.Turn.{carriedOut, decideAt}
 
 -- the kind of effects that a place has
@@ -95,7 +96,7 @@ module _ {k : ℕ} {t : Thread} where
   unfolding effectBytes recordBytes carriedOut pick
   stops g = let h : OfKind k Nothing = none in record { carried = λ f b n. rw (h .same, g) refl }
 
-rests : {k : ℕ} {e : Effect} (t : Thread) {a : Answer} → OfKind k e → changesNothing a ≡ false → ends a ≡ true
+rests : {k : ℕ} {e : Effect} (t : Thread) {a : Answer} → OfKind k e → changesNothing a ≡ false → answersOperation a ≡ true
     → Fits idleByAnswer k (record { effect = e; thread = goneIdle t; answer = a })
 unfolding recordBytes carriedOut goneIdle pick
 rests t h g e = record { carried = λ f b n. rw (h .same, g, e) refl }
@@ -106,6 +107,11 @@ hands : {k : ℕ} {e : Effect} {i : Item} (t u : Thread) (q : Bool) → OfKind k
 unfolding recordBytes carriedOut goneIdle isIdle atPlace pick
 hands t u true h = record { carried = λ f b n. rw (h .same) refl }
 hands t u false h = record { carried = λ f b n. rw (h .same) refl }
+
+-- a withdrawn operation goes idle
+leaves : {k : ℕ} {e : Effect} (t : Thread) → OfKind k e → Fits idleByPlace k (record { effect = e; thread = goneIdle t; answer = Withdrawn })
+unfolding recordBytes carriedOut goneIdle isIdle pick
+leaves t h = record { carried = λ f b n. rw (h .same) refl }
 
 or : {idle : Plan → Bool} {k : ℕ} (q : Bool) {a b : Plan} → Fits idle k a → Fits idle k b → Fits idle k (pick q a b)
 unfolding pick
@@ -160,3 +166,8 @@ plan-fits s m t c (MendClean w) = or _ (stops refl) (or _ (or _ (stops refl) (ba
 plan-fits s m t c ListReadRoot = root-read t (readNode m 1) 2 RemoveList
 plan-fits s m t c RemoveList = root-cas m t ListReadRoot (on (itself (Detach _)))
 plan-fits s m t c HandOut = or _ (stops refl) (hands t _ _ (itself (Free _)))
+
+-- And the plan of a withdrawn turn.
+pub withdrawal-fits : (t : Thread) → Fits idleByPlace freeing (withdrawal t)
+unfolding withdrawal plan refused
+withdrawal-fits t = or _ (or _ (stops refl) (leaves t (itself (Free _)))) (leaves t none)

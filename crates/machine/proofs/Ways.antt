@@ -11,21 +11,54 @@ use Rattle.region.specs.Inner.{Within}
 use Rattle.region.specs.Pick.{pick}
 use Rattle.region.specs.Place.{placeNumber}
 use Rattle.region.specs.Shape.{between}
-use Rattle.region.specs.Shared.{loadEntry, sharedIn, threadIn}
+use Rattle.region.specs.Shared.{Shared, loadEntry, sharedIn, threadIn}
 use Rattle.region.specs.Thread.{idleThread}
 use Rattle.region.specs.declared.answer.Answer.{Answer}
-use Rattle.region.specs.declared.answer.Answer.the-variants.{Idle, Refused}
+use Rattle.region.specs.declared.answer.Answer.the-variants.{Moved, Idle, Inserted, Took, Empty, Refused, Withdrawn}
 use Rattle.region.specs.declared.frame.Frame.{Frame}
 use Rattle.region.specs.declared.place.Place.{Place}
 use Rattle.region.specs.declared.place.Place.the-variants.{Idle as AtRest}
+use Rattle.region.specs.declared.shape.Shape.{Shape}
 use Rattle.region.specs.declared.thread.Thread.{Thread}
-use Rattle.access.specs.Plan.{plan, refused}
+use Rattle.access.specs.Effect.{effectBytes}
+use Rattle.access.specs.Inner.{freeing, ofKind}
+use Rattle.access.specs.Plan.{changesNothing, plan, refused}
 use Rattle.access.specs.declared.plan.Plan.{Plan}
 use Rattle.readable.specs.Readable.{frameIn, readable}
 use Rattle.readable.proofs.Laws.{readable-within}
-use Rattle.turns.specs.Inner.{Ended}
+use Rattle.permission.specs.Withdraw.{isUnreadable, lacksPermission, permitted, withdrawal}
+use Rattle.turns.specs.Inner.{Ended, goesIdle, recordBytes}
+use Rattle.machine.specs.Inner.{Lacked, lackingOn, lackingPlan}
 use Rattle.machine.specs.Turn.{Turned, TurnedOn, carriedOut, decide, decideAt, turnAnswer, turnBytes, turnOnAnswer, turnOnBytes, turnPlan}
-use Rattle.machine.proofs.PlaceEffects.{kindAt, plan-fits}
+use Rattle.machine.proofs.PlaceEffects.{kindAt, plan-fits, withdrawal-fits}
+
+-- the plan of the place where the thread stands
+pub planned-at : (s : Shape) (m : Shared) (t : Thread) (c : ℕ) (z : Place) → t .place ≡ z → (r : Plan) → r ≡ decideAt s m t c z
+    → r ≡ decideAt s m t c (t .place)
+planned-at s m t c z ez r e = e ∙ ap (decideAt s m t c) (sym ez)
+
+-- What the place decides is the plan where the permission does not lack.
+module _ (t : Thread) (p : Plan) where
+  granted : lacksPermission t ≡ false → permitted t p ≡ p
+  unfolding permitted pick
+  granted h = rw h refl
+
+  lacking : lacksPermission t ≡ true → lackingPlan t p ≡ permitted t p
+  unfolding permitted lackingPlan pick
+  lacking h = rw h (go (isUnreadable (p .answer)))
+    where
+      go : (q : Bool) → pick q p (withdrawal t) ≡ pick (not q) (withdrawal t) p
+      go true = refl
+      go false = refl
+
+unreadable-stays : (a : Answer) → isUnreadable a ≡ true → changesNothing a ≡ true
+unreadable-stays Moved e = absurd (true≢false (sym e))
+unreadable-stays Idle e = refl
+unreadable-stays Inserted e = absurd (true≢false (sym e))
+unreadable-stays (Took i) e = absurd (true≢false (sym e))
+unreadable-stays Empty e = absurd (true≢false (sym e))
+unreadable-stays (Refused n) e = refl
+unreadable-stays Withdrawn e = absurd (true≢false (sym e))
 
 -- A turn: refused where there is no such thread, idle, or the plan that the thread's place decides is carried out.
 module _ (f : Frame) (b : List ℕ) (t c : ℕ) where
@@ -43,14 +76,47 @@ module _ (f : Frame) (b : List ℕ) (t c : ℕ) where
   unfolding turnPlan pick
   planned e = rw e refl
 
-  module _ (here : Thread) (eh : here ≡ threadIn f b t) (z : Place) (ez : here .place ≡ z) where
+  -- a thread that lacks its permission: refused 7 as its place would be, or withdrawn
+  module _ (here : Thread) (eh : here ≡ threadIn f b t) (p : Plan) (ep : p ≡ decideAt (f .shape) (sharedIn f b) here c (here .place))
+      (w : Bool) (ew : w ≡ isUnreadable (p .answer)) where
+    lacks-so : lackingPlan here p ≡ lackingOn f b t c
+    lacks-so = ap (lackingPlan here) ep ∙ ap (λ x. lackingPlan x (decideAt (f .shape) (sharedIn f b) x c (x .place))) eh
+
+    pub lacking-refused : w ≡ true → Lacked f b b t c (p .answer)
+    unfolding lackingPlan carriedOut pick
+    lacking-refused g =
+        let e : p ≡ lackingOn f b t c = (rw (← ew, g) refl) ∙ lacks-so in
+        record {
+          answer = ap (λ y. y .answer) e;
+          bytes = subst (λ y. b ≡ carriedOut f b t y) e (rw (unreadable-stays (p .answer) (sym ew ∙ g)) refl);
+        }
+
+    pub lacking-withdrawn : w ≡ false → (v : Plan) → v ≡ withdrawal here → (b′ : List ℕ) (r : Answer) → Ended freeing f b b′ t v r
+        → Lacked f b b′ t c r
+    unfolding lackingPlan pick
+    lacking-withdrawn g v ev b′ r h =
+        let e : withdrawal here ≡ lackingOn f b t c = (rw (← ew, g) refl) ∙ lacks-so in
+        record {
+          answer = h .answer ∙ ap (λ y. y .answer) (ev ∙ e);
+          bytes =
+              h .bytes
+              ∙ ap (λ y. effectBytes f (recordBytes f b t y (goesIdle freeing y)) (ofKind freeing (y .effect))) ev
+              ∙ withdrawal-fits here .carried f b t
+              ∙ ap (carriedOut f b t) e;
+        }
+
+  module _ (here : Thread) (eh : here ≡ threadIn f b t) (w : Bool) (ew : w ≡ lacksPermission here) (gw : w ≡ false) (z : Place)
+      (ez : here .place ≡ z) where
     -- the plan of the place at which the thread stands
     abbrev planAt : Plan
     planAt = decideAt (f .shape) (sharedIn f b) (threadIn f b t) c z
 
     placed : between 1 t (f .shape .threads) ≡ true → planAt ≡ turnPlan f b t c
     unfolding decide
-    placed e = ap (decideAt (f .shape) (sharedIn f b) (threadIn f b t) c) (sym ez ∙ ap (λ y. y .place) eh) ∙ planned e
+    placed e =
+        ap (decideAt (f .shape) (sharedIn f b) (threadIn f b t) c) (sym ez ∙ ap (λ y. y .place) eh)
+        ∙ sym (granted (threadIn f b t) _ (ap lacksPermission (sym eh) ∙ sym ew ∙ gw))
+        ∙ planned e
 
     busy : eqb (placeNumber z) 0 ≡ false → between 1 t (f .shape .threads) ≡ true
     busy n =
@@ -75,10 +141,20 @@ module _ (f : Frame) (b : List ℕ) (t c : ℕ) where
     no-turn n =
         record { answer = ap (λ y. y .answer) (unplanned n); bytes = ap (carriedOut f b t) (unplanned n) }
 
-    pub rested : not q ≡ false → (here : Thread) → here ≡ threadIn f b t → here .place ≡ AtRest → Turned f b b t c Idle
+    pub turned-lacking : not q ≡ false → (here : Thread) → here ≡ threadIn f b t → (w : Bool) → w ≡ lacksPermission here → w ≡ true
+        → (b′ : List ℕ) (r : Answer) → Lacked f b b′ t c r → Turned f b b′ t c r
+    unfolding turnAnswer turnBytes decide
+    turned-lacking n here eh w ew gw b′ r h =
+        let e : lackingOn f b t c ≡ turnPlan f b t c =
+        lacking (threadIn f b t) _ (ap lacksPermission (sym eh) ∙ sym ew ∙ gw) ∙ planned (sym eq ∙ not-false q n)
+        in
+        record { answer = h .answer ∙ ap (λ y. y .answer) e; bytes = h .bytes ∙ ap (carriedOut f b t) e }
+
+    pub rested : not q ≡ false → (here : Thread) → here ≡ threadIn f b t → (w : Bool) → w ≡ lacksPermission here → w ≡ false
+        → here .place ≡ AtRest → Turned f b b t c Idle
     unfolding turnAnswer turnBytes carriedOut plan pick
-    rested n here eh ez =
-        let e : planAt here eh AtRest ez ≡ turnPlan f b t c = placed here eh AtRest ez (sym eq ∙ not-false q n) in
+    rested n here eh w ew gw ez =
+        let e : planAt here eh w ew gw AtRest ez ≡ turnPlan f b t c = placed here eh w ew gw AtRest ez (sym eq ∙ not-false q n) in
         record { answer = ap (λ y. y .answer) e; bytes = ap (carriedOut f b t) e }
 
 -- A turn by itself: the region is not readable, or the turn is made in its frame.

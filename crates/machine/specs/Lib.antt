@@ -1,2 +1,3 @@
 -- One turn on a region's bytes.
+pub mod Inner
 pub mod Turn

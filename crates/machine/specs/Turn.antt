@@ -22,6 +22,7 @@ use Rattle.readable.specs.Readable.{frameIn, readable}
 use Rattle.insert.specs.Insert.{readDepth, readLeaf, readAncestor, growDepth, readTarget, insertAtRoot, readParent, insertBelow}
 use Rattle.extract.specs.Extract.{readRoot, removeHead, listReadRoot, removeList, handOut}
 use Rattle.moundify.specs.Moundify.{mendReadNode, mendReadDepth, mendReadLeft, mendReadRight, mendSwap, mendClean}
+use Rattle.permission.specs.Withdraw.{permitted}
 
 -- the plan at a place; an idle thread answers idle
 abbrev pub decideAt : Shape → Shared → Thread → ℕ → Place → Plan
@@ -46,9 +47,10 @@ decideAt s m t c ListReadRoot = listReadRoot m t
 decideAt s m t c RemoveList = removeList m t
 decideAt s m t c HandOut = handOut m t
 
--- the plan of a thread's turn, c its choice
+-- the plan of a thread's turn, c its choice: that of its place, or the withdrawal where its permission lacks (request 5)
 unfoldable pub decide : Shape → Shared → Thread → ℕ → Plan
-decide s m t c = decideAt s m t c (t .place)
+unfolding permitted
+decide s m t c = permitted t (decideAt s m t c (t .place))
 
 -- "3: thread is 0 or above T", before all else
 unfoldable pub turnPlan : Frame → List ℕ → ℕ → ℕ → Plan

@@ -8,18 +8,15 @@ use Rattle.region.specs.Place.{placeNumber}
 use Rattle.region.specs.Shape.{between}
 use Rattle.region.specs.Shared.{Shared}
 use Rattle.region.specs.declared.place.Place.{Place}
-use Rattle.region.specs.declared.place.Place.the-variants.{ReadDepth, InsertBelow, MendReadNode, MendClean, HandOut}
+use Rattle.region.specs.declared.place.Place.the-variants.{MendReadNode, MendClean, HandOut}
 use Rattle.region.specs.declared.record.Item.{Item}
 use Rattle.region.specs.declared.thread.Thread.{Thread}
+use Rattle.permission.specs.Withdraw.{isPutPlace}
 use Rattle.mound.specs.Tree.{inList}
 
 -- the test that every item passes, so that all cells count
 abbrev pub anyItem : Item → Bool
 anyItem i = true
-
--- "Put of v": I1 to I8, where a put stands from its beginning, at I1, to its answer
-unfoldable pub isPutPlace : Place → Bool
-isPutPlace p = between (placeNumber ReadDepth) (placeNumber p) (placeNumber InsertBelow)
 
 -- "An operation begins with a put .. call that is not refused.": the threads among 1 to n with a put that is begun and not answered
 unfoldable pub putsAmong : (ℕ → Thread) → ℕ → ℕ

@@ -1,5 +1,5 @@
 -- The ledger: a plain bag of items and each thread's operation, and which ledger follows which at a moment. Its clauses are document 01's
--- "The bag", with the order of request 2 and the take of a list of request 1, and nothing else.
+-- "The bag", with the order of request 2, the take of a list of request 1 and the withdrawal of request 5, and nothing else.
 use Prim.Native.Nat.{ℕ, _+_, _-_, _≤_}
 use mathlib.Core.Path.{_≡_}
 use mathlib.Core.Bool.{true}
@@ -7,7 +7,7 @@ use mathlib.Core.List.{List, [], _∷_}
 use Rattle.region.specs.Pick.{pick, upd}
 use Rattle.region.specs.declared.record.Item.{Item}
 use Rattle.access.specs.Order.{itemLt}
-use Rattle.mound.specs.Told.{Told, nothing, beginsPut, beginsTake, beginsList, decidesPut, decidesTake, decidesList, decidesEmpty, answersTook}
+use Rattle.mound.specs.Told.{Told, nothing, beginsPut, beginsTake, beginsList, decidesPut, decidesTake, decidesList, decidesEmpty, answersTook, withdraws}
 use Rattle.mound.specs.Tree.{sameItem}
 
 -- a thread's operation begun last, and how far it has come
@@ -20,10 +20,14 @@ pub data Operation : Type 0 where
   -- a take of either kind that has decided: the items that it still owes as answers, in order, at least one
   owing : Item → List Item → Operation
 
--- the takes that have not decided
+-- the takes that have not decided, and all operations that have not
+pub data UndecidedTake : Operation → Type 0 where
+  one-item : UndecidedTake taking
+  whole-list : UndecidedTake listing
+
 pub data Undecided : Operation → Type 0 where
-  one-item : Undecided taking
-  whole-list : Undecided listing
+  a-put : {i : Item} → Undecided (putting i)
+  a-take : {o : Operation} → UndecidedTake o → Undecided o
 
 -- an operation that still owes these items: "the thread goes idle with the last" (request 1)
 abbrev pub stillOwing : List Item → Operation
@@ -86,9 +90,12 @@ pub data Follows : Told → Ledger → Ledger → Type 0 where
       → Follows (decidesList t (i ∷ is)) l (record { bag = listLess (l .bag) (i ∷ is); operation = upd (l .operation) t (owing i is) })
   -- "E1 that answers empty: the bag holds nothing." The same turn answers the take. "An empty clean root answers empty, and that read at 17 is
   -- then its deciding access." (request 1)
-  empty-decides : {l : Ledger} {t : ℕ} {o : Operation} → l .operation t ≡ o → Undecided o → ((j : Item) → l .bag j ≡ 0)
+  empty-decides : {l : Ledger} {t : ℕ} {o : Operation} → l .operation t ≡ o → UndecidedTake o → ((j : Item) → l .bag j ≡ 0)
       → Follows (decidesEmpty t) l (record { bag = l .bag; operation = upd (l .operation) t none })
   -- "The take's answer, if it comes, is took with this item." "its took answers, as far as they come, are that list in order" (request 1): the
   -- first item owed
   take-answers : {l : Ledger} {t : ℕ} {i : Item} {is : List Item} → l .operation t ≡ owing i is
       → Follows (answersTook t i) l (record { bag = l .bag; operation = upd (l .operation) t (stillOwing is) })
+  -- "A withdrawn operation has no deciding access" (request 5): it ends undecided, and the bag stays
+  ends-withdrawn : {l : Ledger} {t : ℕ} {o : Operation} → l .operation t ≡ o → Undecided o
+      → Follows (withdraws t) l (record { bag = l .bag; operation = upd (l .operation) t none })

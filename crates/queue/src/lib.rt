@@ -6,6 +6,7 @@ ghost use Rattle.region.specs.declared.place.Place.the-variants.{ReadRoot, List
 ghost use Rattle.layout.specs.Layout.{LaidOut};
 ghost use Rattle.readable.specs.Readable.{checkAnswer};
 ghost use Rattle.begin.specs.Begin.{PutBegun, TakeBegun};
+ghost use Rattle.permission.specs.Permit.{PermitSet};
 ghost use Rattle.queue.specs.Calls.{RunDone, itemGiven, packed, shapeGiven};
 ghost use Rattle.queue.specs.Inner.{Packable};
 use region::Item;
@@ -58,6 +59,14 @@ pub extern "C" fn mound_list(region: &mut [u8], thread: u32) -> u32
     ensures { λ r. ⌜ TakeBegun (now (region .entry)) (now (region .exit)) thread ListReadRoot r ⌝ }
 {
     begin::begin_list(region, thread)
+}
+
+// Sets a thread's permission (bit 0 put, bit 1 take), be the thread busy or idle: 0 if set. Refusals 7, 3, 1.
+#[no_mangle]
+pub extern "C" fn mound_permit(region: &mut [u8], thread: u32, permission: u32) -> u32
+    ensures { λ r. ⌜ PermitSet (now (region .entry)) (now (region .exit)) thread permission r ⌝ }
+{
+    permission::permit(region, thread, permission)
 }
 
 // A run's three numbers in one.

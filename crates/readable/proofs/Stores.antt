@@ -5,16 +5,16 @@ use native.Mathlib.Decide.{ℕ-discrete}
 use native.Mathlib.Nat.{add-zero}
 use native.Mathlib.Omega.{arith}
 use mathlib.Core.Path.{_≡_, refl, sym, ap, subst, subst₂, subst₃, _∙_}
-use mathlib.Core.Logic.{inl}
+use mathlib.Core.Logic.{⊎-elim, inl, inr}
 use mathlib.Core.Bool.{Bool, true, false, _&&_, and-assoc}
 use mathlib.Core.List.{List, [], _∷_, _++_}
 use borrow.Author.Tests.{leb-true, le-leb}
 use lib.Dec.{leb}
-use lib.ListN.{length, getD, set}
+use lib.ListN.{drop, length, getD, set}
 use lib.Pow.{pow-mono}
 use Rattle.words.specs.Word.{word, wordsAt}
 use Rattle.words.specs.Inner.{Fit}
-use Rattle.words.proofs.Laws.{word-among}
+use Rattle.words.proofs.Laws.{word-among, word-same}
 use Rattle.region.specs.Frame.{Part, frameOf, nodesOf, cellsOf, threadsOf}
 use Rattle.region.specs.Inner.{Framed, InRange}
 use Rattle.region.specs.Level.{level}
@@ -22,7 +22,7 @@ use Rattle.region.specs.Pick.{pick}
 use Rattle.region.specs.Place.{placeNumber, placeOf, waitingLevels}
 use Rattle.region.specs.Record.{nodeSize, copySize, greatestCounter, greatestTag, nodeAt, emptyNode, cellAt, zeroCell, copyOf, copyWords, copyAt, zeroCopy}
 use Rattle.region.specs.Shape.{between, nodeCount}
-use Rattle.region.specs.Shared.{Shared, entry, loadEntry, nodeIn, cellIn, threadIn, setThreadIn, sharedIn}
+use Rattle.region.specs.Shared.{Shared, entry, loadEntry, nodeIn, cellIn, threadIn, setThreadIn, setPermissionIn, sharedIn}
 use Rattle.region.specs.Thread.{threadSize, placeWord, triesWord, nodeWord, waitingWord, firstCopyWord, secondCopyWord, thirdCopyWord, greatestPermission, fieldWords, threadWords, idleThread, threadAt}
 use Rattle.region.specs.declared.frame.Frame.{Frame}
 use Rattle.region.specs.declared.place.Place.{Place}
@@ -32,12 +32,12 @@ use Rattle.region.specs.declared.record.Node.{Node}
 use Rattle.region.specs.declared.record.NodeCopy.{NodeCopy}
 use Rattle.region.specs.declared.shape.Shape.{Shape}
 use Rattle.region.specs.declared.thread.Thread.{Thread}
-use Rattle.region.proofs.Entries.{record-within}
+use Rattle.region.proofs.Entries.{entry-end, record-within}
 use Rattle.region.proofs.Levels.{level-most}
 use Rattle.region.proofs.Picks.{pick-good}
 use Rattle.region.proofs.Shapes.{and-left, and-right, and-both, between-least, between-most, is-between, sizes}
 use Rattle.region.proofs.Threads.{copy-among, copy-parts}
-use Rattle.region.proofs.Views.{Kept, OutsideParts, length-setThreadIn, records-outside, shared-setThread, thread-stored-words, word-setThread, word-setThreadIn}
+use Rattle.region.proofs.Views.{Kept, Outside, OutsideParts, length-setPermissionIn, length-setThreadIn, permission-there, records-outside, shared-setPermission, shared-setThread, thread-stored-words, word-setPermission, word-setThread}
 use Rattle.readable.specs.Readable.{anyWord, greatestCopy, greatestThread, nodeMaxima, cellMaxima, threadMaxima, greatestTries, greatestWaiting, bounded, nodeReadable, cellReadable, threadReadable, shapeIn, frameIn, readable}
 use Rattle.readable.proofs.Laws.{Good, bounded-all, bounded-at, readable-good, readable-length}
 
@@ -540,6 +540,38 @@ threads-pass f b b′ g h i l =
     (λ j lo hi. h j (omega (arith, lo)) (omega (arith, hi, within, g .framed .stride)))
     ∙ g .threads i l
 
+-- Bytes `after` that change the words of thread t's record alone, and in which that passes.
+module _ (f : Frame) (b : List ℕ) (g : Good f b) (t : ℕ) (l : 1 ≤ t) (u : t ≤ f .shape .threads) (after : List ℕ)
+    (long : length after ≡ length b) (shared : sharedIn f after ≡ sharedIn f b)
+    (only : (j : ℕ) → Outside (entry (threadsOf f) t) threadSize j → word after j ≡ word b j)
+    (passes : threadReadable (f .shape) after (entry (threadsOf f) t) ≡ true) where
+  other-passes : (i : ℕ) → (suc i ≡ t → ⊥)
+      → threadReadable (f .shape) after (f .threads + f .stride * i) ≡ threadReadable (f .shape) b (f .threads + f .stride * i)
+  other-passes i n =
+      let e : suc i - 1 ≡ i = omega arith in
+      thread-reads (f .shape) b after (f .threads + f .stride * i) λ j lo hi.
+      only j
+      (records-outside (threadsOf f) (suc i) t threadSize (omega arith) l n (g .framed .stride) j
+      (subst (λ k. f .threads + f .stride * k ≤ j) (sym e) lo) (subst (λ k. j < f .threads + f .stride * k + threadSize) (sym e) hi))
+
+  all-pass : (i : ℕ) → i < f .shape .threads → Dec (suc i ≡ t) → threadReadable (f .shape) after (f .threads + f .stride * i) ≡ true
+  all-pass i h (yes e) =
+      let k : t - 1 ≡ i = omega arith in
+      subst (λ x. threadReadable (f .shape) after (f .threads + f .stride * x) ≡ true) k passes
+  all-pass i h (no n) = other-passes i n ∙ g .threads i h
+
+  keeps-record : Keeps f b after
+  keeps-record =
+      record {
+        good =
+            make-good f after (g .range) (subst (Framed f) (sym long) (g .framed)) (subst (SharedGood (f .shape)) (sym shared) (good-shared f b g))
+            (λ i h. all-pass i h (ℕ-discrete (suc i) t));
+        long = long;
+        outside = λ j o.
+            let end = entry-end (threadsOf f) t (λ z. omega arith) u in
+            only j (⊎-elim (λ h. inl (omega arith)) (λ h. inr (omega (arith, end, g .framed .stride))) (o .threads));
+      }
+
 -- Storing a thread's record in range.
 module _ (f : Frame) (b : List ℕ) (g : Good f b) (t : ℕ) (l : 1 ≤ t) (u : t ≤ f .shape .threads) (v : Thread)
     (gv : ThreadGood (f .shape) v) where
@@ -571,32 +603,50 @@ module _ (f : Frame) (b : List ℕ) (g : Good f b) (t : ℕ) (l : 1 ≤ t) (u : 
       (subst₃ (λ x y z. x ≤ greatestWaiting y z) (sym (stored-word waitingWord (omega arith))) place
       (sym (stored-word nodeWord (omega arith))) (waiting-rule s v (v .place) (gv .place))))
 
-  other-passes : (i : ℕ) → (suc i ≡ t → ⊥)
-      → threadReadable s after (f .threads + f .stride * i) ≡ threadReadable s b (f .threads + f .stride * i)
-  other-passes i n =
-      let e : suc i - 1 ≡ i = omega arith in
-      thread-reads s b after (f .threads + f .stride * i) λ j lo hi.
-      word-setThread f b (g .framed) t j v
-      (records-outside (threadsOf f) (suc i) t threadSize (omega arith) l n (g .framed .stride) j
-      (subst (λ k. f .threads + f .stride * k ≤ j) (sym e) lo) (subst (λ k. j < f .threads + f .stride * k + threadSize) (sym e) hi))
-
-  all-pass : (i : ℕ) → i < s .threads → Dec (suc i ≡ t) → threadReadable s after (f .threads + f .stride * i) ≡ true
-  all-pass i h (yes e) =
-      let k : t - 1 ≡ i = omega arith in
-      subst (λ x. threadReadable s after (f .threads + f .stride * x) ≡ true) k stored-passes
-  all-pass i h (no n) = other-passes i n ∙ g .threads i h
-
   pub keeps-setThread : Keeps f b after
   keeps-setThread =
-      let long = length-setThreadIn f b t v in
-      record {
-        good =
-            make-good f after (g .range) (subst (Framed f) (sym long) (g .framed))
-            (subst (SharedGood s) (sym (shared-setThread f b (g .framed) t v)) (good-shared f b g))
-            (λ i h. all-pass i h (ℕ-discrete (suc i) t));
-        long = long;
-        outside = λ j o. word-setThreadIn f b (g .framed) t j v (o .threads);
-      }
+      keeps-record f b g t l u after (length-setThreadIn f b t v) (shared-setThread f b (g .framed) t v)
+      (λ j o. word-setThread f b (g .framed) t j v o) stored-passes
+
+-- Storing a thread's permission in range: a record that passes does so with another first word.
+first-bounded : (b b′ : List ℕ) (at m : ℕ) (ms : List ℕ) → ((j : ℕ) → (j ≡ at → ⊥) → word b′ j ≡ word b j) → word b′ at ≤ m
+    → bounded b at (m ∷ ms) ≡ true → bounded b′ at (m ∷ ms) ≡ true
+unfolding bounded
+first-bounded b b′ at m ms same first h =
+    and-both (le-leb (word b′ at) m first)
+    (bounded-reads b b′ ms (suc at) (λ j l u. same j (λ e. omega arith)) ∙ and-right (leb (word b at) m) (bounded b (suc at) ms) h)
+
+and-instead : (x y a c : Bool) → (x ≡ true → y ≡ true) → x && a && c ≡ true → y && a && c ≡ true
+and-instead x y a c h e =
+    let left = and-left (x && a) c e in
+    and-both (and-both (h (and-left x a left)) (and-right x a left)) (and-right (x && a) c e)
+
+first-passes : (s : Shape) (b b′ : List ℕ) (at : ℕ) → ((j : ℕ) → (j ≡ at → ⊥) → word b′ j ≡ word b j) → word b′ at ≤ greatestPermission
+    → threadReadable s b at ≡ true → threadReadable s b′ at ≡ true
+unfolding threadReadable
+first-passes s b b′ at same first h =
+    rw (
+      same (at + triesWord) (λ e. omega arith),
+      same (at + placeWord) (λ e. omega arith),
+      same (at + waitingWord) (λ e. omega arith),
+      same (at + nodeWord) (λ e. omega arith),
+    )
+    (and-instead (bounded b at (threadMaxima s)) (bounded b′ at (threadMaxima s)) _ _ (first-bounded b b′ at greatestPermission (drop 1 (threadMaxima s)) same first) h)
+
+pub keeps-setPermission : (f : Frame) (b : List ℕ) → Good f b → (t p : ℕ) → 1 ≤ t → t ≤ f .shape .threads → p ≤ greatestPermission
+    → Keeps f b (setPermissionIn f b t p)
+keeps-setPermission f b g t p l u few =
+    let at = entry (threadsOf f) t in
+    let after = setPermissionIn f b t p in
+    let end = entry-end (threadsOf f) t (λ z. omega arith) u in
+    let stored : word after at ≡ p =
+    ap (λ x. word x at) (permission-there f b (g .framed) t p l u)
+    ∙ word-same b at p (omega (arith, end, g .framed .stride, g .framed .threads)) (omega (arith, few))
+    in
+    keeps-record f b g t l u after (length-setPermissionIn f b t p) (shared-setPermission f b (g .framed) t p l u)
+    (λ j o. word-setPermission f b t j p (λ e. ⊎-elim (λ h. omega arith) (λ h. omega arith) o))
+    (first-passes (f .shape) b after at (λ j n. word-setPermission f b t j p n) (subst (λ x. x ≤ greatestPermission) (sym stored) few)
+    (g .threads (t - 1) (omega arith)))
 
 -- The readable region of one queue: its shape and length stay, since the first words lie outside the parts, and so it stays readable.
 head-outside : (s : Shape) (k : ℕ) → k < 4 → OutsideParts (frameOf s) k

@@ -7,20 +7,20 @@ use native.Mathlib.Omega.{arith}
 use mathlib.Core.Path.{_≡_, refl, sym, ap, subst, fun-ext, _∙_}
 use mathlib.Core.Logic.{_⊎_, inl, inr, ⊎-elim}
 use mathlib.Core.Bool.{Bool, true, false}
-use mathlib.Core.List.{List}
+use mathlib.Core.List.{List, _∷_}
 use borrow.Author.Tests.{eq-eqb, ne-eqb}
 use lib.Dec.{eqb}
 use lib.ListN.{length, getD}
 use Rattle.words.specs.Word.{word, setWord, wordsAt, setWords}
 use Rattle.words.specs.Inner.{Fit}
-use Rattle.words.proofs.Laws.{word-stored, word-same, word-other, word-apart, wordsAt-same, wordsAt-reads, length-setWords}
+use Rattle.words.proofs.Laws.{word-stored, word-same, word-other, word-apart, wordsAt-same, wordsAt-reads, length-setWord, length-setWords}
 use Rattle.region.specs.Frame.{Part, nodesOf, cellsOf, threadsOf}
 use Rattle.region.specs.Inner.{Apart, before, behind, Framed, depthOf, freeOf, partSize}
 use Rattle.region.specs.Pick.{pick, upd}
 use Rattle.region.specs.Record.{nodeSize, cellSize, nodeOf, nodeWords, emptyNode, nodeAt, setNodeAt, cellOf, cellWords, zeroCell, cellAt, setCellAt}
 use Rattle.region.specs.Shape.{between, nodeCount}
-use Rattle.region.specs.Shared.{entry, loadEntry, storeEntry, nodeIn, setNodeIn, cellIn, setCellIn, threadIn, setThreadIn, sharedIn, setNode, setCell, setDepth, setFree}
-use Rattle.region.specs.Thread.{threadSize, threadOf, threadWords, idleThread, threadAt, setThreadAt}
+use Rattle.region.specs.Shared.{entry, loadEntry, storeEntry, nodeIn, setNodeIn, cellIn, setCellIn, threadIn, setThreadIn, setPermissionIn, sharedIn, setNode, setCell, setDepth, setFree}
+use Rattle.region.specs.Thread.{threadSize, threadOf, threadWords, idleThread, threadAt, setThreadAt, withPermission}
 use Rattle.region.specs.declared.frame.Frame.{Frame}
 use Rattle.region.specs.declared.record.Cell.{Cell}
 use Rattle.region.specs.declared.record.Node.{Node}
@@ -285,9 +285,6 @@ module _ (f : Frame) (b : List ℕ) (framed : Framed f (length b)) where
   cell-keeps : (c : ℕ) (v : Cell) (p : Part) → Apart p (cellsOf f) → Kept p b (setCellIn f b c v)
   cell-keeps c v p a j l u = word-setCellIn c j v (outside a j l u)
 
-  thread-keeps : (t : ℕ) (v : Thread) (p : Part) → Apart p (threadsOf f) → Kept p b (setThreadIn f b t v)
-  thread-keeps t v p a j l u = word-setThreadIn t j v (outside a j l u)
-
   depth-keeps : (v : ℕ) (p : Part) → Apart p (depthOf f) → Kept p b (setWord b (f .depth) v)
   depth-keeps v p a j l u = word-other b (f .depth) j v (outside-word (outside a j l u))
 
@@ -349,18 +346,90 @@ module _ (f : Frame) (b : List ℕ) (framed : Framed f (length b)) where
   pub threads-setFree : (v : ℕ) → threadIn f (setWord b (f .free) v) ≡ threadIn f b
   threads-setFree v = threads-kept f b framed (setWord b (f .free) v) (free-keeps v (threadsOf f) (flip (framed .apart .free-threads)))
 
-  pub shared-setThread : (t : ℕ) (v : Thread) → sharedIn f (setThreadIn f b t v) ≡ sharedIn f b
+  -- what leaves every word outside the threads' records leaves shared memory
+  shared-outside : (b′ : List ℕ) → ((j : ℕ) → OutsidePart (threadsOf f) j → word b′ j ≡ word b j) → sharedIn f b′ ≡ sharedIn f b
   unfolding sharedIn
-  shared-setThread t v =
+  shared-outside b′ h =
+      let kept : (p : Part) → Apart p (threadsOf f) → Kept p b b′ = λ p a j l u. h j (outside a j l u) in
       λ i. record {
-        node = nodes-kept f b (setThreadIn f b t v) (thread-keeps t v (nodesOf f) (framed .apart .nodes-threads)) i;
-        cell = cells-kept f b (setThreadIn f b t v) (thread-keeps t v (cellsOf f) (framed .apart .cells-threads)) i;
-        depth = depth-kept f b (setThreadIn f b t v) (thread-keeps t v (depthOf f) (framed .apart .depth-threads)) i;
-        free = free-kept f b (setThreadIn f b t v) (thread-keeps t v (freeOf f) (framed .apart .free-threads)) i;
+        node = nodes-kept f b b′ (kept (nodesOf f) (framed .apart .nodes-threads)) i;
+        cell = cells-kept f b b′ (kept (cellsOf f) (framed .apart .cells-threads)) i;
+        depth = depth-kept f b b′ (kept (depthOf f) (framed .apart .depth-threads)) i;
+        free = free-kept f b b′ (kept (freeOf f) (framed .apart .free-threads)) i;
       }
+
+  pub shared-setThread : (t : ℕ) (v : Thread) → sharedIn f (setThreadIn f b t v) ≡ sharedIn f b
+  shared-setThread t v = shared-outside (setThreadIn f b t v) (λ j o. word-setThreadIn t j v o)
 
   pub threads-setThread : (t : ℕ) (v : Thread) → 1 ≤ t → t ≤ f .shape .threads → Fit (threadWords v)
       → threadIn f (setThreadIn f b t v) ≡ upd (threadIn f b) t v
   unfolding setThreadIn threadIn
   threads-setThread t v l u g =
       fun-ext (load-stored thread-codec (idleThread 0) (threadsOf f) (framed .stride) b t v l u (framed .threads) g)
+
+-- Storing a thread's permission, the first word of its record.
+permission-stored : (b : List ℕ) (at p : ℕ) → 4 * at + 4 ≤ length b → p < 2 ^ 32 → threadAt (setWord b at p) at ≡ withPermission (threadAt b at) p
+unfolding threadAt withPermission
+permission-stored b at p h g =
+    ap threadOf λ i.
+    word-same b at p h g i ∷ wordsAt-reads (setWord b at p) b (suc at) (threadSize - 1) (λ j l u. word-other b at j p (λ e. omega arith)) i
+
+pub length-setPermissionIn : (f : Frame) (b : List ℕ) (t p : ℕ) → length (setPermissionIn f b t p) ≡ length b
+unfolding setPermissionIn
+length-setPermissionIn f b t p =
+    stays setWord (threadsOf f) (λ l. length l ≡ length b) (λ l k u e. length-setWord l k u ∙ e) b t p refl
+
+-- it is all that changes
+pub word-setPermission : (f : Frame) (b : List ℕ) (t j p : ℕ) → (j ≡ entry (threadsOf f) t → ⊥) → word (setPermissionIn f b t p) j ≡ word b j
+unfolding setPermissionIn storeEntry pick
+word-setPermission f b t j p n = go (between 1 t (f .shape .threads))
+  where
+    go : (q : Bool) → word (pick q (setWord b (entry (threadsOf f) t) p) b) j ≡ word b j
+    go true = word-other b (entry (threadsOf f) t) j p n
+    go false = refl
+
+module _ (f : Frame) (b : List ℕ) (framed : Framed f (length b)) (t p : ℕ) (l : 1 ≤ t) (u : t ≤ f .shape .threads) where
+  abbrev permits : List ℕ
+  permits = setPermissionIn f b t p
+
+  -- the thread's record lies within the part
+  within : entry (threadsOf f) t + threadSize ≤ f .threads + partSize (threadsOf f)
+  within = omega (arith, entry-end (threadsOf f) t (λ z. omega arith) u, framed .stride)
+
+  pub outside-permission : (j : ℕ) → OutsidePart (threadsOf f) j → j ≡ entry (threadsOf f) t → ⊥
+  outside-permission j o e = ⊎-elim (λ h. omega arith) (λ h. omega (arith, within)) o
+
+  pub shared-setPermission : sharedIn f permits ≡ sharedIn f b
+  shared-setPermission = shared-outside f b framed permits (λ j o. word-setPermission f b t j p (outside-permission j o))
+
+  pub permission-there : permits ≡ setWord b (entry (threadsOf f) t) p
+  unfolding setPermissionIn storeEntry pick
+  permission-there = rw (is-between 1 t (f .shape .threads) l u) refl
+
+  pub others-setPermission : (k : ℕ) → (k ≡ t → ⊥) → threadIn f permits k ≡ threadIn f b k
+  unfolding threadIn loadEntry pick
+  others-setPermission k n = go (between 1 k (f .shape .threads)) refl
+    where
+      go : (q : Bool) → between 1 k (f .shape .threads) ≡ q
+          → pick q (threadAt permits (entry (threadsOf f) k)) (idleThread 0) ≡ pick q (threadAt b (entry (threadsOf f) k)) (idleThread 0)
+      go true e =
+          thread-codec .reads permits b (entry (threadsOf f) k) λ j lo hi.
+          word-setPermission f b t j p λ z.
+          ⊎-elim (λ h. omega arith) (λ h. omega arith)
+          (records-outside (threadsOf f) k t threadSize (between-least 1 k (f .shape .threads) e) l n (framed .stride) j lo hi)
+      go false e = refl
+
+  module _ (g : p < 2 ^ 32) where
+    own-setPermission : threadIn f permits t ≡ withPermission (threadIn f b t) p
+    unfolding threadIn loadEntry pick
+    own-setPermission =
+        rw (is-between 1 t (f .shape .threads) l u, permission-there)
+        (permission-stored b (entry (threadsOf f) t) p (omega (arith, within, framed .threads)) g)
+
+    pub threads-setPermission : threadIn f permits ≡ upd (threadIn f b) t (withPermission (threadIn f b t) p)
+    unfolding upd pick
+    threads-setPermission = fun-ext λ k. go k (ℕ-discrete k t)
+      where
+        go : (k : ℕ) → Dec (k ≡ t) → threadIn f permits k ≡ pick (eqb k t) (withPermission (threadIn f b t) p) (threadIn f b k)
+        go k (yes e) = ap (threadIn f permits) e ∙ own-setPermission ∙ rw (eq-eqb k t e) refl
+        go k (no n) = others-setPermission k n ∙ rw (ne-eqb k t n) refl

@@ -1,11 +1,12 @@
 -- The number and values of each answer (document 01, A run): "moved 0, idle 1, inserted 2, took 3 with key and tag, empty 4,
--- refused 5 with its number as key; unused words are 0"; the numbers of the refusals; and the first refusal that applies.
+-- refused 5 with its number as key; unused words are 0"; "withdrawn (code 6)" (request 5); the numbers of the refusals; and the first
+-- refusal that applies.
 use Prim.Native.Nat.{ℕ}
 use mathlib.Core.Bool.{Bool}
 use mathlib.Core.List.{List, [], _∷_}
 use Rattle.region.specs.Pick.{pick}
 use Rattle.region.specs.declared.answer.Answer.{Answer}
-use Rattle.region.specs.declared.answer.Answer.the-variants.{Moved, Idle, Inserted, Took, Empty, Refused}
+use Rattle.region.specs.declared.answer.Answer.the-variants.{Moved, Idle, Inserted, Took, Empty, Refused, Withdrawn}
 
 abbrev pub answerCode : Answer → ℕ
 answerCode Moved = 0
@@ -14,6 +15,7 @@ answerCode Inserted = 2
 answerCode (Took i) = 3
 answerCode Empty = 4
 answerCode (Refused n) = 5
+answerCode Withdrawn = 6
 
 abbrev pub answerKey : Answer → ℕ
 answerKey Moved = 0
@@ -22,6 +24,7 @@ answerKey Inserted = 0
 answerKey (Took i) = i .key
 answerKey Empty = 0
 answerKey (Refused n) = n
+answerKey Withdrawn = 0
 
 abbrev pub answerTag : Answer → ℕ
 answerTag Moved = 0
@@ -30,6 +33,7 @@ answerTag Inserted = 0
 answerTag (Took i) = i .tag
 answerTag Empty = 0
 answerTag (Refused n) = 0
+answerTag Withdrawn = 0
 
 -- "answers of three words (code, key, tag)"
 abbrev pub answerWords : Answer → List ℕ

@@ -2,7 +2,7 @@
 -- range reads as the empty node, the zero cell or the idle thread with no permission, and a store out of range stores nothing.
 use Prim.Native.Nat.{ℕ, _+_, _-_, _*_}
 use mathlib.Core.List.{List}
-use Rattle.words.specs.Word.{word}
+use Rattle.words.specs.Word.{word, setWord}
 use Rattle.region.specs.Frame.{Part, nodesOf, cellsOf, threadsOf}
 use Rattle.region.specs.Pick.{pick, upd}
 use Rattle.region.specs.Record.{emptyNode, zeroCell, nodeAt, setNodeAt, cellAt, setCellAt}
@@ -47,6 +47,11 @@ threadIn f b t = loadEntry threadAt (idleThread 0) (threadsOf f) b t
 unfoldable pub setThreadIn : Frame → List ℕ → ℕ → Thread → List ℕ
 unfolding storeEntry
 setThreadIn f b t v = storeEntry setThreadAt (threadsOf f) b t v
+
+-- the permission is the first word of a thread's record
+unfoldable pub setPermissionIn : Frame → List ℕ → ℕ → ℕ → List ℕ
+unfolding storeEntry
+setPermissionIn f b t p = storeEntry setWord (threadsOf f) b t p
 
 -- what every thread can reach: nodes, cells, the present depth and the first free cell
 pub record Shared : Type 0 where

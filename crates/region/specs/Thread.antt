@@ -127,6 +127,10 @@ unfoldable pub goneIdle : Thread → Thread
 goneIdle t = idleThread (t .permission)
 
 -- "any other field keeps what was last put in it": the record with another value in one field
+unfoldable pub withPermission : Thread → ℕ → Thread
+withPermission t x =
+    threadWith x (t .place) (t .item) (t .own) (t .depth) (t .search) (t .node) (t .after) (t .result) (t .copies)
+
 unfoldable pub atPlace : Thread → Place → Thread
 atPlace t x =
     threadWith (t .permission) x (t .item) (t .own) (t .depth) (t .search) (t .node) (t .after) (t .result) (t .copies)

@@ -28,7 +28,8 @@ pub const NO_FREE_CELL: u32 = 10;
 
 pub const COUNTER_SPENT: u32 = 11;
 
-// "An answer is one of moved 0, idle 1, inserted 2, took 3 with key and tag, empty 4, refused 5 with its number as key."
+// "An answer is one of moved 0, idle 1, inserted 2, took 3 with key and tag, empty 4, refused 5 with its number as key."; and
+// withdrawn 6 (request 5).
 pub enum Answer {
     Moved,
     Idle,
@@ -36,6 +37,7 @@ pub enum Answer {
     Took(Item),
     Empty,
     Refused(u32),
+    Withdrawn,
 }
 
 impl Answer {
@@ -49,6 +51,7 @@ impl Answer {
             Answer::Took(_) => 3,
             Answer::Empty => 4,
             Answer::Refused(_) => 5,
+            Answer::Withdrawn => 6,
         }
     }
 
@@ -62,6 +65,7 @@ impl Answer {
             Answer::Took(i) => i.key,
             Answer::Empty => 0,
             Answer::Refused(n) => n,
+            Answer::Withdrawn => 0,
         }
     }
 
@@ -75,6 +79,7 @@ impl Answer {
             Answer::Took(i) => i.tag,
             Answer::Empty => 0,
             Answer::Refused(_) => 0,
+            Answer::Withdrawn => 0,
         }
     }
 }

@@ -5,7 +5,7 @@ ghost use lib.ListN.{length};
 ghost use Rattle.words.specs.Word.{word, setWord};
 ghost use Rattle.region.specs.Inner.{InRange, Within};
 ghost use Rattle.region.specs.Frame.{frameOf};
-ghost use Rattle.region.specs.Shared.{nodeIn, setNodeIn, cellIn, setCellIn, threadIn, setThreadIn};
+ghost use Rattle.region.specs.Shared.{nodeIn, setNodeIn, cellIn, setCellIn, threadIn, setThreadIn, setPermissionIn};
 use crate::record::CELL_SIZE;
 use crate::record::Cell;
 use crate::record::NODE_SIZE;
@@ -145,6 +145,23 @@ impl Frame {
             return;
         }
         store_thread_at(b, self.threads + self.stride * (k - 1), thread);
+    }
+
+    // Stores a thread's permission, the first word of its record, and no other word.
+    pub fn store_permission(self, b: &mut [u8], t: u32, permission: u32)
+        requires { ⌜ Within self (length (now b)) ⌝ }
+        ensures { λ r. ⌜ now (b .exit) ≡ setPermissionIn self (now (b .entry)) t permission ⌝ }
+    {
+        let k = t as usize;
+        if k == 0 {
+            return;
+        }
+        let shape = self.shape;
+        let count = shape.threads as usize;
+        if count < k {
+            return;
+        }
+        words::store_word(b, self.threads + self.stride * (k - 1), permission);
     }
 
     // The present depth.

@@ -10,7 +10,7 @@ use lib.ListN.{length}
 use Rattle.region.specs.Answer.{done, shortAnswers, badSchedule, unreadable}
 use Rattle.region.specs.Pick.{pick}
 use Rattle.region.specs.declared.answer.Answer.{Answer}
-use Rattle.region.specs.declared.answer.Answer.the-variants.{Moved, Idle, Inserted, Took, Empty, Refused}
+use Rattle.region.specs.declared.answer.Answer.the-variants.{Moved, Idle, Inserted, Took, Empty, Refused, Withdrawn}
 use Rattle.region.specs.declared.frame.Frame.{Frame}
 use Rattle.readable.specs.Readable.{frameIn, readable}
 use Rattle.run.specs.Run.{Served, Turn, accessesOf, runRefusal, runResult, scheduleRefusal, serve, serveAll, soFar, turnsFrom}
@@ -23,6 +23,7 @@ one-access Inserted = omega arith
 one-access (Took i) = omega arith
 one-access Empty = omega arith
 one-access (Refused n) = omega arith
+one-access Withdrawn = omega arith
 
 -- "6, 5": with neither, the schedule and the answers are as long as serving asks; l is the answers' length
 pub record Passed (s : List ℕ) (l : ℕ) : Type 0 where

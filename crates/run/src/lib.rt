@@ -37,6 +37,7 @@ fn accesses_of(answer: Answer) -> u32
         Answer::Took(_) => 1,
         Answer::Empty => 1,
         Answer::Refused(_) => 0,
+        Answer::Withdrawn => 0,
     }
 }
 

@@ -1,6 +1,6 @@
 -- The ways out of the functions, over plain variables: storing a plan's record, and the end of a turn at any place. Assumes nothing.
 use Prim.Native.Nat.{ℕ}
-use mathlib.Core.Path.{_≡_, refl, ap, _∙_}
+use mathlib.Core.Path.{_≡_, refl, ap, subst, _∙_}
 use mathlib.Core.Bool.{Bool, true, false}
 use mathlib.Core.List.{List}
 use Rattle.region.specs.Pick.{pick}
@@ -12,7 +12,7 @@ use Rattle.region.specs.declared.shape.Shape.{Shape}
 use Rattle.region.specs.declared.thread.Thread.{Thread}
 use Rattle.access.specs.Effect.{effectBytes}
 use Rattle.access.specs.Inner.{ofKind, reading}
-use Rattle.access.specs.Plan.{changesNothing, ends}
+use Rattle.access.specs.Plan.{changesNothing, answersOperation}
 use Rattle.access.specs.declared.effect.Effect.{Effect}
 use Rattle.access.specs.declared.effect.Effect.the-variants.{Nothing, Grow, Push, Pop, Exchange, Clean, Detach, Free}
 use Rattle.access.specs.declared.plan.Plan.{Plan}
@@ -47,6 +47,11 @@ no-effect f b (Clean n v) = refl
 no-effect f b (Detach v) = refl
 no-effect f b (Free c) = refl
 
+-- a plan that is at hand, with an effect of kind k
+pub changed : (k : ℕ) (f : Frame) (b b₁ b₂ : List ℕ) (n : ℕ) (p : Plan) (r : Answer) → Stored f b b₁ n p (goesIdle k p) r
+    → b₂ ≡ effectBytes f b₁ (ofKind k (p .effect)) → Ended k f b b₂ n p r
+changed k f b b₁ b₂ n p r h e = record { answer = h .answer; bytes = e ∙ ap (λ l. effectBytes f l (ofKind k (p .effect))) (h .bytes) }
+
 module _ (D : Shape → Shared → Thread → Plan) (f : Frame) (b b₁ : List ℕ) (n : ℕ) (x : Thread) (p : Plan)
     (r : Answer) (ex : x ≡ threadIn f b n) (ep : p ≡ D (f .shape) (sharedIn f b) x) where
   abbrev plan : Plan
@@ -58,17 +63,10 @@ module _ (D : Shape → Shared → Thread → Plan) (f : Frame) (b b₁ : List �
   -- with an effect of kind k
   pub changes : (k : ℕ) → Stored f b b₁ n p (goesIdle k p) r → (b₂ : List ℕ) → b₂ ≡ effectBytes f b₁ (ofKind k (p .effect))
       → Ended k f b b₂ n plan r
-  changes k h b₂ e₂ =
-      record {
-        answer = h .answer ∙ ap (λ q. q .answer) decided;
-        bytes =
-            e₂
-            ∙ ap (λ l. effectBytes f l (ofKind k (p .effect))) (h .bytes)
-            ∙ ap (λ q. effectBytes f (recordBytes f b n q (goesIdle k q)) (ofKind k (q .effect))) decided;
-      }
+  changes k h b₂ e₂ = subst (λ q. Ended k f b b₂ n q r) decided (changed k f b b₁ b₂ n p r h e₂)
 
   -- with none
-  pub reads : Stored f b b₁ n p (ends (p .answer)) r → Ended reading f b b₁ n plan r
+  pub reads : Stored f b b₁ n p (answersOperation (p .answer)) r → Ended reading f b b₁ n plan r
   reads h = changes reading h b₁ (no-effect f b₁ (p .effect))
 
 module _ (D : Shape → Shared → Thread → ℕ → Plan) (f : Frame) (b b₁ : List ℕ) (n w : ℕ) (x : Thread) (p : Plan)
@@ -77,5 +75,5 @@ module _ (D : Shape → Shared → Thread → ℕ → Plan) (f : Frame) (b b₁ 
       → Ended k f b b₂ n (D (f .shape) (sharedIn f b) (threadIn f b n) w) r
   changes-by = changes (λ s m t. D s m t w) f b b₁ n x p r ex ep
 
-  pub reads-by : Stored f b b₁ n p (ends (p .answer)) r → Ended reading f b b₁ n (D (f .shape) (sharedIn f b) (threadIn f b n) w) r
+  pub reads-by : Stored f b b₁ n p (answersOperation (p .answer)) r → Ended reading f b b₁ n (D (f .shape) (sharedIn f b) (threadIn f b n) w) r
   reads-by = reads (λ s m t. D s m t w) f b b₁ n x p r ex ep

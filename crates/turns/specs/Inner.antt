@@ -11,7 +11,7 @@ use Rattle.region.specs.declared.answer.Answer.{Answer}
 use Rattle.region.specs.declared.frame.Frame.{Frame}
 use Rattle.access.specs.Effect.{effectBytes}
 use Rattle.access.specs.Inner.{freeing, ofKind}
-use Rattle.access.specs.Plan.{changesNothing, ends}
+use Rattle.access.specs.Plan.{changesNothing, answersOperation}
 use Rattle.access.specs.declared.plan.Plan.{Plan}
 
 -- the region with a plan's record stored, gone idle where `idle` says so; or as it was where the turn is idle or refused
@@ -26,7 +26,7 @@ pub record Stored (f : Frame) (b b′ : List ℕ) (n : ℕ) (p : Plan) (idle : B
 -- Whether the record goes idle: by the answer, with which an operation ends; by the place at a hand-out, which may answer and go on. That is
 -- told by its effect, since it alone frees a cell and changes no node.
 abbrev pub idleByAnswer : Plan → Bool
-idleByAnswer p = ends (p .answer)
+idleByAnswer p = answersOperation (p .answer)
 
 abbrev pub idleByPlace : Plan → Bool
 idleByPlace p = isIdle (p .thread)

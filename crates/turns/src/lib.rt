@@ -7,7 +7,7 @@ ghost use Rattle.region.specs.Inner.{Within};
 ghost use Rattle.region.specs.Shared.{sharedIn, threadIn};
 ghost use Rattle.region.specs.Thread.{isIdle};
 ghost use Rattle.access.specs.Inner.{cleaning, detaching, exchanging, freeing, growing, popping, pushing, reading};
-ghost use Rattle.access.specs.Plan.{changesNothing, ends};
+ghost use Rattle.access.specs.Plan.{answersOperation, changesNothing};
 ghost use Rattle.extract.specs.Extract.{handOut, listReadRoot, readRoot, removeHead, removeList};
 ghost use Rattle.insert.specs.Insert.{growDepth, insertAtRoot, insertBelow, readAncestor, readDepth, readLeaf, readParent, readTarget};
 ghost use Rattle.moundify.specs.Moundify.{mendClean, mendReadDepth, mendReadLeft, mendReadNode, mendReadRight, mendSwap};
@@ -27,12 +27,13 @@ fn changes_nothing(answer: Answer) -> bool
         Answer::Took(_) => false,
         Answer::Empty => false,
         Answer::Refused(_) => true,
+        Answer::Withdrawn => false,
     }
 }
 
-// Whether an operation ends with this answer.
-fn ends(answer: Answer) -> bool
-    ensures { λ r. ⌜ r ≡ ends answer ⌝ }
+// Whether this is the answer of an operation, which ends with it.
+fn answers_operation(answer: Answer) -> bool
+    ensures { λ r. ⌜ r ≡ answersOperation answer ⌝ }
 {
     match answer {
         Answer::Moved => false,
@@ -41,6 +42,7 @@ fn ends(answer: Answer) -> bool
         Answer::Took(_) => true,
         Answer::Empty => true,
         Answer::Refused(_) => false,
+        Answer::Withdrawn => false,
     }
 }
 
@@ -49,14 +51,14 @@ fn ends(answer: Answer) -> bool
 // field that the turn left alone.
 fn store_record(f: Frame, b: &mut [u8], n: u32, plan: Plan) -> Answer
     requires { ⌜ Within f (length (now b)) ⌝ }
-    ensures { λ r. ⌜ Stored f (now (b .entry)) (now (b .exit)) n plan (ends (plan .answer)) r ⌝ }
+    ensures { λ r. ⌜ Stored f (now (b .entry)) (now (b .exit)) n plan (answersOperation (plan .answer)) r ⌝ }
 {
     let answer = plan.answer;
     if changes_nothing(answer) {
         return answer;
     }
     let record = plan.thread;
-    if ends(answer) {
+    if answers_operation(answer) {
         f.store_thread(b, n, record.gone_idle());
         return answer;
     }
@@ -272,6 +274,17 @@ pub fn turn_hand_out(f: Frame, b: &mut [u8], n: u32) -> Answer
     ensures { λ r. ⌜ Ended freeing f (now (b .entry)) (now (b .exit)) n (handOut (sharedIn f (now (b .entry))) (threadIn f (now (b .entry)) n)) r ⌝ }
 {
     let plan = extract::hand_out(f, b, f.load_thread(b, n));
+    let effect = plan.effect;
+    let answer = store_hand(f, b, n, plan);
+    access::carry_freeing(f, b, effect);
+    answer
+}
+
+// A turn that frees a cell of the thread's own, or none, and makes no access (a withdrawn turn).
+pub fn turn_withdrawn(f: Frame, b: &mut [u8], n: u32, plan: Plan) -> Answer
+    requires { ⌜ Within f (length (now b)) ⌝ }
+    ensures { λ r. ⌜ Ended freeing f (now (b .entry)) (now (b .exit)) n plan r ⌝ }
+{
     let effect = plan.effect;
     let answer = store_hand(f, b, n, plan);
     access::carry_freeing(f, b, effect);

@@ -1,8 +1,8 @@
--- `machine::turn` meets its contract: refused without a thread, idle, or a turn at the place where the thread stands. Assumes
--- nothing.
+-- `machine::turn` meets its contract: refused without a thread, a turn that lacks its permission, idle, or a turn at the place where the
+-- thread stands. Assumes nothing.
 use borrow.Author.Needs.{needs}
 use Rattle.machine.proofs.turn.Statement.{statement}
-use Rattle.machine.proofs.Ways.{no-turn, rested, turned}
+use Rattle.machine.proofs.Ways.{no-turn, rested, turned, turned-lacking}
 use Rattle.machine.proofs.turn.Tie as tie
 
 pub turn-spec : {M : Type 1} → statement M
@@ -12,6 +12,10 @@ turn-spec =
     (λ c κs. search needs)
     (λ c. search no-turn)
     (λ c κs. search needs)
+    (λ c κs. search needs)
+    (λ c κs. search needs)
+    (λ c. search needs)
+    (λ c. search turned-lacking)
     (λ c. search needs)
     (λ c. search needs)
     (λ c κs. search needs)
