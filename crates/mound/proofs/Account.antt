@@ -16,7 +16,8 @@ use Rattle.region.specs.declared.record.Cell.{Cell}
 use Rattle.region.specs.declared.record.Item.{Item}
 use Rattle.region.specs.declared.shape.Shape.{Shape}
 use Rattle.region.specs.declared.thread.Thread.{Thread}
-use Rattle.mound.specs.Account.{anyItem, hasHand, inHands, isPutPlace, putsAmong}
+use Rattle.permission.specs.Withdraw.{isPutPlace}
+use Rattle.mound.specs.Account.{anyItem, hasHand, inHands, putsAmong}
 use Rattle.mound.specs.Ledger.{Ledger, Operation, listing, owing, taking}
 use Rattle.mound.specs.Tree.{inList, inNodes}
 use Rattle.mound.proofs.Cells.{starts}

@@ -45,32 +45,29 @@ UpTo k v = AtMost v (valueOf k)
 -- The facts name the fields that they speak of, so that a step that leaves these leaves the fact.
 
 -- a put of item i that has not decided: the chain from its own cell has that item
-pub record Putting (m : Shared) (permission own : ℕ) (i : Item) (op : Operation) : Type 0 where
+pub record Putting (m : Shared) (own : ℕ) (i : Item) (op : Operation) : Type 0 where
   pub operation : op ≡ putting i
-  pub permitted : 1 ≤ permission
   pub has : HasItems (m .cell) own (i ∷ [])
   pub proper : Proper i
 
 -- a take that is at this point and holds no cell
-pub record Taking (m : Shared) (permission own : ℕ) (at op : Operation) : Type 0 where
+pub record Taking (m : Shared) (own : ℕ) (at op : Operation) : Type 0 where
   pub operation : op ≡ at
-  pub permitted : 1 ≤ permission
   pub has : HasItems (m .cell) own []
 
 -- a take of a list that has decided: the chain from its own cell has the items that it still owes
-pub record Handing (m : Shared) (permission own : ℕ) (op : Operation) : Type 0 where
+pub record Handing (m : Shared) (own : ℕ) (op : Operation) : Type 0 where
   pub first : Item
   pub rest : List Item
   pub operation : op ≡ owing first rest
-  pub permitted : 1 ≤ permission
   pub has : HasItems (m .cell) own (first ∷ rest)
 
 -- the operation of a thread that mends: by after
-pub data MendsFor (m : Shared) (permission own : ℕ) (result : Item) (op : Operation) (after : ℕ) : Type 0 where
-  for-take : after ≡ 0 → Taking m permission own taking op → MendsFor m permission own result op after
-  for-answer : after ≡ 1 → Taking m permission own (owing result []) op → MendsFor m permission own result op after
-  for-list : after ≡ 2 → Taking m permission own listing op → MendsFor m permission own result op after
-  for-hands : after ≡ 3 → Handing m permission own op → MendsFor m permission own result op after
+pub data MendsFor (m : Shared) (own : ℕ) (result : Item) (op : Operation) (after : ℕ) : Type 0 where
+  for-take : after ≡ 0 → Taking m own taking op → MendsFor m own result op after
+  for-answer : after ≡ 1 → Taking m own (owing result []) op → MendsFor m own result op after
+  for-list : after ≡ 2 → Taking m own listing op → MendsFor m own result op after
+  for-hands : after ≡ 3 → Handing m own op → MendsFor m own result op after
 
 -- node n exists and is no deeper than the present depth
 abbrev pub InTree : Shared → ℕ → Type 0
@@ -131,16 +128,16 @@ pub record Mended (m : Shared) (n : ℕ) (q : NodeCopy) : Type 0 where
   pub right : Child m n q (2 * n + 1) AnyValue
 
 abbrev pub Puts : Shared → Thread → Operation → Type 0
-Puts m t op = Putting m (t .permission) (t .own) (t .item) op
+Puts m t op = Putting m (t .own) (t .item) op
 
 abbrev pub Takes : Shared → Thread → Operation → Operation → Type 0
-Takes m t at op = Taking m (t .permission) (t .own) at op
+Takes m t at op = Taking m (t .own) at op
 
 abbrev pub Hands : Shared → Thread → Operation → Type 0
-Hands m t op = Handing m (t .permission) (t .own) op
+Hands m t op = Handing m (t .own) op
 
 abbrev pub Purpose : Shared → Thread → Operation → Type 0
-Purpose m t op = MendsFor m (t .permission) (t .own) (t .result) op (t .after)
+Purpose m t op = MendsFor m (t .own) (t .result) op (t .after)
 
 abbrev pub Mends : Shared → Thread → Operation → Type 0
 Mends m t op = Purpose m t op × InTree m (t .node)
@@ -320,13 +317,12 @@ module _ (m m′ : Shared) (r : Rely m m′) where
     puts-stay h =
         record {
           operation = h .operation;
-          permitted = h .permitted;
           has = kept (t .item ∷ []) (h .has);
           proper = h .proper;
         }
 
     takes-stay : (at : Operation) → Takes m t at op → Takes m′ t at op
-    takes-stay at h = record { operation = h .operation; permitted = h .permitted; has = kept [] (h .has) }
+    takes-stay at h = record { operation = h .operation; has = kept [] (h .has) }
 
     hands-stay : Hands m t op → Hands m′ t op
     hands-stay h =
@@ -334,7 +330,6 @@ module _ (m m′ : Shared) (r : Rely m m′) where
           first = h .first;
           rest = h .rest;
           operation = h .operation;
-          permitted = h .permitted;
           has = kept (h .first ∷ h .rest) (h .has);
         }
 

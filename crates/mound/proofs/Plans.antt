@@ -10,7 +10,7 @@ use mathlib.Core.Logic.{_⊎_, inl, inr}
 use borrow.Author.Tests.{ltb-true, eqb-true, eqb-false, ne-eqb, lt-ltb, le-ltb}
 use lib.Dec.{ltb, eqb}
 use lib.Pow.{pow-mono, pow-pos}
-use Rattle.region.specs.Answer.{counterSpent}
+use Rattle.region.specs.Answer.{counterSpent, unreadable}
 use Rattle.region.specs.Level.{ancestor, level, mark}
 use Rattle.region.specs.Pick.{pick}
 use Rattle.region.specs.Shape.{between, nodeCount}
@@ -18,7 +18,7 @@ use Rattle.region.specs.Inner.{InRange}
 use Rattle.region.specs.Shared.{Shared}
 use Rattle.region.specs.Thread.{goneIdle, mending, atPlace, withOwn, withDepth, withSearch, withNode, withAfter, withResult, withCopies, withFirst, withSecond, withThird}
 use Rattle.region.specs.declared.answer.Answer.{Answer}
-use Rattle.region.specs.declared.answer.Answer.the-variants.{Moved, Idle as AnswersIdle, Inserted, Took, Empty, Refused}
+use Rattle.region.specs.declared.answer.Answer.the-variants.{Moved, Idle as AnswersIdle, Inserted, Took, Empty, Refused, Withdrawn}
 use Rattle.region.specs.declared.place.Place.{Place}
 use Rattle.region.specs.declared.place.Place.the-variants.{Idle, ReadDepth, ReadLeaf, ReadAncestor, GrowDepth, ReadTarget, InsertAtRoot, ReadParent, InsertBelow, ReadRoot, RemoveHead, MendReadNode, MendReadDepth, MendReadLeft, MendReadRight, MendSwap, MendClean, ListReadRoot, RemoveList, HandOut}
 use Rattle.region.specs.declared.record.Item.{Item}
@@ -41,8 +41,10 @@ use Rattle.insert.specs.Insert.{searching, readDepth, searchOn, leafOf, nextTri
 use Rattle.insert.proofs.Laws.{node-same, parent-same}
 use Rattle.extract.specs.Extract.{afterListRemoval, afterRemoval, afterRootRead, casRoot, handOut, handedOut, listReadRoot, readRoot, removeHead, removeList}
 use Rattle.moundify.specs.Moundify.{returning, mendReadNode, afterDepthRead, mendReadDepth, mendReadLeft, marked, lessBelow, childLess, afterChildrenRead, mendReadRight, exchangeAt, nodeAndChildSame, exchangeWith, mendSwap, cleanAt, mendClean, placeAfter, returned, returnAnswer}
+use Rattle.permission.specs.Grants.{mayPut, mayTake}
+use Rattle.permission.specs.Withdraw.{isPutPlace, isTakePlace, isUnreadable, lacksPermission, permitted, withdrawal}
 use Rattle.machine.specs.Turn.{decide, decideAt}
-use Rattle.mound.specs.Ledger.{Operation, Undecided, none, one-item, owing, putting, listing, stillOwing, taking, whole-list}
+use Rattle.mound.specs.Ledger.{Operation, Undecided, UndecidedTake, a-put, a-take, none, one-item, owing, putting, listing, stillOwing, taking, whole-list}
 use Rattle.mound.proofs.Chains.{HasItems, some-items}
 use Rattle.mound.proofs.Effects.{Mound, PushAllowed, PopAllowed, ExchangeAllowed, CleanAllowed, DetachAllowed, FreeAllowed, in-tree}
 use Rattle.mound.proofs.Facts.{At, AnyValue, Child, ChildRead, Dirty, Hands, InTree, Inner, LevelRead, Mended, Mends, Parent, Purpose, Puts, RootRead, Searching, Sound, Swappable, Takes, Target, for-answer, for-hands, for-list, for-take, sound-read}
@@ -72,11 +74,13 @@ pub data OperationAfter (m : Shared) (op op′ : Operation) : Effect → Answer 
   removes : {v : Node} {c : ℕ} → op ≡ taking → op′ ≡ owing (m .cell c .item) [] → OperationAfter m op op′ (Pop v c) Moved
   detaches : {v : Node} (i : Item) (is : List Item) → op ≡ listing → HasItems (m .cell) (m .node 1 .first) (i ∷ is) → op′ ≡ owing i is
       → OperationAfter m op op′ (Detach v) Moved
-  empties : {o : Operation} → op ≡ o → Undecided o → op′ ≡ none → m .node 1 .dirty ≡ 0 → m .node 1 .first ≡ 0
+  empties : {o : Operation} → op ≡ o → UndecidedTake o → op′ ≡ none → m .node 1 .dirty ≡ 0 → m .node 1 .first ≡ 0
       → OperationAfter m op op′ Nothing Empty
   answers : {i : Item} → op ≡ owing i [] → op′ ≡ none → OperationAfter m op op′ Nothing (Took i)
   cleans-answers : {n : ℕ} {v : Node} {i : Item} → op ≡ owing i [] → op′ ≡ none → OperationAfter m op op′ (Clean n v) (Took i)
   hands-out : {c : ℕ} {i : Item} (is : List Item) → op ≡ owing i is → op′ ≡ stillOwing is → OperationAfter m op op′ (Free c) (Took i)
+  frees-withdrawn : {c : ℕ} {o : Operation} → op ≡ o → Undecided o → op′ ≡ none → OperationAfter m op op′ (Free c) Withdrawn
+  leaves-withdrawn : {o : Operation} → op ≡ o → Undecided o → op′ ≡ none → OperationAfter m op op′ Nothing Withdrawn
 
 -- a turn with such an effect and answer is carried out
 pub operation-moves : {m : Shared} {op op′ : Operation} {e : Effect} {a : Answer} → OperationAfter m op op′ e a → changesNothing a ≡ false
@@ -91,6 +95,8 @@ operation-moves (empties x y z w u) = refl
 operation-moves (answers x y) = refl
 operation-moves (cleans-answers x y) = refl
 operation-moves (hands-out is x y) = refl
+operation-moves (frees-withdrawn x y z) = refl
+operation-moves (leaves-withdrawn x y z) = refl
 
 -- the own cell afterwards: a push or a freeing takes it and leaves the one behind it, a detaching gives the root's first, nothing else changes it
 abbrev pub OwnAfter : Shared → Effect → ℕ → ℕ → Type 0
@@ -366,7 +372,7 @@ module _ (s : Shape) (r : InRange s) (m : Shared) (own : ℕ → ℕ) {all : ℕ
       neither false q e z = z
 
   -- E1 and 17: o is the operation, whose mending comes back here
-  root-read-planned : (o : Operation) → Undecided o → (after : ℕ) (next : Place) → Takes m th o op
+  root-read-planned : (o : Operation) → UndecidedTake o → (after : ℕ) (next : Place) → Takes m th o op
       → Purpose m (withAfter (withFirst th (readNode m 1)) after) op
       → (RootRead m (readNode m 1) → At s m (withFirst th (readNode m 1)) op next) → Fits (afterRootRead th (readNode m 1) after next)
   unfolding afterRootRead withFirst withCopies withAfter plan goneIdle readNode
@@ -414,7 +420,7 @@ module _ (s : Shape) (r : InRange s) (m : Shared) (own : ℕ → ℕ) {all : ℕ
         value = ap (λ x. updated x (q .head .next) 1) (sym fn) ∙ ap (λ c. updated (m .node 1) (c .next) 1) (sym fh);
       })
       (removes (h .operation) (ap (λ c. owing (c .item) []) (sym fh))) refl
-      (for-answer refl (record { operation = refl; permitted = h .permitted; has = h .has }), root-in-tree))
+      (for-answer refl (record { operation = refl; has = h .has }), root-in-tree))
 
   -- the root's list, which the thread will have in hand
   list-planned : Takes m th listing op → RootRead m (th .copies .first) → Fits (removeList m th)
@@ -439,7 +445,6 @@ module _ (s : Shape) (r : InRange s) (m : Shared) (own : ℕ → ℕ) {all : ℕ
               first = l .first;
               rest = l .rest;
               operation = refl;
-              permitted = h .permitted;
               has = subst (λ c. HasItems (m .cell) c (l .first ∷ l .rest)) first (l .has);
             }),
         root-in-tree,
@@ -472,7 +477,7 @@ module _ (s : Shape) (r : InRange s) (m : Shared) (own : ℕ → ℕ) {all : ℕ
       further [] k e n = absurd (n k)
       further (i ∷ is) k e n =
           moves (owing i is) allowed (hands-out (i ∷ is) (owes (i ∷ is) e) refl) refl
-          (record { first = i; rest = is; operation = refl; permitted = h .permitted; has = k })
+          (record { first = i; rest = is; operation = refl; has = k })
 
   -- Mending, with the waiting levels w.
   module _ (w : ℕ) where
@@ -777,6 +782,53 @@ module _ (s : Shape) (r : InRange s) (m : Shared) (own : ℕ → ℕ) {all : ℕ
   place-planned choice RemoveList h = list-planned (h .0) (h .1)
   place-planned choice HandOut h = hand-planned h
 
+  -- a thread at a put's places has a put under way, at a take's a take that has not decided
+  abbrev Stands : Bool → Bool → Type 0
+  Stands true q = Puts m th op
+  Stands false true = (o : Operation) × UndecidedTake o × Takes m th o op
+  Stands false false = Unit
+
+  stands : (p : Place) → At s m th op p → Stands (isPutPlace p) (isTakePlace p)
+  unfolding isPutPlace isTakePlace between
+  stands Idle h = tt
+  stands ReadDepth h = h
+  stands ReadLeaf h = h .0
+  stands ReadAncestor h = h .0
+  stands GrowDepth h = h .0
+  stands ReadTarget h = h .0
+  stands InsertAtRoot h = h .0
+  stands ReadParent h = h .0
+  stands InsertBelow h = h .0
+  stands ReadRoot h = (taking, one-item, h)
+  stands RemoveHead h = (taking, one-item, h .0)
+  stands (MendReadNode w) h = tt
+  stands (MendReadDepth w) h = tt
+  stands (MendReadLeft w) h = tt
+  stands (MendReadRight w) h = tt
+  stands (MendSwap w) h = tt
+  stands (MendClean w) h = tt
+  stands ListReadRoot h = (listing, whole-list, h)
+  stands RemoveList h = (listing, whole-list, h .0)
+  stands HandOut h = tt
+
+  -- so its withdrawal ends an operation that has not decided, and a put's cell is its own
+  withdrawal-planned : At s m th op (th .place) → lacksPermission th ≡ true → Fits (withdrawal th)
+  unfolding withdrawal lacksPermission plan goneIdle pick
+  withdrawal-planned h = go (isPutPlace (th .place)) (isTakePlace (th .place)) (stands (th .place) h)
+    where
+      go : (p q : Bool) → Stands p q → (p && not (mayPut th)) || (q && not (mayTake th)) ≡ true
+          → Fits
+          (pick p (pick (eqb (th .own) 0) (refused th unreadable) (plan (Free (th .own)) (goneIdle th) Withdrawn)) (plan Nothing (goneIdle th) Withdrawn))
+      go true q k e =
+          pick-good Fits (eqb (th .own) 0) (λ z. absurd (let none = eqb-true (th .own) 0 z in omega (arith, k .has .0)))
+          (λ z. moves none (record { mine = mine; cell = k .has .0 }) (frees-withdrawn (k .operation) a-put refl) (sym (k .has .2)) (refl, refl))
+      go false true k e = moves none tt (leaves-withdrawn (k .2 .operation) (a-take (k .1)) refl) (sym (k .2 .has)) (refl, refl)
+      go false false k e = absurd (true≢false (sym e))
+
   pub planned : At s m th op (th .place) → (choice : ℕ) → Fits (decide s m th choice)
-  unfolding decide
-  planned h choice = place-planned choice (th .place) h
+  unfolding decide permitted
+  planned h choice =
+      let p = decideAt s m th choice (th .place) in
+      pick-good Fits (lacksPermission th && not (isUnreadable (p .answer)))
+      (λ e. withdrawal-planned h (and-left (lacksPermission th) (not (isUnreadable (p .answer))) e))
+      (λ e. place-planned choice (th .place) h)

@@ -11,7 +11,7 @@ use Rattle.region.specs.Pick.{pick, upd}
 use Rattle.region.specs.Shared.{Shared, setCell, setFree}
 use Rattle.region.specs.Thread.{atPlace, begunPut, withItem, withOwn}
 use Rattle.region.specs.declared.answer.Answer.{Answer}
-use Rattle.region.specs.declared.answer.Answer.the-variants.{Moved, Idle, Inserted, Took, Empty, Refused}
+use Rattle.region.specs.declared.answer.Answer.the-variants.{Moved, Idle, Inserted, Took, Empty, Refused, Withdrawn}
 use Rattle.region.specs.declared.place.Place.{Place}
 use Rattle.region.specs.declared.place.Place.the-variants.{Idle as AtRest, ReadRoot, ListReadRoot}
 use Rattle.region.specs.declared.record.Item.{Item}
@@ -25,15 +25,15 @@ use Rattle.access.specs.declared.effect.Effect.{Effect}
 use Rattle.access.specs.declared.effect.Effect.the-variants.{Nothing, Grow, Push, Pop, Exchange, Clean, Detach, Free}
 use Rattle.access.specs.declared.plan.Plan.{Plan}
 use Rattle.access.proofs.OrderLaws.{item-less, item-trans}
-use Rattle.mound.specs.Ledger.{Operation, none, putting, taking, listing, owing, stillOwing, Ledger, Follows, still, put-begins, take-begins, list-begins, put-decides, take-decides, list-decides, empty-decides, take-answers, HoldsAll, Least, listLess, oneMore, oneLess}
-use Rattle.mound.specs.Told.{Told, nothing, beginsPut, beginsTake, beginsList, decidesPut, decidesTake, decidesList, decidesEmpty, answersTook}
+use Rattle.mound.specs.Ledger.{Operation, none, putting, taking, listing, owing, stillOwing, Ledger, Follows, still, put-begins, take-begins, list-begins, put-decides, take-decides, list-decides, empty-decides, take-answers, ends-withdrawn, HoldsAll, Least, listLess, oneMore, oneLess}
+use Rattle.mound.specs.Told.{Told, nothing, beginsPut, beginsTake, beginsList, decidesPut, decidesTake, decidesList, decidesEmpty, answersTook, withdraws}
 use Rattle.mound.specs.Tree.{itemsOf, listFrom, sameItem}
 use Rattle.mound.proofs.Chains.{HasItems, ItemsStay, among, has-items, items, length-items, list-items, only-items}
 use Rattle.mound.proofs.Effects.{Keeps, Mound, in-tree, root-there, value-there, rely-same, begin-keeps, begin-counts, grow-keeps, grow-counts, push-keeps, push-counts, push-rest, pop-keeps, pop-counts, pop-items-stay, exchange-keeps, exchange-counts, clean-keeps, clean-counts, detach-keeps, detach-counts, free-keeps, free-counts, free-rest}
 use Rattle.mound.proofs.Facts.{At, Takes, stays}
 use Rattle.mound.proofs.Held.{counted, few-cells, held-by, head-held, node-chain}
 use Rattle.mound.proofs.Order.{root-above}
-use Rattle.mound.proofs.Plans.{Allowed, OwnAfter, OperationAfter, reads, grows, swaps, cleans, inserts, removes, detaches, empties, answers, cleans-answers, hands-out}
+use Rattle.mound.proofs.Plans.{Allowed, OwnAfter, OperationAfter, reads, grows, swaps, cleans, inserts, removes, detaches, empties, answers, cleans-answers, hands-out, frees-withdrawn, leaves-withdrawn}
 use Rattle.mound.proofs.Sorted.{AtMost, Proper, Sorted, same-item, item-same, valueAt}
 
 -- each thread's own cell
@@ -172,6 +172,7 @@ quietTells t Inserted = nothing
 quietTells t (Took i) = answersTook t i
 quietTells t Empty = decidesEmpty t
 quietTells t (Refused n) = nothing
+quietTells t Withdrawn = withdraws t
 
 abbrev pub effectTells : Item → List Item → ℕ → Answer → Effect → Told
 effectTells i is t a Nothing = quietTells t a
@@ -224,6 +225,18 @@ module _ (s : Shape) (m : Shared) (own own′ : ℕ → ℕ) (l : Ledger) {all :
   module _ (op op′ : Operation) (is : l .operation t ≡ op) where
     at-rest : op′ ≡ op → l .operation t ≡ op′
     at-rest e = is ∙ sym e
+
+    -- a cell of the thread's own is freed, and its operation is op″ then
+    freed : (c : ℕ) (op″ : Operation) → Allowed s m own t (Free c) → OwnAfter m (Free c) (own t) (own′ t) → op″ ≡ op′
+        → Stepped s m (effectShared m (Free c)) own own′ l (later op″) all t op′
+    unfolding effectShared
+    freed c op″ al ow e =
+        record {
+          keeps = free-keeps s m own own′ g t c lt ut al ow still-own;
+          others = λ u y. upd-other (l .operation) t u op″ y;
+          now = upd-same (l .operation) t op″ ∙ e;
+          bag = λ j. bag j ∙ sym (free-counts s m own own′ g t c lt ut al ow still-own j);
+        }
 
     pub step : (e : Effect) (a : Answer) → Allowed s m own t e → OperationAfter m op op′ e a → OwnAfter m e (own t) (own′ t) → Step e a op′
     unfolding effectShared
@@ -322,14 +335,24 @@ module _ (s : Shape) (m : Shared) (own own′ : ℕ → ℕ) (l : Ledger) {all :
         record {
           after = later (stillOwing rest);
           follows = take-answers (is ∙ eo);
-          stepped =
-              record {
-                keeps = free-keeps s m own own′ g t c lt ut al ow still-own;
-                others = λ u y. upd-other (l .operation) t u (stillOwing rest) y;
-                now = upd-same (l .operation) t (stillOwing rest) ∙ sym en;
-                bag = λ j. bag j ∙ sym (free-counts s m own own′ g t c lt ut al ow still-own j);
-              };
+          stepped = freed c (stillOwing rest) al ow (sym en);
           mine = subst (ItemsStay (m .cell) (effectShared m (Free c) .cell)) (sym ow) (free-rest s m own own′ g t c lt ut al ow still-own);
+        }
+    step (Free c) Withdrawn al (frees-withdrawn eo un en) ow =
+        record {
+          after = later none;
+          follows = ends-withdrawn (is ∙ eo) un;
+          stepped = freed c none al ow (sym en);
+          mine = subst (ItemsStay (m .cell) (effectShared m (Free c) .cell)) (sym ow) (free-rest s m own own′ g t c lt ut al ow still-own);
+        }
+    step Nothing Withdrawn al (leaves-withdrawn eo un en) ow =
+        record {
+          after = later none;
+          follows = ends-withdrawn (is ∙ eo) un;
+          stepped =
+              quiet Nothing (later none) op′ ow nothing-keeps (λ i. refl) (λ i. refl) (λ u y. upd-other (l .operation) t u none y)
+              (upd-same (l .operation) t none ∙ sym en);
+          mine = λ is h. h;
         }
     step Nothing Empty al (empties eo un en clean nobody) ow =
         record {
@@ -413,7 +436,7 @@ module _ (s : Shape) (m : Shared) (th : ℕ → Thread) (l : Ledger) {all : ℕ}
             (subst (ItemsStay (m .cell) (effectShared m (p .effect) .cell)) (own-now v) (st .mine));
       }
 
-  module _ (idle : th t .place ≡ AtRest) (may : 1 ≤ th t .permission) where
+  module _ (idle : th t .place ≡ AtRest) where
     resting : At s m (th t) (l .operation t) AtRest
     resting = subst (At s m (th t) (l .operation t)) idle (inv .at t)
 
@@ -443,7 +466,7 @@ module _ (s : Shape) (m : Shared) (th : ℕ → Thread) (l : Ledger) {all : ℕ}
                   now = upd-same (l .operation) t op;
                   bag = inv .bag;
                 })
-                (there (record { operation = refl; permitted = may; has = resting .1 }));
+                (there (record { operation = refl; has = resting .1 }));
           }
 
     pub take-begun : NextState s l all (beginsTake t) m (upd th t (atPlace (th t) ReadRoot))
@@ -495,7 +518,6 @@ module _ (s : Shape) (m : Shared) (th : ℕ → Thread) (l : Ledger) {all : ℕ}
                 stepped-invariant s m begun th l (begins (putting i)) t putter (putting i) (inv .at) put-stepped
                 (record {
                   operation = refl;
-                  permitted = may;
                   has = (free, ap (λ y. y .item) filled, ap (λ y. y .next) filled);
                   proper = proper;
                 });
