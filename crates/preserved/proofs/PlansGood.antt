@@ -16,7 +16,7 @@ use Rattle.region.specs.Inner.{InRange}
 use Rattle.region.specs.Shared.{Shared}
 use Rattle.region.specs.Thread.{goneIdle, mending, atPlace, withItem, withOwn, withDepth, withSearch, withNode, withAfter, withResult, withFirst, withSecond, withThird}
 use Rattle.region.specs.declared.answer.Answer.{Answer}
-use Rattle.region.specs.declared.answer.Answer.the-variants.{Moved}
+use Rattle.region.specs.declared.answer.Answer.the-variants.{Moved, Withdrawn}
 use Rattle.region.specs.declared.place.Place.{Place}
 use Rattle.region.specs.declared.place.Place.the-variants.{Idle as AtRest, ReadDepth, ReadLeaf, ReadAncestor, GrowDepth, ReadTarget, InsertAtRoot, ReadParent, InsertBelow, ReadRoot, RemoveHead, MendReadNode, MendReadDepth, MendReadLeft, MendReadRight, MendSwap, MendClean, ListReadRoot, RemoveList, HandOut}
 use Rattle.region.specs.declared.record.Item.{Item}
@@ -38,6 +38,7 @@ use Rattle.access.proofs.ReadLaws.{next-counter, updated-counter, updated-dirty
 use Rattle.insert.specs.Insert.{searching, readDepth, searchOn, leafOf, nextTries, failedPlace, afterFailedTry, afterLeafRead, readLeaf, afterAncestorRead, middleLevel, hasMiddle, readAncestor, growDepth, targetPlace, readTarget, insertAt, insertAtRoot, readParent, insertBelow}
 use Rattle.extract.specs.Extract.{afterRootRead, readRoot, listReadRoot, afterRemoval, afterListRemoval, casRoot, removeHead, removeList, handedOut, handOut}
 use Rattle.moundify.specs.Moundify.{returning, mendReadNode, afterDepthRead, mendReadDepth, mendReadLeft, marked, childLess, afterChildrenRead, mendReadRight, exchangeAt, nodeAndChildSame, exchangeWith, mendSwap, cleanAt, mendClean, placeAfter, returned, returnAnswer}
+use Rattle.permission.specs.Withdraw.{isPutPlace, withdrawal}
 use Rattle.readable.proofs.Stores.{NodeGood, CopyGood, FieldsGood, WaitsAbove, PlaceGood, ThreadGood, SharedGood, idle-good}
 use Rattle.preserved.proofs.TreeLevels.{waits-at-child, waits-marked, waits-returned}
 
@@ -406,6 +407,15 @@ module _ (s : Shape) (r : InRange s) (m : Shared) (sm : SharedGood s m) where
         pick-good (PlanGood s) (eqb (t .own) 0) (λ h. refused-good s t gt unreadable)
         (λ h. plan-good s (Free (t .own)) _ _ (own-cell (eqb-false (t .own) 0 h))
         (pick-good (ThreadGood s) (eqb (c .next) 0) (λ k. gone-good s t g) (λ k. at-good s (withOwn t (c .next)) f HandOut tt)))
+
+    -- the withdrawal at a put's and a take's places
+    pub withdrawal-good : PlanGood s (withdrawal t)
+    unfolding withdrawal
+    withdrawal-good =
+        pick-good (PlanGood s) (isPutPlace (t .place))
+        (λ p. pick-good (PlanGood s) (eqb (t .own) 0) (λ h. refused-good s t gt unreadable)
+        (λ h. plan-good s (Free (t .own)) _ Withdrawn (own-cell (eqb-false (t .own) 0 h)) (gone-good s t g)))
+        (λ p. plan-good s Nothing _ Withdrawn tt (gone-good s t g))
 
     -- Mending, with the waiting levels w above the node's.
     module _ (w : ℕ) (hw : WaitsAbove (t .node) w) where

@@ -4,20 +4,21 @@
 use Prim.Native.Nat.{ℕ, _^_, _≤_, _<_}
 use native.Mathlib.Omega.{arith}
 use mathlib.Core.Path.{_≡_, refl, sym, ap, subst, _∙_}
-use mathlib.Core.Bool.{Bool, true, false, not, true≢false}
+use mathlib.Core.Bool.{Bool, true, false, not, _&&_, true≢false}
 use mathlib.Core.List.{List}
-use borrow.Author.Tests.{eqb-true, eq-eqb, leb-true}
+use borrow.Author.Tests.{eqb-true, eqb-false, eq-eqb, leb-true}
 use lib.Dec.{leb, eqb}
 use lib.ListN.{length}
 use Rattle.words.specs.Word.{word, setWord}
-use Rattle.words.proofs.Laws.{word-other, length-setWord}
+use Rattle.words.proofs.Laws.{word-other, word-same, length-setWord}
 use Rattle.region.specs.Answer.{done, badThread}
+use Rattle.region.specs.Frame.{threadsOf}
 use Rattle.region.specs.Inner.{Framed, InRange}
 use Rattle.region.specs.Pick.{pick}
 use Rattle.region.specs.Record.{greatestKey, greatestTag}
 use Rattle.region.specs.Shape.{between}
-use Rattle.region.specs.Shared.{Shared, cellIn, setCellIn, setNodeIn, threadIn, setThreadIn, sharedIn}
-use Rattle.region.specs.Thread.{atPlace, begunPut, idleThread, isIdle}
+use Rattle.region.specs.Shared.{Shared, cellIn, entry, setCellIn, setNodeIn, setPermissionIn, threadIn, setThreadIn, sharedIn}
+use Rattle.region.specs.Thread.{atPlace, begunPut, greatestPermission, idleThread, isIdle}
 use Rattle.region.specs.declared.answer.Answer.the-variants.{Idle as AnswerIdle}
 use Rattle.region.specs.declared.frame.Frame.{Frame}
 use Rattle.region.specs.declared.place.Place.{Place}
@@ -26,9 +27,10 @@ use Rattle.region.specs.declared.record.Cell.{Cell}
 use Rattle.region.specs.declared.record.Item.{Item}
 use Rattle.region.specs.declared.shape.Shape.{Shape}
 use Rattle.region.specs.declared.thread.Thread.{Thread}
+use Rattle.region.proofs.Entries.{entry-end}
 use Rattle.region.proofs.Picks.{pick-good, upd-other}
 use Rattle.region.proofs.Shapes.{and-left, and-right, between-least, between-most}
-use Rattle.region.proofs.Views.{length-setCellIn, length-setThreadIn, outside-word, shared-setCell, shared-setFree, threads-kept, threads-outside, threads-setCell, threads-setFree, threads-setThread, word-setCell, word-setCellIn, word-setNode, word-setThread}
+use Rattle.region.proofs.Views.{length-setCellIn, length-setThreadIn, others-setPermission, outside-word, permission-there, shared-setCell, shared-setFree, threads-kept, threads-outside, threads-setCell, threads-setFree, threads-setThread, word-setCell, word-setCellIn, word-setNode, word-setPermission, word-setThread}
 use Rattle.access.specs.Effect.{effectBytes, freedBytes, pushBytes}
 use Rattle.access.specs.Order.{itemLt, topItem}
 use Rattle.access.specs.Plan.{changesNothing, refused}
@@ -39,15 +41,19 @@ use Rattle.access.proofs.EffectLaws.{effect-word, framed-node}
 use Rattle.access.proofs.OrderLaws.{item-below-top}
 use Rattle.readable.specs.Readable.{readable, frameIn}
 use Rattle.readable.proofs.Laws.{Good, good}
-use Rattle.readable.proofs.Stores.{CellGood, FieldsGood, Keeps, PlaceGood, SharedGood, ThreadGood, good-shared, good-thread, keeps-more, keeps-same, keeps-setThread, make-good, readable-kept, shape-kept, thread-fit, threads-pass}
-use Rattle.begin.specs.Begin.{BeginsAt, one-item, whole-list, isItem, mayPut, mayTake, acceptedPut, acceptedTake, hasFreeCell, putBytes, putBytesIn, putRefusalIn, takeBytes, takeBytesIn, takeRefusalIn}
+use Rattle.readable.proofs.Stores.{CellGood, FieldsGood, Keeps, PlaceGood, SharedGood, ThreadGood, good-shared, good-thread, keeps-more, keeps-same, keeps-setPermission, keeps-setThread, make-good, readable-kept, shape-kept, thread-fit, threads-pass}
+use Rattle.permission.specs.Grants.{mayPut, mayTake}
+use Rattle.permission.specs.Permit.{permitBytes, permitBytesIn, permitRefusalIn}
+use Rattle.permission.specs.Withdraw.{isUnreadable, lacksPermission, permitted}
+use Rattle.permission.proofs.Laws.{permit-bytes-in, permit-refusal-in}
+use Rattle.begin.specs.Begin.{BeginsAt, one-item, whole-list, isItem, acceptedPut, acceptedTake, hasFreeCell, putBytes, putBytesIn, putRefusalIn, takeBytes, takeBytesIn, takeRefusalIn}
 use Rattle.begin.proofs.Laws.{put-bytes-in, take-bytes-in}
 use Rattle.machine.specs.Turn.{carriedOut, decide, decideAt, turnBytes, turnPlan}
-use Rattle.preserved.specs.Theorems.{EmptyIsAbove, OutsideEffect, TurnKeepsReadable, PutKeepsReadable, TakeKeepsReadable, TurnKeepsShape, PutKeepsShape, TakeKeepsShape, TurnLeavesOthers, PutLeavesOthers, TakeLeavesOthers, TurnLeavesWords}
+use Rattle.preserved.specs.Theorems.{EmptyIsAbove, OutsideEffect, TurnKeepsReadable, PutKeepsReadable, TakeKeepsReadable, PermitKeepsReadable, TurnKeepsShape, PutKeepsShape, TakeKeepsShape, PermitKeepsShape, TurnLeavesOthers, PutLeavesOthers, TakeLeavesOthers, PermitLeavesOthers, PermitChangesOneWord, TurnLeavesWords}
 use Rattle.preserved.proofs.EffectsGood.{cell-fit, few-cells, keeps-effect, set-cell}
-use Rattle.preserved.proofs.PlansGood.{PlanGood, at-good, fields-item, fields-own, plan-good, readDepth-good, readLeaf-good, readAncestor-good, growDepth-good, readTarget-good, insertAtRoot-good, readParent-good, insertBelow-good, readRoot-good, removeHead-good, mendReadNode-good, mendReadDepth-good, mendReadLeft-good, mendReadRight-good, mendSwap-good, mendClean-good, listReadRoot-good, removeList-good, handOut-good}
+use Rattle.preserved.proofs.PlansGood.{PlanGood, at-good, fields-item, fields-own, plan-good, readDepth-good, readLeaf-good, readAncestor-good, growDepth-good, readTarget-good, insertAtRoot-good, readParent-good, insertBelow-good, readRoot-good, removeHead-good, mendReadNode-good, mendReadDepth-good, mendReadLeft-good, mendReadRight-good, mendSwap-good, mendClean-good, listReadRoot-good, removeList-good, handOut-good, withdrawal-good}
 
--- every place's plan is in range
+-- every place's plan is in range, and so is its withdrawal
 module _ (s : Shape) (r : InRange s) (m : Shared) (sm : SharedGood s m) (t : Thread) (gt : ThreadGood s t) (c : ℕ) where
   at-place : (p : Place) → PlaceGood s t p → PlanGood s (decideAt s m t c p)
   at-place Idle h = plan-good s Nothing t AnswerIdle tt gt
@@ -72,8 +78,11 @@ module _ (s : Shape) (r : InRange s) (m : Shared) (sm : SharedGood s m) (t : Thr
   at-place HandOut h = handOut-good s r m sm t gt
 
   pub decided : PlanGood s (decide s m t c)
-  unfolding decide
-  decided = at-place (t .place) (gt .place)
+  unfolding decide permitted
+  decided =
+      pick-good (PlanGood s) (lacksPermission t && not (isUnreadable (decideAt s m t c (t .place) .answer)))
+      (λ h. withdrawal-good s r m sm t gt)
+      (λ h. at-place (t .place) (gt .place))
 
 -- Carrying out a plan in range.
 module _ (f : Frame) (b : List ℕ) (g : Good f b) (t : ℕ) (l : 1 ≤ t) (u : t ≤ f .shape .threads) (p : Plan)
@@ -309,6 +318,83 @@ put-keeps-readable b e t i = readable-kept b _ e (put-keeps-on b e t i)
 
 pub put-keeps-shape : PutKeepsShape
 put-keeps-shape b e t i = shape-kept b _ e (put-keeps-on b e t i)
+
+-- A permission: what a call that is not refused passed
+pub record PermitPassed (f : Frame) (t p : ℕ) : Type 0 where
+  pub thread : between 1 t (f .shape .threads) ≡ true
+  pub permission : p ≤ greatestPermission
+
+pub permit-passed : (f : Frame) (t p : ℕ) → permitRefusalIn f t p ≡ done → PermitPassed f t p
+unfolding permitRefusalIn
+permit-passed f t p e =
+    let thread = in-order (between 1 t (f .shape .threads)) _ 3 (λ z. omega arith) e in
+    let permission = in-order (leb p greatestPermission) _ 1 (λ z. omega arith) (thread .1) in
+    record { thread = thread .0; permission = leb-true p greatestPermission (permission .0) }
+
+module _ (f : Frame) (t p : ℕ) (passed : PermitPassed f t p) where
+  pub permit-least : 1 ≤ t
+  permit-least = between-least 1 t (f .shape .threads) (passed .thread)
+
+  pub permit-most : t ≤ f .shape .threads
+  permit-most = between-most 1 t (f .shape .threads) (passed .thread)
+
+-- the call sets the permission, or is refused and leaves the bytes alone
+module _ (f : Frame) (b : List ℕ) (t p : ℕ) where
+  permit-either : (P : List ℕ → Type 0) → (PermitPassed f t p → P (setPermissionIn f b t p)) → ((permitRefusalIn f t p ≡ done → ⊥) → P b)
+      → P (permitBytesIn f b t p)
+  unfolding permitBytesIn
+  permit-either P set same =
+      pick-good P (eqb (permitRefusalIn f t p) done) (λ e. set (permit-passed f t p (eqb-true (permitRefusalIn f t p) done e)))
+      (λ e. same (eqb-false (permitRefusalIn f t p) done e))
+
+  permit-others : Framed f (length b) → (u : ℕ) → (u ≡ t → ⊥) → threadIn f (permitBytesIn f b t p) u ≡ threadIn f b u
+  permit-others framed u n =
+      permit-either (λ x. threadIn f x u ≡ threadIn f b u)
+      (λ passed. others-setPermission f b framed t p (permit-least f t p passed) (permit-most f t p passed) u n)
+      (λ h. refl)
+
+  permit-words : (j : ℕ) → (j ≡ entry (threadsOf f) t → ⊥) → word (permitBytesIn f b t p) j ≡ word b j
+  permit-words j n = permit-either (λ x. word x j ≡ word b j) (λ passed. word-setPermission f b t j p n) (λ h. refl)
+
+  permit-sets : Framed f (length b) → permitRefusalIn f t p ≡ done → word (permitBytesIn f b t p) (entry (threadsOf f) t) ≡ p
+  permit-sets framed e =
+      let at = entry (threadsOf f) t in
+      permit-either (λ x. word x at ≡ p)
+      (λ passed. let l = permit-least f t p passed in
+      let u = permit-most f t p passed in
+      ap (λ x. word x at) (permission-there f b framed t p l u)
+      ∙ word-same b at p (omega (arith, entry-end (threadsOf f) t (λ z. omega arith) u, framed)) (omega (arith, passed .permission)))
+      (λ h. absurd (h e))
+
+pub permit-keeps : (f : Frame) (b : List ℕ) → Good f b → (t p : ℕ) → Keeps f b (permitBytesIn f b t p)
+permit-keeps f b g t p =
+    permit-either f b t p (Keeps f b)
+    (λ passed. keeps-setPermission f b g t p (permit-least f t p passed) (permit-most f t p passed) (passed .permission))
+    (λ h. keeps-same g)
+
+-- on a readable region
+permit-keeps-on : (b : List ℕ) → readable b ≡ true → (t p : ℕ) → Keeps (frameIn b) b (permitBytes b t p)
+permit-keeps-on b e t p = subst (Keeps (frameIn b) b) (sym (permit-bytes-in b e t p)) (permit-keeps (frameIn b) b (good b e) t p)
+
+pub permit-keeps-readable : PermitKeepsReadable
+permit-keeps-readable b e t p = readable-kept b _ e (permit-keeps-on b e t p)
+
+pub permit-keeps-shape : PermitKeepsShape
+permit-keeps-shape b e t p = shape-kept b _ e (permit-keeps-on b e t p)
+
+pub permit-leaves-others : PermitLeavesOthers
+permit-leaves-others b e t p u n =
+    ap (λ x. threadIn (frameIn b) x u) (permit-bytes-in b e t p) ∙ permit-others (frameIn b) b t p (good b e .framed) u n
+
+pub permit-changes-one-word : PermitChangesOneWord
+permit-changes-one-word b e t p =
+    let f = frameIn b in
+    record {
+      others = λ j n. ap (λ x. word x j) (permit-bytes-in b e t p) ∙ permit-words f b t p j n;
+      permission = λ h.
+          ap (λ x. word x (entry (threadsOf f) t)) (permit-bytes-in b e t p)
+          ∙ permit-sets f b t p (good b e .framed) (sym (permit-refusal-in b e t p) ∙ h);
+    }
 
 -- What a turn leaves alone: storing a record of thread t's leaves every other thread's alone
 store-others : (f : Frame) (b : List ℕ) → Good f b → (t : ℕ) → 1 ≤ t → t ≤ f .shape .threads → (v : Thread) → ThreadGood (f .shape) v

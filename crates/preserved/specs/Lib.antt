@@ -1,2 +1,2 @@
--- The statements about turns and beginnings.
+-- The statements about turns, beginnings and permissions.
 pub mod Theorems

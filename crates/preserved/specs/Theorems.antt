@@ -1,11 +1,12 @@
--- What holds of every readable region, and of every turn and every beginning on one. Each statement is proved under its name in
--- proofs/Proved.antt.
+-- What holds of every readable region, and of every turn, every beginning and every setting of a permission on one. Each statement is
+-- proved under its name in proofs/Proved.antt.
 use Prim.Native.Nat.{ℕ, _+_, _≤_, _<_}
 use mathlib.Core.Path.{_≡_}
 use mathlib.Core.Logic.{_⊎_}
 use mathlib.Core.Bool.{true}
 use mathlib.Core.List.{List}
 use Rattle.words.specs.Word.{word}
+use Rattle.region.specs.Answer.{done}
 use Rattle.region.specs.Frame.{nodesOf, cellsOf, threadsOf}
 use Rattle.region.specs.Record.{nodeSize, cellSize}
 use Rattle.region.specs.Shared.{cellIn, entry, threadIn}
@@ -17,6 +18,7 @@ use Rattle.access.specs.Order.{itemLt, topItem}
 use Rattle.access.specs.declared.effect.Effect.{Effect}
 use Rattle.access.specs.declared.effect.Effect.the-variants.{Nothing, Grow, Push, Pop, Exchange, Clean, Detach, Free}
 use Rattle.readable.specs.Readable.{frameIn, readable, shapeIn}
+use Rattle.permission.specs.Permit.{permitBytes, permitRefusal}
 use Rattle.begin.specs.Begin.{BeginsAt, putBytes, takeBytes}
 use Rattle.machine.specs.Turn.{turnBytes, turnPlan}
 
@@ -32,7 +34,7 @@ pub record EmptyAbove (b : List ℕ) : Type 0 where
 abbrev pub EmptyIsAbove : Type 0
 EmptyIsAbove = (b : List ℕ) → readable b ≡ true → EmptyAbove b
 
--- a readable region is readable after any turn and any beginning
+-- a readable region is readable after any turn, any beginning and any setting of a permission
 abbrev pub TurnKeepsReadable : Type 0
 TurnKeepsReadable = (b : List ℕ) → readable b ≡ true → (t c : ℕ) → readable (turnBytes (frameIn b) b t c) ≡ true
 
@@ -41,6 +43,9 @@ PutKeepsReadable = (b : List ℕ) → readable b ≡ true → (t : ℕ) (i : Ite
 
 abbrev pub TakeKeepsReadable : Type 0
 TakeKeepsReadable = (b : List ℕ) → readable b ≡ true → (t : ℕ) (p : Place) → BeginsAt p → readable (takeBytes b t p) ≡ true
+
+abbrev pub PermitKeepsReadable : Type 0
+PermitKeepsReadable = (b : List ℕ) → readable b ≡ true → (t p : ℕ) → readable (permitBytes b t p) ≡ true
 
 -- D, C, T and H never change
 abbrev pub TurnKeepsShape : Type 0
@@ -52,7 +57,10 @@ PutKeepsShape = (b : List ℕ) → readable b ≡ true → (t : ℕ) (i : Item) 
 abbrev pub TakeKeepsShape : Type 0
 TakeKeepsShape = (b : List ℕ) → readable b ≡ true → (t : ℕ) (p : Place) → BeginsAt p → shapeIn (takeBytes b t p) ≡ shapeIn b
 
--- a turn or a beginning of one thread leaves every other thread's record alone
+abbrev pub PermitKeepsShape : Type 0
+PermitKeepsShape = (b : List ℕ) → readable b ≡ true → (t p : ℕ) → shapeIn (permitBytes b t p) ≡ shapeIn b
+
+-- a turn, a beginning or a permission of one thread leaves every other thread's record alone
 abbrev pub TurnLeavesOthers : Type 0
 TurnLeavesOthers =
     (b : List ℕ) → readable b ≡ true → (t c u : ℕ) → (u ≡ t → ⊥)
@@ -67,6 +75,20 @@ abbrev pub TakeLeavesOthers : Type 0
 TakeLeavesOthers =
     (b : List ℕ) → readable b ≡ true → (t : ℕ) (p : Place) → BeginsAt p → (u : ℕ) → (u ≡ t → ⊥)
     → threadIn (frameIn b) (takeBytes b t p) u ≡ threadIn (frameIn b) b u
+
+abbrev pub PermitLeavesOthers : Type 0
+PermitLeavesOthers =
+    (b : List ℕ) → readable b ≡ true → (t p u : ℕ) → (u ≡ t → ⊥)
+    → threadIn (frameIn b) (permitBytes b t p) u ≡ threadIn (frameIn b) b u
+
+-- "A call sets a thread's permission" (document 02, request 5), and nothing else: every word but that of the permission, the first of the
+-- thread's record, is as before, refused or not; where the call is not refused, that word is what was given
+pub record PermissionAlone (b : List ℕ) (t p : ℕ) : Type 0 where
+  pub others : (j : ℕ) → (j ≡ entry (threadsOf (frameIn b)) t → ⊥) → word (permitBytes b t p) j ≡ word b j
+  pub permission : permitRefusal b t p ≡ done → word (permitBytes b t p) (entry (threadsOf (frameIn b)) t) ≡ p
+
+abbrev pub PermitChangesOneWord : Type 0
+PermitChangesOneWord = (b : List ℕ) → readable b ≡ true → (t p : ℕ) → PermissionAlone b t p
 
 -- word j lies outside n words from word k on
 abbrev pub Apart : ℕ → ℕ → ℕ → Type 0

@@ -1,1 +1,1 @@
-// Theorems about turns and beginnings; this crate has no code.
+// Theorems about turns, beginnings and permissions; this crate has no code.
