@@ -1,14 +1,16 @@
 -- What a turn tells is given by its plan's effect and answer, and its answer says what it told: shown for each place. Assumes nothing.
 use Prim.Native.Nat.{ℕ, _+_, _*_}
 use mathlib.Core.Path.{_≡_, refl, sym, ap, subst, _∙_}
-use mathlib.Core.Bool.{Bool, true, false, _&&_, _||_}
+use mathlib.Core.Bool.{Bool, true, false, not, _&&_, _||_, true≢false}
 use mathlib.Core.List.{List}
 use lib.Dec.{eqb}
+use Rattle.region.specs.Answer.{unreadable}
 use Rattle.region.specs.Pick.{pick}
+use Rattle.region.specs.Shape.{between}
 use Rattle.region.specs.Shared.{Shared, sharedIn, threadIn}
 use Rattle.region.specs.Thread.{atPlace, goneIdle, mending, withDepth}
 use Rattle.region.specs.declared.answer.Answer.{Answer}
-use Rattle.region.specs.declared.answer.Answer.the-variants.{Moved, Idle as AnswersIdle, Inserted, Took, Empty, Refused}
+use Rattle.region.specs.declared.answer.Answer.the-variants.{Moved, Idle as AnswersIdle, Inserted, Took, Empty, Refused, Withdrawn}
 use Rattle.region.specs.declared.frame.Frame.{Frame}
 use Rattle.region.specs.declared.place.Place.{Place}
 use Rattle.region.specs.declared.place.Place.the-variants.{Idle, ReadDepth, ReadLeaf, ReadAncestor, GrowDepth, ReadTarget, InsertAtRoot, ReadParent, InsertBelow, ReadRoot, RemoveHead, MendReadNode, MendReadDepth, MendReadLeft, MendReadRight, MendSwap, MendClean, ListReadRoot, RemoveList, HandOut}
@@ -27,23 +29,38 @@ use Rattle.extract.specs.Extract.{afterRootRead, casRoot, handOut, handedOut, l
 use Rattle.moundify.specs.Moundify.{returning, mendReadNode, mendReadDepth, mendReadLeft, mendReadRight, exchangeWith, mendSwap, mendClean, returned, returnAnswer}
 use Rattle.readable.proofs.Laws.{Good}
 use Rattle.preserved.proofs.PlansGood.{or-left, or-right}
+use Rattle.permission.specs.Withdraw.{isPutPlace, isUnreadable, lacksPermission, permitted, withdrawal}
 use Rattle.run.specs.Run.{Turn}
 use Rattle.machine.specs.Turn.{decide, decideAt, turnAnswer, turnPlan}
 use Rattle.mound.specs.Told.{nothing, decidesEmpty, decidesPut}
 use Rattle.mound.proofs.Steps.{effectTells, quietTells}
-use Rattle.bag.specs.Demand3.{Says, moved as says-moved, idle, refused as says-refused, inserted, empty, took, removed, list-removed}
+use Rattle.bag.specs.Demand3.{Says, moved as says-moved, idle, refused as says-refused, inserted, empty, took, removed, list-removed, withdrawn as says-withdrawn}
 use Rattle.bag.specs.History.{ServedTurn, turned, rootItem, rootItems, servedOn}
 use Rattle.bag.specs.Told.{answerTells, stands, tells}
 use Rattle.bag.proofs.Carried.{turn-threads}
+
+abbrev pub isWithdrawn : Answer → Bool
+isWithdrawn Moved = false
+isWithdrawn AnswersIdle = false
+isWithdrawn Inserted = false
+isWithdrawn (Took i) = false
+isWithdrawn Empty = false
+isWithdrawn (Refused n) = false
+isWithdrawn Withdrawn = true
 
 -- the turn of thread u, with i as the root's item and is as its list, from the place p on by the plan x
 module _ (i : Item) (is : List Item) (u : ℕ) where
   abbrev pub seen : Place → Place → Answer → ServedTurn
   seen p q a = record { thread = u; from = p; to = q; answer = a; root = i; list = is }
 
-  record Spoken (p : Place) (x : Plan) : Type 0 where
+  record Speaks (p : Place) (x : Plan) : Type 0 where
     tells-so : answerTells (seen p (x .thread .place) (x .answer)) (x .answer) ≡ effectTells i is u (x .answer) (x .effect)
     says : Says u (x .answer) (effectTells i is u (x .answer) (x .effect))
+
+  -- no place itself answers withdrawn
+  record Spoken (p : Place) (x : Plan) : Type 0 where
+    speaks : Speaks p x
+    not-withdrawn : isWithdrawn (x .answer) ≡ false
 
   -- the place where the thread stands afterwards matters where it moved
   pub place-after : (p q q′ : Place) (a : Answer) → (a ≡ Moved → q ≡ q′) → answerTells (seen p q a) a ≡ answerTells (seen p q′ a) a
@@ -53,15 +70,16 @@ module _ (i : Item) (is : List Item) (u : ℕ) where
   place-after p q q′ (Took j) h = refl
   place-after p q q′ Empty h = refl
   place-after p q q′ (Refused n) h = refl
+  place-after p q q′ Withdrawn h = refl
 
   plan-says : (p : Place) (e : Effect) (t : Thread) (a : Answer) → answerTells (seen p (t .place) a) a ≡ effectTells i is u a e
-      → Says u a (effectTells i is u a e) → Spoken p (plan e t a)
+      → Says u a (effectTells i is u a e) → isWithdrawn a ≡ false → Spoken p (plan e t a)
   unfolding plan
-  plan-says p e t a k h = record { tells-so = k; says = h }
+  plan-says p e t a k h w = record { speaks = record { tells-so = k; says = h }; not-withdrawn = w }
 
   refused-says : (p : Place) (t : Thread) (n : ℕ) → Spoken p (refused t n)
   unfolding refused
-  refused-says p t n = plan-says p Nothing t (Refused n) refl says-refused
+  refused-says p t n = plan-says p Nothing t (Refused n) refl says-refused refl
 
   either : (p : Place) (q : Bool) {a b : Plan} → Spoken p a → Spoken p b → Spoken p (pick q a b)
   either p q h g = pick-good (Spoken p) q (λ e. h) (λ e. g)
@@ -76,7 +94,7 @@ module _ (i : Item) (is : List Item) (u : ℕ) where
 
     moves-on : (e : Effect) (t : Thread) → effectTells i is u Moved e ≡ nothing → Spoken p (plan e t Moved)
     moves-on e t k =
-        plan-says p e t Moved (quiet-tells (t .place) ∙ sym k) (subst (Says u Moved) (sym k) says-moved)
+        plan-says p e t Moved (quiet-tells (t .place) ∙ sym k) (subst (Says u Moved) (sym k) says-moved) refl
 
     moved-says : (t : Thread) → Spoken p (moved t)
     unfolding moved
@@ -91,7 +109,7 @@ module _ (i : Item) (is : List Item) (u : ℕ) where
     unfolding returning returnAnswer
     returning-says e t w h =
         pick-good (λ a. Spoken p (plan e (returned t w) a)) (eqb w 0 && eqb (t .after) 1)
-        (λ k. plan-says p e _ _ (sym (h (Took (t .result)))) (subst (Says u (Took (t .result))) (sym (h (Took (t .result)))) took))
+        (λ k. plan-says p e _ _ (sym (h (Took (t .result)))) (subst (Says u (Took (t .result))) (sym (h (Took (t .result)))) took) refl)
         (λ k. moves-on e _ (h Moved))
 
   -- every place
@@ -100,7 +118,7 @@ module _ (i : Item) (is : List Item) (u : ℕ) where
     push-says : (p : Place) → stands p InsertAtRoot || stands p InsertBelow ≡ true → (n k x : ℕ) (v : Node)
         → Spoken p (plan (Push n v k x) (goneIdle t) Inserted)
     unfolding pick
-    push-says p here n k x v = plan-says p _ _ _ (ap (λ q. pick q (decidesPut u) nothing) here) inserted
+    push-says p here n k x v = plan-says p _ _ _ (ap (λ q. pick q (decidesPut u) nothing) here) inserted refl
 
     inserts-says : (p : Place) (n : ℕ) (holds : Bool) → stands p RemoveHead || stands p RemoveList ≡ false
         → stands p InsertAtRoot || stands p InsertBelow ≡ true → Spoken p (insertAt t n holds)
@@ -110,11 +128,11 @@ module _ (i : Item) (is : List Item) (u : ℕ) where
 
     empty-says : (p : Place) → stands p ReadRoot || stands p ListReadRoot ≡ true → Spoken p (plan Nothing (goneIdle t) Empty)
     unfolding pick
-    empty-says p here = plan-says p _ _ _ (ap (λ q. pick q (decidesEmpty u) nothing) here) empty
+    empty-says p here = plan-says p _ _ _ (ap (λ q. pick q (decidesEmpty u) nothing) here) empty refl
 
     fails : (p back : Place) → stands back (MendReadNode 0) ≡ false → Spoken p (onTo t back)
     unfolding pick onTo moved atPlace
-    fails p back e = plan-says p _ _ _ (rw e refl) says-moved
+    fails p back e = plan-says p _ _ _ (rw e refl) says-moved refl
 
     -- E1 and 17
     root-read-says : (p : Place) (after : ℕ) (next : Place) → stands p RemoveHead || stands p RemoveList ≡ false
@@ -132,15 +150,15 @@ module _ (i : Item) (is : List Item) (u : ℕ) where
 
     pop-says : (v : Node) (k n w : ℕ) (x : Thread) → Spoken RemoveHead (plan (Pop v k) (mending x n w) Moved)
     unfolding pick mending atPlace
-    pop-says v k n w x = plan-says _ _ _ _ refl removed
+    pop-says v k n w x = plan-says _ _ _ _ refl removed refl
 
     detach-says : (v : Node) (n w : ℕ) (x : Thread) → Spoken RemoveList (plan (Detach v) (mending x n w) Moved)
     unfolding pick mending atPlace
-    detach-says v n w x = plan-says _ _ _ _ refl list-removed
+    detach-says v n w x = plan-says _ _ _ _ refl list-removed refl
 
     at-place-says : (p : Place) → Spoken p (decideAt s m t c p)
     unfolding readDepth readLeaf readAncestor growDepth readTarget insertAtRoot readParent insertBelow readRoot removeHead listReadRoot removeList handOut handedOut mendReadNode mendReadDepth mendReadLeft mendReadRight mendSwap mendClean
-    at-place-says Idle = plan-says _ _ _ _ refl idle
+    at-place-says Idle = plan-says _ _ _ _ refl idle refl
     at-place-says ReadDepth = onTo-says _ refl _ _
     at-place-says ReadLeaf =
         either _ _ (either _ _ (either _ _ (onTo-says _ refl _ _) (either _ _ (onTo-says _ refl _ _) (refused-says _ _ _))) (onTo-says _ refl _ _))
@@ -174,14 +192,39 @@ module _ (i : Item) (is : List Item) (u : ℕ) where
         (either _ _ (either _ _ (refused-says _ _ _) (returning-says _ refl (Clean _ _) t w (λ a. refl))) (onTo-says _ refl _ _))
     at-place-says ListReadRoot = root-read-says ListReadRoot 2 RemoveList refl refl
     at-place-says RemoveList = root-cas-says RemoveList ListReadRoot _ refl (detach-says _ _ _ _)
-    at-place-says HandOut = either _ _ (refused-says _ _ _) (plan-says _ (Free _) _ _ refl took)
+    at-place-says HandOut = either _ _ (refused-says _ _ _) (plan-says _ (Free _) _ _ refl took refl)
 
-plan-spoken : (f : Frame) (b : List ℕ) (t c : ℕ) → Spoken (rootItem f b) (rootItems f b) t (threadIn f b t .place) (turnPlan f b t c)
-unfolding turnPlan decide
-plan-spoken f b t c =
-    either (rootItem f b) (rootItems f b) t _ _
-    (at-place-says (rootItem f b) (rootItems f b) t (f .shape) (sharedIn f b) (threadIn f b t) c (threadIn f b t .place))
-    (refused-says (rootItem f b) (rootItems f b) t _ _ _)
+  -- a withdrawn turn
+  withdrawal-speaks : (p : Place) (t : Thread) → Speaks p (withdrawal t)
+  unfolding withdrawal plan
+  withdrawal-speaks p t =
+      pick-good (Speaks p) (isPutPlace (t .place))
+      (λ e. pick-good (Speaks p) (eqb (t .own) 0) (λ z. refused-says p t unreadable .speaks)
+      (λ z. record { tells-so = refl; says = says-withdrawn }))
+      (λ e. record { tells-so = refl; says = says-withdrawn })
+
+plan-speaks : (f : Frame) (b : List ℕ) (t c : ℕ) → Speaks (rootItem f b) (rootItems f b) t (threadIn f b t .place) (turnPlan f b t c)
+unfolding turnPlan decide permitted
+plan-speaks f b t c =
+    let i = rootItem f b in
+    let is = rootItems f b in
+    let u = threadIn f b t in
+    pick-good (Speaks i is t (u .place)) (between 1 t (f .shape .threads))
+    (λ e. pick-good (Speaks i is t (u .place)) (lacksPermission u && not (isUnreadable _)) (λ k. withdrawal-speaks i is t _ u)
+    (λ k. at-place-says i is t (f .shape) (sharedIn f b) u c (u .place) .speaks))
+    (λ e. refused-says i is t _ _ _ .speaks)
+
+-- a turn answers withdrawn by its withdrawal alone
+pub by-withdrawal : (f : Frame) (b : List ℕ) (t c : ℕ) → turnPlan f b t c .answer ≡ Withdrawn → turnPlan f b t c ≡ withdrawal (threadIn f b t)
+unfolding turnPlan decide permitted refused plan
+by-withdrawal f b t c =
+    let u = threadIn f b t in
+    let W = λ (p : Plan). p .answer ≡ Withdrawn → p ≡ withdrawal u in
+    pick-good W (between 1 t (f .shape .threads))
+    (λ e. pick-good W (lacksPermission u && not (isUnreadable _)) (λ k h. refl)
+    (λ k h. absurd (true≢false (sym (ap isWithdrawn h)
+    ∙ at-place-says (rootItem f b) (rootItems f b) t (f .shape) (sharedIn f b) u c (u .place) .not-withdrawn))))
+    (λ e h. absurd (true≢false (sym (ap isWithdrawn h))))
 
 -- a turn on bytes in range
 module _ (f : Frame) (b : List ℕ) (g : Good f b) (x : Turn) where
@@ -196,8 +239,8 @@ module _ (f : Frame) (b : List ℕ) (g : Good f b) (x : Turn) where
       place-after (rootItem f b) (rootItems f b) t _ _ (p .thread .place) (p .answer) (λ e.
       let moved-on = ap (λ h. h t) (turn-threads f b t c g (ap changesNothing e)) ∙ upd-same (threadIn f b) t (p .thread) in
       ap (λ y. y .place) moved-on)
-      ∙ plan-spoken f b t c .tells-so
+      ∙ plan-speaks f b t c .tells-so
 
   pub turn-says : Says (x .thread) (turnAnswer f b (x .thread) (x .choice)) (tells (turned (servedOn f b x)))
   unfolding turnAnswer
-  turn-says = subst (Says (x .thread) (p .answer)) (sym turn-tells) (plan-spoken f b (x .thread) (x .choice) .says)
+  turn-says = subst (Says (x .thread) (p .answer)) (sym turn-tells) (plan-speaks f b (x .thread) (x .choice) .says)

@@ -51,6 +51,7 @@ calls-are-exported =
       put-made = λ b b′ t i r h. record { answer = h .answer; region = h .bytes };
       take-made = λ b b′ t r h. record { answer = h .answer; region = h .bytes };
       list-made = λ b b′ t r h. record { answer = h .answer; region = h .bytes };
+      permit-made = λ b b′ t p r h. record { answer = h .answer; region = h .bytes };
       run-made = λ b b′ schedule limit a a′ r h.
           record { answer = ap (λ n. n % 65536) (h .answer) ∙ run-answer-tells-all b schedule limit a .refusal; region = h .region };
       check-made = λ b r h. record { answer = h; region = refl };

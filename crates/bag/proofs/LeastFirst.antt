@@ -10,7 +10,7 @@ use Rattle.region.specs.Pick.{pick}
 use Rattle.region.specs.declared.record.Item.{Item}
 use Rattle.access.specs.Order.{itemLe, itemLt}
 use Rattle.access.proofs.OrderLaws.{item-antisym, item-by-tag, item-key, item-refl, item-total}
-use Rattle.mound.specs.Ledger.{Ledger, Least, Follows, still, put-begins, take-begins, list-begins, put-decides, take-decides, list-decides, empty-decides, take-answers, oneMore, oneLess}
+use Rattle.mound.specs.Ledger.{Ledger, Least, Follows, still, put-begins, take-begins, list-begins, put-decides, take-decides, list-decides, empty-decides, take-answers, oneMore, oneLess, ends-withdrawn}
 use Rattle.mound.specs.Told.{Told, decidesList}
 use Rattle.mound.specs.Tree.{sameItem}
 use Rattle.mound.proofs.Sorted.{item-same, same-item}
@@ -65,6 +65,7 @@ module _ (i j : Item) (key : i .key ≡ j .key) (tag : i .tag < j .tag) where
       go false s = omega arith
   stays (empty-decides e un z) n h = omega arith
   stays (take-answers e) n h = omega arith
+  stays (ends-withdrawn e un) n h = omega arith
 
 now-the-same : (l : Ledger) (b : List ℕ) (ms : List Moment) → Agrees l b ms → HoldsTheSame l b
 now-the-same l b [] a = a

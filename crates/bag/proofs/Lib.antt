@@ -3,7 +3,7 @@ pub mod Account
 pub mod Alone
 pub mod Answers
 pub mod Carried
-pub mod EmptyList
+pub mod Permission
 pub mod Exported
 pub mod Histories
 pub mod LeastFirst

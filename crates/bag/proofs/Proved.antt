@@ -2,8 +2,9 @@
 use Prim.Native.Nat.{ℕ, _*_}
 use native.Mathlib.Omega.{arith}
 use mathlib.Core.Path.{_≡_, refl, sym, ap, subst, subst₂, _∙_}
-use mathlib.Core.Bool.{Bool, true, false}
+use mathlib.Core.Bool.{Bool, true, false, true≢false}
 use mathlib.Core.List.{List, [], _∷_, _++_}
+use borrow.Author.Tests.{eqb-true}
 use lib.Dec.{eqb}
 use lib.ListN.{length}
 use Rattle.region.specs.Answer.{done}
@@ -11,39 +12,42 @@ use Rattle.region.specs.Frame.{frameOf}
 use Rattle.region.specs.Pick.{pick}
 use Rattle.region.specs.Shape.{regionWords}
 use Rattle.region.specs.Shared.{sharedIn, threadIn}
-use Rattle.region.specs.Thread.{isIdle}
+use Rattle.region.specs.Thread.{goneIdle, isIdle}
 use Rattle.region.specs.declared.frame.Frame.{Frame}
 use Rattle.region.specs.declared.place.Place.{Place}
 use Rattle.region.specs.declared.place.Place.the-variants.{ReadRoot, ListReadRoot}
 use Rattle.region.specs.declared.record.Item.{Item}
 use Rattle.region.specs.declared.shape.Shape.{Shape}
-use Rattle.region.proofs.Picks.{pick-good}
 use Rattle.layout.specs.Layout.{layoutBytes, layoutRefusal}
 use Rattle.layout.proofs.Laws.{laid-exact}
 use Rattle.readable.specs.Readable.{readable, frameIn, shapeIn}
 use Rattle.readable.proofs.Laws.{readable-length}
 use Rattle.readable.proofs.Stores.{Keeps, readable-kept, shape-kept}
+use Rattle.permission.specs.Permit.{permitBytes, permitRefusal}
+use Rattle.permission.proofs.Laws.{permit-bytes-in}
 use Rattle.begin.specs.Begin.{BeginsAt, one-item, putBytes, putRefusal, takeBytes, takeBytesIn, takeRefusal, takeRefusalIn, whole-list}
 use Rattle.begin.proofs.Laws.{put-bytes-in, put-refusal-in, take-bytes-in, take-refusal-in}
 use Rattle.run.specs.Run.{Turn}
 use Rattle.machine.specs.Turn.{turnBytes, turnPlan}
-use Rattle.preserved.proofs.Proved.{put-keeps, take-keeps, turn-keeps}
+use Rattle.preserved.proofs.Proved.{permit-keeps, put-keeps, take-keeps, turn-keeps}
 use Rattle.queue.proofs.LaidOutIsReadable.{laid-out-is-readable, same-shape}
 use Rattle.mound.specs.Ledger.{Ledger, Follows, emptyLedger, none, still, stillOwing}
 use Rattle.mound.specs.Told.{Told, nothing, beginsPut, beginsTake, beginsList}
 use Rattle.mound.proofs.Facts.{idle-without, none-when-idle, stage}
 use Rattle.mound.proofs.Steps.{root-sorted}
-use Rattle.bag.specs.Calls.{Call, NoAcceptedLayout, layout, put, take, list, run, check}
+use Rattle.bag.specs.Calls.{Call, NoAcceptedLayout, put, take, list, permit}
 use Rattle.bag.specs.Demand3.{Agrees, AnswerSays, HoldsTheSame, RegionIsABag, inTree}
 use Rattle.bag.specs.History.{Event, called, turned, Moment, history, rootItem, rootItems, servedOn}
-use Rattle.bag.specs.Moments.{EachMoment, InEveryHistory, regionAfter}
+use Rattle.bag.specs.Moments.{InEveryHistory, regionAfter}
+use Rattle.bag.specs.Operations.{withdrawing}
+use Rattle.bag.specs.Permission.{FreeAgain, Granted, StaysBarred, WithdrawnLeaves, Withdrew, makes}
 use Rattle.bag.specs.Told.{callTells, tells}
 use Rattle.bag.specs.TookInOrder.{TookInOrder}
 use Rattle.bag.proofs.Answers.{turn-says, turn-tells}
-use Rattle.bag.proofs.EmptyList.{empty-list-changes-nothing}
-use Rattle.bag.proofs.Histories.{Kept, Next, calls-kept, kept-on}
-use Rattle.bag.proofs.Operations.{Followed, at-most-once, exactly-once}
-use Rattle.bag.proofs.Regions.{Follow, Region, list-follows, put-follows, take-follows, turn-next}
+use Rattle.bag.proofs.Histories.{Kept, Next, Then, called-so, calls-kept, kept-each, kept-on}
+use Rattle.bag.proofs.Operations.{Followed, at-most-once, exactly-once, withdrawn-never}
+use Rattle.bag.proofs.Permission.{barred-put, barred-take, barred-turn, turn-granted, turn-withdrawn, withdrawn-frees, withdrawn-idle}
+use Rattle.bag.proofs.Regions.{Follow, Region, list-follows, permit-follows, put-follows, take-follows, turn-next}
 use Rattle.bag.proofs.Start.{laid-region}
 use Rattle.bag.proofs.TookInOrder.{Rises, all-paid, effect-rises, removal-owes, removal-rises, sorted-rises}
 
@@ -123,6 +127,45 @@ module _ (s : Shape) (b : List ℕ) (l : Ledger) (g : QueueRegion s b l) where
   list-followed : (t : ℕ) → Next (QueueRegion s) Follows l (pick (eqb (takeRefusal b t) done) (beginsList t) nothing) (takeBytes b t ListReadRoot)
   list-followed t = begins-so t ListReadRoot whole-list (beginsList t) (list-follows f all b l (g .region) t)
 
+  permit-followed : (t p : ℕ) → Next (QueueRegion s) Follows l nothing (permitBytes b t p)
+  permit-followed t p =
+      subst (Next (QueueRegion s) Follows l nothing) (sym (permit-bytes-in b (g .reads) t p))
+      (still-queue (permit-keeps f b (g .region .good) t p) (permit-follows f all b l (g .region) t p))
+
+  -- A thread that is idle with an empty list: of whose call or turn only the bytes of its own are asked.
+  turn-barred : (x : Turn) → StaysBarred b (record { event = turned (servedOn (frameOf s) b x); region = turnBytes (frameOf s) b (x .thread) (x .choice) })
+  unfolding servedOn
+  turn-barred x t idle empty made =
+      subst (λ y. turnBytes y b (x .thread) (x .choice) ≡ b) queue-frame
+      (subst (λ u. turnBytes f b u (x .choice) ≡ b) (eqb-true t (x .thread) made) (barred-turn f b t idle empty (x .choice)))
+
+  put-barred : (u r : ℕ) (i : Item) → StaysBarred b (record { event = called (put u i) r; region = putBytes b u i })
+  put-barred u r i t idle empty made =
+      subst (λ v. putBytes b v i ≡ b) (eqb-true t u made) (put-bytes-in b (g .reads) t i ∙ barred-put f b t idle empty i)
+
+  take-barred : (u : ℕ) (p : Place) (e : Event) → ((t : ℕ) → makes t e ≡ true → t ≡ u) → StaysBarred b (record { event = e; region = takeBytes b u p })
+  take-barred u p e same t idle empty made =
+      subst (λ v. takeBytes b v p ≡ b) (same t made) (take-bytes-in b (g .reads) t p ∙ barred-take f b t idle empty p)
+
+  -- a withdrawn turn
+  turn-leaves : (x : Turn) → WithdrawnLeaves b (record { event = turned (servedOn (frameOf s) b x); region = turnBytes (frameOf s) b (x .thread) (x .choice) })
+  turn-leaves x =
+      subst
+      (λ y. WithdrawnLeaves b (record { event = turned (servedOn y b x); region = turnBytes y b (x .thread) (x .choice) })) queue-frame
+      (λ t h.
+      let w = turn-withdrawn f b x t h in
+      let b′ = turnBytes f b (x .thread) (x .choice) in
+      let n = still-queue (turn-keeps f b (g .region .good) (x .thread) (x .choice)) (turn-next f all b l (g .region) x) in
+      let same : frameIn b′ ≡ f = ap frameOf (n .region .shape ∙ sym (g .shape)) in
+      subst (λ u. Withdrew u b b′) (sym (w .1))
+      (record {
+        idle = subst (λ y. threadIn y b′ (x .thread) ≡ goneIdle (threadIn f b (x .thread))) (sym same) (withdrawn-idle f b (g .region .good) (x .thread) (x .choice) (w .0));
+        cell = λ k.
+            subst (λ y. FreeAgain y b′ (threadIn f b (x .thread) .own)) (sym same)
+            (withdrawn-frees f b (g .region .good) (x .thread) (x .choice) (w .0) k
+            (turn-next f all b l (g .region) x .region .holds));
+      }))
+
   -- the bag holds exactly what the tree holds
   tree-agrees : HoldsTheSame l b
   unfolding inTree frameOf
@@ -147,41 +190,74 @@ laid-queue s ps b e =
       region = subst (λ x. Region (frameOf x) (x .cells) (layoutBytes s ps b) emptyLedger) (sym same) (laid-region s ps b e);
     }
 
--- at every moment the ledger follows, the answer says what was told, and a list that is removed never falls
-pub record Moves (e : Event) (l l′ : Ledger) : Type 0 where
-  pub follows : Follows (tells e) l l′
-  pub says : AnswerSays e
-  pub rises : Rises (tells e)
+-- at every moment, b being the region before it, the ledger follows, the answer says what was told, a list that is removed never falls, and
+-- what request 5 says holds
+pub record Moves (b : List ℕ) (m : Moment) (l l′ : Ledger) : Type 0 where
+  pub follows : Follows (tells (m .event)) l l′
+  pub says : AnswerSays (m .event)
+  pub rises : Rises (tells (m .event))
+  pub granted : Granted b (tells (m .event))
+  pub leaves : WithdrawnLeaves b m
+  pub barred : StaysBarred b m
 
-said : {s : Shape} {l : Ledger} {e : Event} {b : List ℕ} → AnswerSays e → Rises (tells e) → Next (QueueRegion s) Follows l (tells e) b
-    → Next (QueueRegion s) Moves l e b
-said a r n = record { next = n .next; follows = record { follows = n .follows; says = a; rises = r }; region = n .region }
+-- a call removes no list, decides nothing and withdraws nothing
+called-next : {s : Shape} {b : List ℕ} {l : Ledger} (c : Call) (r : ℕ) {b′ : List ℕ} → StaysBarred b (record { event = called c r; region = b′ })
+    → Next (QueueRegion s) Follows l (tells (called c r)) b′ → Then (QueueRegion s) Moves b l (called c r) b′
+called-next {b = b} c r h n =
+    record {
+      next = n .next;
+      follows =
+          record {
+            follows = n .follows;
+            says = tt;
+            rises = called-so Rises tt (λ t i. tt) (λ t. tt) (λ t. tt) c r;
+            granted = called-so (Granted b) tt (λ t i. tt) (λ t. tt) (λ t. tt) c r;
+            leaves = λ t w.
+                absurd (true≢false
+                (sym w ∙ called-so (λ x. withdrawing t x ≡ false) refl (λ u i. refl) (λ u. refl) (λ u. refl) c r));
+            barred = h;
+          };
+      region = n .region;
+    }
 
--- no call removes a list
-call-rises : (c : Call) (r : ℕ) → Rises (tells (called c r))
-call-rises c r = pick-good Rises (eqb r done) (λ e. told-rises c) (λ e. tt)
-  where
-    told-rises : (c : Call) → Rises (callTells c)
-    told-rises (layout s permissions) = tt
-    told-rises (put t i) = tt
-    told-rises (take t) = tt
-    told-rises (list t) = tt
-    told-rises (run schedule limit answers) = tt
-    told-rises check = tt
+turned-next : (s : Shape) (b : List ℕ) (l : Ledger) → QueueRegion s b l → (x : Turn)
+    → Then (QueueRegion s) Moves b l (turned (servedOn (frameOf s) b x)) (turnBytes (frameOf s) b (x .thread) (x .choice))
+turned-next s b l g x =
+    let n = turn-followed s b l g x in
+    record {
+      next = n .next;
+      follows =
+          record {
+            follows = n .follows;
+            says = turn-answered s b l g x;
+            rises = turn-rises s b l g x;
+            granted = subst (λ y. Granted b (tells (turned (servedOn y b x)))) (queue-frame s b l g) (turn-granted b x);
+            leaves = turn-leaves s b l g x;
+            barred = turn-barred s b l g x;
+          };
+      region = n .region;
+    }
 
 -- every history of a laid-out region keeps the invariant
-pub history-kept : InEveryHistory λ s permissions b ms. Kept (QueueRegion s) Moves emptyLedger ms
+pub history-kept : InEveryHistory λ s permissions b ms. Kept (QueueRegion s) Moves b emptyLedger ms
 history-kept s ps b e calls h =
     let laid = laid-queue s ps b e in
     calls-kept (QueueRegion s) Moves (frameOf s) (4 * regionWords s)
     (λ b l g. queue-frame s b l g) (λ b l g. queue-long s b l g)
-    (λ b l g t i. said tt (call-rises (put t i) (putRefusal b t i)) (put-followed s b l g t i))
-    (λ b l g t. said tt (call-rises (take t) (takeRefusal b t)) (take-followed s b l g t))
-    (λ b l g t. said tt (call-rises (list t) (takeRefusal b t)) (list-followed s b l g t))
-    (λ b l g t. said (turn-answered s b l g t) (turn-rises s b l g t) (turn-followed s b l g t))
-    (λ b l g c r k. said tt (call-rises c r) (call-still s b l g c r k))
+    (λ b l g t i. called-next (put t i) (putRefusal b t i) (put-barred s b l g t (putRefusal b t i) i) (put-followed s b l g t i))
+    (λ b l g t. called-next (take t) (takeRefusal b t) (take-barred s b l g t ReadRoot _ (λ u k. eqb-true u t k)) (take-followed s b l g t))
+    (λ b l g t. called-next (list t) (takeRefusal b t) (take-barred s b l g t ListReadRoot _ (λ u k. eqb-true u t k)) (list-followed s b l g t))
+    (λ b l g t p. called-next (permit t p) (permitRefusal b t p) (λ u idle empty made. absurd (true≢false (sym made)))
+    (subst (λ x. Next (QueueRegion s) Follows l x (permitBytes b t p)) (nothing-told (eqb (permitRefusal b t p) done)) (permit-followed s b l g t p)))
+    (λ b l g x. turned-next s b l g x)
+    (λ b l g c r k. called-next c r (λ t idle empty made. refl) (call-still s b l g c r k))
     calls (layoutBytes s ps b) emptyLedger laid
     (subst (λ n. NoAcceptedLayout n calls) (laid-exact s ps b e ∙ sym (queue-long s (layoutBytes s ps b) emptyLedger laid)) h)
+  where
+    nothing-told : (q : Bool) → nothing ≡ pick q nothing nothing
+    unfolding pick
+    nothing-told true = refl
+    nothing-told false = refl
 
 -- an operation that owes nothing has no item left
 nothing-owed : (is : List Item) → stillOwing is ≡ none → is ≡ []
@@ -190,26 +266,21 @@ nothing-owed (i ∷ is) e = absurd (let k = ap stage e in omega arith)
 
 -- what that says of each clause
 module _ (s : Shape) where
-  agrees : (ms : List Moment) (b : List ℕ) (l : Ledger) → QueueRegion s b l → Kept (QueueRegion s) Moves l ms → Agrees l b ms
+  agrees : (ms : List Moment) (b : List ℕ) (l : Ledger) → QueueRegion s b l → Kept (QueueRegion s) Moves b l ms → Agrees l b ms
   agrees [] b l g k = tree-agrees s b l g
   agrees (m ∷ ms) b l g k = (tree-agrees s b l g, (k .0, k .1 .follows, agrees ms (m .region) (k .0) (k .2) (k .3)))
 
-  followed : (ms : List Moment) (l : Ledger) → Kept (QueueRegion s) Moves l ms → Followed l ms
-  followed [] l k = tt
-  followed (m ∷ ms) l k = (k .0, k .1 .follows, k .1 .says, followed ms (k .0) (k .3))
+  followed : (ms : List Moment) (b : List ℕ) (l : Ledger) → Kept (QueueRegion s) Moves b l ms → Followed l ms
+  followed [] b l k = tt
+  followed (m ∷ ms) b l k = (k .0, k .1 .follows, k .1 .says, followed ms (m .region) (k .0) (k .3))
 
-  answers-say : (ms : List Moment) (b : List ℕ) (l : Ledger) → Kept (QueueRegion s) Moves l ms
-      → EachMoment (λ before m. AnswerSays (m .event)) b ms
-  answers-say [] b l k = tt
-  answers-say (m ∷ ms) b l k = (k .1 .says, answers-say ms (m .region) (k .0) (k .3))
-
-  took-in-order : (ms : List Moment) (l : Ledger) → Kept (QueueRegion s) Moves l ms → TookInOrder ms
+  took-in-order : (ms : List Moment) (b : List ℕ) (l : Ledger) → Kept (QueueRegion s) Moves b l ms → TookInOrder ms
   unfolding isIdle frameOf
-  took-in-order ms l k t x removed before since later split takes z =
-      let on = kept-on (QueueRegion s) Moves before (x ∷ (since ++ later)) l (subst (Kept (QueueRegion s) Moves l) split k) in
+  took-in-order ms b l k t x removed before since later split takes z =
+      let on = kept-on (QueueRegion s) Moves before (x ∷ (since ++ later)) b l (subst (Kept (QueueRegion s) Moves b l) split k) in
       let now = on .1 in
       let told = tells (x .event) in
-      let p = all-paid t (QueueRegion s) Moves (λ e l l′ f. (f .follows, f .says)) since later (x .region) (now .0) (now .2) (now .3) z removed
+      let p = all-paid t (QueueRegion s) Moves (λ b m l l′ f. (f .follows, f .says)) since later (x .region) (now .0) (now .2) (now .3) z removed
       (removal-owes t told removed takes (on .0) (now .0) (now .1 .follows)) in
       let b′ = regionAfter (x .region) since in
       let g = p .region .region .holds in
@@ -230,12 +301,16 @@ region-is-a-bag s ps b e calls n =
     let laid = layoutBytes s ps b in
     let ms = history laid calls in
     let k = history-kept s ps b e calls n in
-    let f = followed s ms emptyLedger k in
+    let f = followed s ms laid emptyLedger k in
+    let each = λ Q h. kept-each (QueueRegion s) Moves Q h ms laid emptyLedger k in
     record {
       bag = agrees s ms laid emptyLedger (laid-queue s ps b e) k;
       at-most-once = at-most-once emptyLedger ms f;
       answered-once = exactly-once emptyLedger ms f;
-      took-in-order = took-in-order s ms emptyLedger k;
-      answers-say = answers-say s ms laid emptyLedger k;
-      empty-list = empty-list-changes-nothing s ps b e calls n;
+      took-in-order = took-in-order s ms laid emptyLedger k;
+      answers-say = each (λ before m. AnswerSays (m .event)) (λ b m l l′ h. h .says);
+      permitted = each (λ before m. Granted before (tells (m .event))) (λ b m l l′ h. h .granted);
+      withdrawn-never = withdrawn-never emptyLedger ms f;
+      withdrawn-leaves = each WithdrawnLeaves (λ b m l l′ h. h .leaves);
+      empty-list = each StaysBarred (λ b m l l′ h. h .barred);
     }

@@ -22,24 +22,25 @@ use Rattle.region.specs.declared.record.Item.{Item}
 use Rattle.region.specs.declared.shape.Shape.{Shape}
 use Rattle.region.specs.declared.thread.Thread.{Thread}
 use Rattle.region.proofs.Shapes.{between-least, between-most}
-use Rattle.region.proofs.Views.{shared-setCell, shared-setFree, shared-setThread, threads-setCell, threads-setFree, threads-setThread}
+use Rattle.region.proofs.Views.{shared-setCell, shared-setFree, shared-setPermission, shared-setThread, threads-setCell, threads-setFree, threads-setPermission, threads-setThread}
 use Rattle.access.specs.Plan.{changesNothing, plan, refused}
 use Rattle.access.specs.declared.effect.Effect.the-variants.{Nothing}
 use Rattle.access.specs.declared.plan.Plan.{Plan}
 use Rattle.access.proofs.OrderLaws.{item-below-top}
 use Rattle.readable.proofs.Laws.{Good}
-use Rattle.readable.proofs.Stores.{Keeps, thread-fit}
+use Rattle.readable.proofs.Stores.{Keeps, keeps-setPermission, thread-fit}
 use Rattle.begin.specs.Begin.{BeginsAt, acceptedPut, acceptedTake, one-item, putBytesIn, putRefusalIn, takeBytesIn, takeRefusalIn, whole-list}
 use Rattle.run.specs.Run.{Turn}
 use Rattle.machine.specs.Turn.{turnBytes, turnPlan}
-use Rattle.begin.proofs.Laws.{is-idle, may-put, may-take}
+use Rattle.begin.proofs.Laws.{is-idle}
+use Rattle.permission.specs.Permit.{permitBytesIn}
 use Rattle.preserved.proofs.EffectsGood.{cell-fit, few-cells}
-use Rattle.preserved.proofs.Proved.{PutPassed, TakePassed, accepted-put-keeps, accepted-take-keeps, mine-good, moved-keeps, next-few, put-free, put-key, put-least, put-most, put-passed, put-tag, putter-good, stored-keeps, take-least, take-most, take-passed, taker-good, turn-keeps}
+use Rattle.preserved.proofs.Proved.{PutPassed, TakePassed, accepted-put-keeps, accepted-take-keeps, mine-good, moved-keeps, next-few, permit-either, permit-least, permit-most, put-free, put-key, put-least, put-most, put-passed, put-tag, putter-good, stored-keeps, take-least, take-most, take-passed, taker-good, turn-keeps}
 use Rattle.mound.specs.Ledger.{Operation, Ledger, Follows, still}
 use Rattle.mound.specs.Told.{Told, nothing, beginsPut, beginsTake, beginsList}
 use Rattle.mound.proofs.Facts.{At}
 use Rattle.mound.proofs.Plans.{Allowed, OwnAfter, Planned, OperationAfter, rests, refuses, moves, planned, operation-moves}
-use Rattle.mound.proofs.Steps.{Invariant, NextState, effectTells, list-begun, owns, put-begun, quietTells, take-begun, turn-moves}
+use Rattle.mound.proofs.Steps.{Invariant, NextState, effectTells, list-begun, owns, permit-holds, put-begun, quietTells, take-begun, turn-moves}
 use Rattle.bag.specs.History.{rootItem, rootItems, servedOn, turned}
 use Rattle.bag.specs.Told.{tells}
 use Rattle.bag.proofs.Answers.{turn-tells}
@@ -169,12 +170,12 @@ module _ (f : Frame) (all : ℕ) (b : List ℕ) (l : Ledger) (g : Region f all b
   pub take-follows : (t : ℕ) → Follow f all l (pick (eqb (takeRefusalIn f b t) done) (beginsTake t) nothing) (takeBytesIn f b t ReadRoot)
   take-follows =
       begins-so ReadRoot one-item beginsTake λ t p.
-      take-begun s m th l (g .holds) t (take-least f b t p) (take-most f b t p) (is-idle (th t) (p .idle)) (may-take (th t) (p .permitted))
+      take-begun s m th l (g .holds) t (take-least f b t p) (take-most f b t p) (is-idle (th t) (p .idle))
 
   pub list-follows : (t : ℕ) → Follow f all l (pick (eqb (takeRefusalIn f b t) done) (beginsList t) nothing) (takeBytesIn f b t ListReadRoot)
   list-follows =
       begins-so ListReadRoot whole-list beginsList λ t p.
-      list-begun s m th l (g .holds) t (take-least f b t p) (take-most f b t p) (is-idle (th t) (p .idle)) (may-take (th t) (p .permitted))
+      list-begun s m th l (g .holds) t (take-least f b t p) (take-most f b t p) (is-idle (th t) (p .idle))
 
   -- A put that is not refused.
   module _ (t : ℕ) (i : Item) (p : PutPassed f b t i) where
@@ -222,8 +223,7 @@ module _ (f : Frame) (all : ℕ) (b : List ℕ) (l : Ledger) (g : Region f all b
     unfolding begun sharedIn
     put-next =
         followed (accepted-put-keeps f b t i p (g .good) .good) put-shared put-threads
-        (put-begun s m th l (g .holds) t (put-least f b t i p) (put-most f b t i p) (is-idle (th t) (p .idle))
-        (may-put (th t) (p .permitted)) i
+        (put-begun s m th l (g .holds) t (put-least f b t i p) (put-most f b t i p) (is-idle (th t) (p .idle)) i
         (item-below-top i (omega (arith, put-key f b t i p)) (put-tag f b t i p)) (omega (arith, put-free f b t i p)))
 
   -- Refused or not.
@@ -234,3 +234,15 @@ module _ (f : Frame) (all : ℕ) (b : List ℕ) (l : Ledger) (g : Region f all b
       go : (q : Bool) → eqb (putRefusalIn f b t i) done ≡ q → Follow f all l (pick q (beginsPut t i) nothing) (pick q (acceptedPut f b t i) b)
       go true h = put-next t i (put-passed f b t i (eqb-true (putRefusalIn f b t i) done h))
       go false h = stays
+
+  -- A permission, set or not.
+  pub permit-follows : (t p : ℕ) → Follow f all l nothing (permitBytesIn f b t p)
+  permit-follows t p =
+      permit-either f b t p (Follow f all l nothing)
+      (λ passed.
+      let lt = permit-least f t p passed in
+      let ut = permit-most f t p passed in
+      followed (keeps-setPermission f b (g .good) t p lt ut (passed .permission) .good) (shared-setPermission f b (g .good .framed) t p lt ut)
+      (threads-setPermission f b (g .good .framed) t p lt ut (omega (arith, passed .permission)))
+      (record { next = l; follows = still; holds = permit-holds s m th l (g .holds) t lt ut p }))
+      (λ h. stays)

@@ -9,7 +9,7 @@ use Rattle.region.specs.Frame.{frameOf}
 use Rattle.region.specs.Shape.{between}
 use Rattle.region.specs.Shared.{Shared, sharedIn, threadIn}
 use Rattle.region.specs.declared.answer.Answer.{Answer}
-use Rattle.region.specs.declared.answer.Answer.the-variants.{Moved, Idle, Inserted, Took, Empty, Refused}
+use Rattle.region.specs.declared.answer.Answer.the-variants.{Moved, Idle, Inserted, Took, Empty, Refused, Withdrawn}
 use Rattle.region.specs.declared.frame.Frame.{Frame}
 use Rattle.region.proofs.Shapes.{between-least, between-most}
 use Rattle.access.specs.Plan.{changesNothing, plan, refused}
@@ -37,7 +37,7 @@ pub use Rattle.bag.proofs.LeastFirst.{least-has-least-key, least-is-one
 holds : Throughout λ s permissions b. (l : Ledger) × QueueRegion s b l
 holds s ps b e calls n earlier later split =
     kept-after (QueueRegion s) Moves earlier later (layoutBytes s ps b) emptyLedger (laid-queue s ps b e)
-    (subst (Kept (QueueRegion s) Moves emptyLedger) split (history-kept s ps b e calls n))
+    (subst (Kept (QueueRegion s) Moves (layoutBytes s ps b) emptyLedger) split (history-kept s ps b e calls n))
 
 pub stays-readable : StaysReadable
 stays-readable s ps b e calls n earlier later split =
@@ -52,6 +52,7 @@ refusal Inserted = 0
 refusal (Took i) = 0
 refusal Empty = 0
 refusal (Refused n) = n
+refusal Withdrawn = 0
 
 module _ (f : Frame) (all : ℕ) (b : List ℕ) (l : Ledger) (g : Region f all b l) (t c : ℕ) where
   abbrev answer : Answer

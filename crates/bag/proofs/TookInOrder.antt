@@ -11,24 +11,23 @@ use lib.Dec.{eqb}
 use Rattle.region.specs.Answer.{done}
 use Rattle.region.specs.Pick.{pick, upd}
 use Rattle.region.specs.declared.answer.Answer.{Answer}
-use Rattle.region.specs.declared.answer.Answer.the-variants.{Moved, Idle, Inserted, Took, Empty, Refused}
+use Rattle.region.specs.declared.answer.Answer.the-variants.{Moved, Idle, Inserted, Took, Empty, Refused, Withdrawn}
 use Rattle.region.specs.declared.record.Item.{Item}
 use Rattle.region.proofs.Picks.{pick-good, upd-same}
 use Rattle.access.specs.declared.effect.Effect.{Effect}
 use Rattle.access.specs.declared.effect.Effect.the-variants.{Nothing, Grow, Push, Pop, Exchange, Clean, Detach, Free}
-use Rattle.mound.specs.Ledger.{Ledger, Operation, Undecided, none, one-item, owing, putting, listing, stillOwing, taking, whole-list, Follows, still, put-begins, take-begins, list-begins, put-decides, take-decides, list-decides, empty-decides, take-answers}
-use Rattle.mound.specs.Told.{Told, nothing, beginsPut, beginsTake, beginsList, decidesPut, decidesTake, decidesList, decidesEmpty, answersTook}
+use Rattle.mound.specs.Ledger.{Ledger, Operation, Undecided, UndecidedTake, a-put, a-take, none, one-item, owing, putting, listing, stillOwing, taking, whole-list, Follows, still, put-begins, take-begins, list-begins, put-decides, take-decides, list-decides, empty-decides, take-answers, ends-withdrawn, ends-withdrawn}
+use Rattle.mound.specs.Told.{Told, nothing, beginsPut, beginsTake, beginsList, decidesPut, decidesTake, decidesList, decidesEmpty, answersTook, withdraws}
 use Rattle.mound.proofs.Facts.{stage}
 use Rattle.mound.proofs.Sorted.{Sorted}
 use Rattle.mound.proofs.Steps.{effectTells, quietTells}
-use Rattle.bag.specs.Calls.{Call, layout, put, take, list, run, check}
-use Rattle.bag.specs.Demand3.{AnswerSays, Says, moved, removed, list-removed, idle, inserted, took, empty, refused}
+use Rattle.bag.specs.Demand3.{AnswerSays, Says, moved, removed, list-removed, idle, inserted, took, empty, refused, withdrawn}
 use Rattle.bag.specs.History.{Event, called, turned, Moment}
 use Rattle.bag.specs.Moments.{regionAfter}
 use Rattle.bag.specs.Operations.{beginning, begins, count}
-use Rattle.bag.specs.Told.{callTells, tells}
+use Rattle.bag.specs.Told.{tells}
 use Rattle.bag.specs.TookInOrder.{NeverFalls, Removes, handed, handedAt, one-item as one-removed, tookBy, whole-list as list-taken}
-use Rattle.bag.proofs.Histories.{Kept}
+use Rattle.bag.proofs.Histories.{Kept, called-so}
 use Rattle.bag.proofs.Operations.{elsewhere, none-here}
 
 -- what an operation owes
@@ -57,6 +56,7 @@ toldTook t (decidesTake u i) = []
 toldTook t (decidesList u is) = []
 toldTook t (decidesEmpty u) = []
 toldTook t (answersTook u i) = pick (eqb t u) (i ∷ []) []
+toldTook t (withdraws u) = []
 
 -- a list that is removed never falls
 abbrev pub Rises : Told → Type 0
@@ -69,6 +69,7 @@ Rises (decidesTake u i) = Unit
 Rises (decidesList u is) = NeverFalls is
 Rises (decidesEmpty u) = Unit
 Rises (answersTook u i) = Unit
+Rises (withdraws u) = Unit
 
 pub sorted-rises : (is : List Item) → Sorted is → NeverFalls is
 sorted-rises [] h = tt
@@ -82,6 +83,7 @@ quiet-rises t Inserted = tt
 quiet-rises t (Took i) = tt
 quiet-rises t Empty = tt
 quiet-rises t (Refused n) = tt
+quiet-rises t Withdrawn = tt
 
 pub effect-rises : (i : Item) (is : List Item) (t : ℕ) → NeverFalls is → (a : Answer) (e : Effect) → Rises (effectTells i is t a e)
 effect-rises i is t h a Nothing = quiet-rises t a
@@ -110,17 +112,10 @@ module _ (t : ℕ) where
   says-handed u a x took = refl
   says-handed u a x empty = none-picked (eqb t u)
   says-handed u a x refused = none-picked (eqb t u)
-
-  call-hands-none : (c : Call) → toldTook t (callTells c) ≡ []
-  call-hands-none (layout s permissions) = refl
-  call-hands-none (put u i) = refl
-  call-hands-none (take u) = refl
-  call-hands-none (list u) = refl
-  call-hands-none (run schedule limit answers) = refl
-  call-hands-none check = refl
+  says-handed u a x withdrawn = none-picked (eqb t u)
 
   told-handed : (e : Event) → AnswerSays e → handedAt t e ≡ toldTook t (tells e)
-  told-handed (called c r) s = sym (pick-good (λ x. toldTook t x ≡ []) (eqb r done) (λ e. call-hands-none c) (λ e. refl))
+  told-handed (called c r) s = called-so (λ x. [] ≡ toldTook t x) refl (λ u i. refl) (λ u. refl) (λ u. refl) c r
   told-handed (turned x) s = says-handed (x .thread) (x .answer) (tells (turned x)) s
 
   -- what was owed before x is what x hands over and what is owed afterwards
@@ -146,9 +141,13 @@ module _ (t : ℕ) where
         go true k = absurd (not-owing owed o least most (sym here ∙ ap op (eqb-true t u k) ∙ e))
         go false k = untouched (upd op u o′ t) (elsewhere t op u o′ k)
 
+  take-stage : (o : Operation) → UndecidedTake o → (1 ≤ stage o) × (stage o ≤ 3)
+  take-stage o one-item = (omega arith, omega arith)
+  take-stage o whole-list = (omega arith, omega arith)
+
   undecided-stage : (o : Operation) → Undecided o → (1 ≤ stage o) × (stage o ≤ 3)
-  undecided-stage o one-item = (omega arith, omega arith)
-  undecided-stage o whole-list = (omega arith, omega arith)
+  undecided-stage o a-put = (omega arith, omega arith)
+  undecided-stage o (a-take h) = take-stage o h
 
   -- an answer took: t's own pays the first item owed
   module _ (op : ℕ → Operation) (u : ℕ) (i : Item) (is : List Item) (e : op u ≡ owing i is) where
@@ -186,8 +185,10 @@ module _ (t : ℕ) where
   pays x l l′ (list-decides {t = u} {i = i} {is = is} e _ _) ne owed h =
       aside x (l .operation) owed h refl u listing (owing i is) e (omega arith) (omega arith)
   pays x l l′ (empty-decides {t = u} {o = o} e un _) ne owed h =
-      aside x (l .operation) owed h refl u o none e (undecided-stage o un .0) (undecided-stage o un .1)
+      aside x (l .operation) owed h refl u o none e (take-stage o un .0) (take-stage o un .1)
   pays x l l′ (take-answers {t = u} {i = i} {is = is} e) ne owed h = took-pays (l .operation) u i is e owed h
+  pays x l l′ (ends-withdrawn {t = u} {o = o} e un) ne owed h =
+      aside x (l .operation) owed h refl u o none e (undecided-stage o un .0) (undecided-stage o un .1)
 
   -- the deciding access: what it removes is owed, and rises
   pub removal-owes : (x : Told) (is : List Item) → Removes t x is → (l l′ : Ledger) → Follows x l l′ → l′ .operation t ≡ stillOwing is
@@ -199,8 +200,8 @@ module _ (t : ℕ) where
   removal-rises x is list-taken r = r
 
   -- All along a history, of whose moments P and F hold.
-  module _ (P : List ℕ → Ledger → Type 0) (F : Event → Ledger → Ledger → Type 0)
-      (follows : (e : Event) (l l′ : Ledger) → F e l l′ → Follows (tells e) l l′ × AnswerSays e) where
+  module _ (P : List ℕ → Ledger → Type 0) (F : List ℕ → Moment → Ledger → Ledger → Type 0)
+      (follows : (b : List ℕ) (m : Moment) (l l′ : Ledger) → F b m l l′ → Follows (tells (m .event)) l l′ × AnswerSays (m .event)) where
     pub record Paid (since : List Moment) (b : List ℕ) (owed : List Item) : Type 0 where
       pub rest : List Item
       pub ledger : Ledger
@@ -208,13 +209,13 @@ module _ (t : ℕ) where
       pub split : owed ≡ tookBy t since ++ rest
       pub now : ledger .operation t ≡ stillOwing rest
 
-    pub all-paid : (since later : List Moment) (b : List ℕ) (l : Ledger) → P b l → Kept P F l (since ++ later) → count (begins t) since ≡ 0
+    pub all-paid : (since later : List Moment) (b : List ℕ) (l : Ledger) → P b l → Kept P F b l (since ++ later) → count (begins t) since ≡ 0
         → (owed : List Item) → l .operation t ≡ stillOwing owed → Paid since b owed
     unfolding count tookBy
     all-paid [] later b l g k z owed h = record { rest = owed; ledger = l; region = g; split = refl; now = h }
     all-paid (m ∷ ms) later b l g k z owed h =
         let told = tells (m .event) in
-        let f = follows (m .event) l (k .0) (k .1) in
+        let f = follows b m l (k .0) (k .1) in
         let ne = none-here (begins t (m .event)) (count (begins t) ms) z in
         let p = pays told l (k .0) (f .0) ne owed h in
         let r = all-paid ms later (m .region) (k .0) (k .2) (k .3) (omega (arith, z)) (p .rest) (p .now) in

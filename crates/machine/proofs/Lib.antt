@@ -1,3 +1,3 @@
 -- How each place's plan ends, and the ways out of the functions.
-mod PlaceEffects
+pub mod PlaceEffects
 mod Ways

@@ -1,15 +1,16 @@
 -- How each place's plan ends, whichever way it goes: it has no effect or one of its place's kind, and its thread is idle where the operation
 -- ends. So what a turn at the place leaves is what carrying the plan out is defined to leave. Assumes nothing.
 use Prim.Native.Nat.{ℕ}
-use mathlib.Core.Path.{_≡_, refl}
+use mathlib.Core.Path.{_≡_, refl, sym}
 use mathlib.Core.Bool.{Bool, true, false, _&&_}
 use mathlib.Core.List.{List}
 use lib.Dec.{eqb}
+use Rattle.region.specs.Answer.{unreadable}
 use Rattle.region.specs.Pick.{pick}
 use Rattle.region.specs.Shared.{Shared}
 use Rattle.region.specs.Thread.{atPlace, goneIdle, isIdle, withDepth}
 use Rattle.region.specs.declared.answer.Answer.{Answer}
-use Rattle.region.specs.declared.answer.Answer.the-variants.{Moved, Took, Withdrawn}
+use Rattle.region.specs.declared.answer.Answer.the-variants.{Moved, Idle as Rests, Inserted, Took, Empty, Refused, Withdrawn}
 use Rattle.region.specs.declared.frame.Frame.{Frame}
 use Rattle.region.specs.declared.place.Place.{Place}
 use Rattle.region.specs.declared.place.Place.the-variants.{Idle, ReadDepth, ReadLeaf, ReadAncestor, GrowDepth, ReadTarget, InsertAtRoot, ReadParent, InsertBelow, ReadRoot, RemoveHead, MendReadNode, MendReadDepth, MendReadLeft, MendReadRight, MendSwap, MendClean, ListReadRoot, RemoveList, HandOut}
@@ -29,7 +30,8 @@ use Rattle.insert.specs.Insert.{afterAncestorRead, growDepth, insertAt, insertA
 use Rattle.extract.specs.Extract.{afterListRemoval, afterRemoval, afterRootRead, casRoot, handOut, handedOut, listReadRoot, readRoot, removeHead, removeList}
 use Rattle.moundify.specs.Moundify.{afterChildrenRead, cleanAt, afterDepthRead, exchangeAt, exchangeWith, mendClean, mendSwap, mendReadDepth, mendReadLeft, mendReadNode, mendReadRight, returning, returned, returnAnswer}
 use Rattle.turns.specs.Inner.{goesIdle, idleByAnswer, idleByPlace, recordBytes}
-use Rattle.permission.specs.Withdraw.{withdrawal}
+use Rattle.permission.specs.Withdraw.{isPutPlace, withdrawal}
+use Rattle.machine.specs.Inner.{isWithdrawn}
 use Rattle.machine.specs.Turn.{carriedOut, decideAt}
 
 -- the kind of effects that a place has
@@ -55,9 +57,14 @@ kindAt ListReadRoot = reading
 kindAt RemoveList = detaching
 kindAt HandOut = freeing
 
--- storing the record, gone idle where `idle` says so of the plan, and carrying out an effect of kind k is carrying the plan out
+-- storing the record, gone idle where `idle` says so of the plan, and carrying out an effect of kind k is carrying the plan out; and no place
+-- itself answers withdrawn
+abbrev Carried : (Plan → Bool) → ℕ → Plan → Type 0
+Carried idle k p = (f : Frame) (b : List ℕ) (n : ℕ) → effectBytes f (recordBytes f b n p (idle p)) (ofKind k (p .effect)) ≡ carriedOut f b n p
+
 pub record Fits (idle : Plan → Bool) (k : ℕ) (p : Plan) : Type 0 where
-  pub carried : (f : Frame) (b : List ℕ) (n : ℕ) → effectBytes f (recordBytes f b n p (idle p)) (ofKind k (p .effect)) ≡ carriedOut f b n p
+  pub carried : Carried idle k p
+  pub own-answer : isWithdrawn (p .answer) ≡ false
 
 -- the effect is nothing or of kind k
 record OfKind (k : ℕ) (e : Effect) : Type 0 where
@@ -82,11 +89,30 @@ itself (Clean n v) = record { same = refl }
 itself (Detach v) = record { same = refl }
 itself (Free c) = record { same = refl }
 
+-- withdrawn changes a byte, and answers no operation
+stop-answer : (a : Answer) → changesNothing a ≡ true → isWithdrawn a ≡ false
+stop-answer Moved e = refl
+stop-answer Rests e = refl
+stop-answer Inserted e = refl
+stop-answer (Took i) e = refl
+stop-answer Empty e = refl
+stop-answer (Refused n) e = refl
+stop-answer Withdrawn e = sym e
+
+end-answer : (a : Answer) → answersOperation a ≡ true → isWithdrawn a ≡ false
+end-answer Moved e = refl
+end-answer Rests e = refl
+end-answer Inserted e = refl
+end-answer (Took i) e = refl
+end-answer Empty e = refl
+end-answer (Refused n) e = refl
+end-answer Withdrawn e = sym e
+
 -- Each end of a plan: on to another place, refused or idle, the operation ends, or an item is handed out.
 module _ {k : ℕ} {t : Thread} where
   on : {e : Effect} → OfKind k e → Fits idleByAnswer k (record { effect = e; thread = t; answer = Moved })
   unfolding recordBytes carriedOut pick
-  on h = record { carried = λ f b n. rw (h .same) refl }
+  on h = record { carried = λ f b n. rw (h .same) refl; own-answer = refl }
 
   goes : Fits idleByAnswer k (record { effect = Nothing; thread = t; answer = Moved })
   goes = on none
@@ -94,24 +120,19 @@ module _ {k : ℕ} {t : Thread} where
   stops : {idle : Plan → Bool} {a : Answer} → changesNothing a ≡ true
       → Fits idle k (record { effect = Nothing; thread = t; answer = a })
   unfolding effectBytes recordBytes carriedOut pick
-  stops g = let h : OfKind k Nothing = none in record { carried = λ f b n. rw (h .same, g) refl }
+  stops {a = a} g = let h : OfKind k Nothing = none in record { carried = λ f b n. rw (h .same, g) refl; own-answer = stop-answer a g }
 
 rests : {k : ℕ} {e : Effect} (t : Thread) {a : Answer} → OfKind k e → changesNothing a ≡ false → answersOperation a ≡ true
     → Fits idleByAnswer k (record { effect = e; thread = goneIdle t; answer = a })
 unfolding recordBytes carriedOut goneIdle pick
-rests t h g e = record { carried = λ f b n. rw (h .same, g, e) refl }
+rests t {a} h g e = record { carried = λ f b n. rw (h .same, g, e) refl; own-answer = end-answer a e }
 
 -- with the last item the thread is idle, with any other it stays
 hands : {k : ℕ} {e : Effect} {i : Item} (t u : Thread) (q : Bool) → OfKind k e
     → Fits idleByPlace k (record { effect = e; thread = pick q (goneIdle t) (atPlace u HandOut); answer = Took i })
 unfolding recordBytes carriedOut goneIdle isIdle atPlace pick
-hands t u true h = record { carried = λ f b n. rw (h .same) refl }
-hands t u false h = record { carried = λ f b n. rw (h .same) refl }
-
--- a withdrawn operation goes idle
-leaves : {k : ℕ} {e : Effect} (t : Thread) → OfKind k e → Fits idleByPlace k (record { effect = e; thread = goneIdle t; answer = Withdrawn })
-unfolding recordBytes carriedOut goneIdle isIdle pick
-leaves t h = record { carried = λ f b n. rw (h .same) refl }
+hands t u true h = record { carried = λ f b n. rw (h .same) refl; own-answer = refl }
+hands t u false h = record { carried = λ f b n. rw (h .same) refl; own-answer = refl }
 
 or : {idle : Plan → Bool} {k : ℕ} (q : Bool) {a b : Plan} → Fits idle k a → Fits idle k b → Fits idle k (pick q a b)
 unfolding pick
@@ -168,6 +189,17 @@ plan-fits s m t c RemoveList = root-cas m t ListReadRoot (on (itself (Detach _))
 plan-fits s m t c HandOut = or _ (stops refl) (hands t _ _ (itself (Free _)))
 
 -- And the plan of a withdrawn turn.
-pub withdrawal-fits : (t : Thread) → Fits idleByPlace freeing (withdrawal t)
-unfolding withdrawal plan refused
-withdrawal-fits t = or _ (or _ (stops refl) (leaves t (itself (Free _)))) (leaves t none)
+pub withdrawal-fits : (t : Thread) → Carried idleByPlace freeing (withdrawal t)
+unfolding withdrawal plan refused effectBytes recordBytes carriedOut goneIdle isIdle ofKind pick
+withdrawal-fits t f b n = go (isPutPlace (t .place)) (eqb (t .own) 0)
+  where
+    withdrawnBy : Bool → Bool → Plan
+    withdrawnBy p q =
+        pick p (pick q (refused t unreadable) (plan (Free (t .own)) (goneIdle t) Withdrawn)) (plan Nothing (goneIdle t) Withdrawn)
+
+    go : (p q : Bool)
+        → effectBytes f (recordBytes f b n (withdrawnBy p q) (idleByPlace (withdrawnBy p q))) (ofKind freeing (withdrawnBy p q .effect))
+        ≡ carriedOut f b n (withdrawnBy p q)
+    go true true = refl
+    go true false = refl
+    go false q = refl

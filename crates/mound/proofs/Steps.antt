@@ -9,7 +9,7 @@ use mathlib.Core.List.{List, [], _∷_}
 use lib.ListN.{length}
 use Rattle.region.specs.Pick.{pick, upd}
 use Rattle.region.specs.Shared.{Shared, setCell, setFree}
-use Rattle.region.specs.Thread.{atPlace, begunPut, withItem, withOwn}
+use Rattle.region.specs.Thread.{atPlace, begunPut, withItem, withOwn, withPermission}
 use Rattle.region.specs.declared.answer.Answer.{Answer}
 use Rattle.region.specs.declared.answer.Answer.the-variants.{Moved, Idle, Inserted, Took, Empty, Refused, Withdrawn}
 use Rattle.region.specs.declared.place.Place.{Place}
@@ -436,6 +436,23 @@ module _ (s : Shape) (m : Shared) (th : ℕ → Thread) (l : Ledger) {all : ℕ}
             (subst (ItemsStay (m .cell) (effectShared m (p .effect) .cell)) (own-now v) (st .mine));
       }
 
+  -- a record with the same own cell leaves the mound
+  left-alone : (v : Thread) → upd th t v t .own ≡ th t .own → Keeps s m m (owns th) (owns (upd th t v)) all t
+  left-alone v e =
+      record {
+        mound = subst (λ o. Mound s m o all) (sym (same-own (owns th) (owns (upd th t v)) t (own-still v) e)) (inv .mound);
+        rely = rely-same m m (omega arith) (λ y p. refl);
+        kept = λ u n is h. h;
+      }
+
+  -- another permission: no fact of a place and no own cell looks at it
+  pub permit-holds : (p : ℕ) → Invariant s m (upd th t (withPermission (th t) p)) l all
+  unfolding withPermission
+  permit-holds p =
+      let v = withPermission (th t) p in
+      stepped-invariant s m m th l l t v (l .operation t) (inv .at)
+      (record { keeps = left-alone v (own-now v); others = λ u n. refl; now = refl; bag = inv .bag }) (inv .at t)
+
   module _ (idle : th t .place ≡ AtRest) where
     resting : At s m (th t) (l .operation t) AtRest
     resting = subst (At s m (th t) (l .operation t)) idle (inv .at t)
@@ -456,12 +473,7 @@ module _ (s : Shape) (m : Shared) (th : ℕ → Thread) (l : Ledger) {all : ℕ}
             holds =
                 stepped-invariant s m m th l (begins op) t v op (inv .at)
                 (record {
-                  keeps =
-                      record {
-                        mound = subst (λ o. Mound s m o all) (sym (same-own (owns th) (owns (upd th t v)) t (own-still v) (own-now v))) (inv .mound);
-                        rely = rely-same m m (omega arith) (λ y p. refl);
-                        kept = λ u n is h. h;
-                      };
+                  keeps = left-alone v (own-now v);
                   others = λ u n. upd-other (l .operation) t u op n;
                   now = upd-same (l .operation) t op;
                   bag = inv .bag;

@@ -1,8 +1,7 @@
 -- The ways out of the functions, over plain variables: at each `return` the tests passed decide the definition. Assumes nothing.
 use Prim.Native.Nat.{ℕ, _≤_, _<_}
-use native.Mathlib.Omega.{arith}
 use mathlib.Core.Path.{_≡_, refl, sym, ap, subst, _∙_}
-use mathlib.Core.Bool.{Bool, true, false, not, _||_}
+use mathlib.Core.Bool.{Bool, true, false, not}
 use mathlib.Core.List.{List}
 use borrow.Author.Tests.{le-leb, lt-leb, eq-eqb, ne-eqb, not-true, not-false}
 use lib.Dec.{eqb}
@@ -19,57 +18,18 @@ use Rattle.region.specs.declared.answer.Answer.the-variants.{Refused, Withdrawn
 use Rattle.region.specs.declared.frame.Frame.{Frame}
 use Rattle.region.specs.declared.place.Place.{Place}
 use Rattle.region.specs.declared.thread.Thread.{Thread}
-use Rattle.region.proofs.Shapes.{below, between-most}
 use Rattle.access.specs.Plan.{plan, refused}
 use Rattle.access.specs.declared.effect.Effect.the-variants.{Nothing, Free}
 use Rattle.access.specs.declared.plan.Plan.{Plan}
 use Rattle.readable.specs.Readable.{frameIn, readable}
 use Rattle.readable.proofs.Laws.{readable-within}
-use Rattle.permission.specs.Grants.{mayPut, mayTake}
 use Rattle.permission.specs.Permit.{PermitSet, PermitSetIn, permitBytes, permitBytesIn, permitRefusal, permitRefusalIn}
-use Rattle.permission.specs.Withdraw.{isPutPlace, isTakePlace, isUnreadable, lacksPermission, withdrawal}
+use Rattle.permission.specs.Withdraw.{isPutPlace, isUnreadable, withdrawal}
 
--- The places by their numbers.
-module _ (p : Place) (n : ℕ) (en : n ≡ placeNumber p) where
-  pub put-place : (q : Bool) → q ≡ between 1 n 8 → q ≡ isPutPlace p
-  unfolding isPutPlace
-  put-place q e = e ∙ ap (λ k. between 1 k 8) en
-
-  module _ (q : Bool) (eq : q ≡ between 9 n 10) where
-    pub takes-one : q ≡ true → true ≡ isTakePlace p
-    unfolding isTakePlace
-    takes-one h = rw (← en, ← eq, h) refl
-
-    pub takes-list : q ≡ false → (r : Bool) → r ≡ between 17 n 18 → r ≡ isTakePlace p
-    unfolding isTakePlace
-    takes-list h r er = rw (← en, ← eq, h) er
-
--- no place is both a put's and a take's
-never-both : (p : Place) → isPutPlace p ≡ true → isTakePlace p ≡ false
-unfolding isPutPlace isTakePlace
-never-both p h =
-    let n = placeNumber p in
-    let l = between-most 1 n 8 h in
-    rw (below 9 n 10 (omega arith), below 17 n 18 (omega arith)) refl
-
--- Whether the permission lacks: at a put's place, at a take's, or elsewhere.
-module _ (t : Thread) (q : Bool) (eq : q ≡ isPutPlace (t .place)) where
-  pub put-lacks : q ≡ true → (m : Bool) → m ≡ mayPut t → not m ≡ lacksPermission t
-  unfolding lacksPermission
-  put-lacks h m em = rw (never-both (t .place) (sym eq ∙ h), ← eq, h, ← em) (or-false m)
-    where
-      or-false : (m : Bool) → not m ≡ not m || false
-      or-false true = refl
-      or-false false = refl
-
-  module _ (h : q ≡ false) (r : Bool) (er : r ≡ isTakePlace (t .place)) where
-    pub take-lacks : r ≡ true → (m : Bool) → m ≡ mayTake t → not m ≡ lacksPermission t
-    unfolding lacksPermission
-    take-lacks g m em = rw (← eq, h, ← er, g, ← em) refl
-
-    pub not-looked-at : r ≡ false → false ≡ lacksPermission t
-    unfolding lacksPermission
-    not-looked-at g = rw (← eq, h, ← er, g) refl
+-- a put's places by their numbers
+pub put-place : (p : Place) (n : ℕ) → n ≡ placeNumber p → (q : Bool) → q ≡ between 1 n 8 → q ≡ isPutPlace p
+unfolding isPutPlace
+put-place p n en q e = e ∙ ap (λ k. between 1 k 8) en
 
 -- the number of a refusal
 pub by-number : (a : Answer) (n : ℕ) → a ≡ Refused n → eqb n unreadable ≡ isUnreadable a

@@ -4,7 +4,7 @@ ghost use lib.ListN.{length};
 ghost use Rattle.region.specs.Inner.{Within};
 ghost use Rattle.permission.specs.Grants.{mayPut, mayTake};
 ghost use Rattle.permission.specs.Permit.{PermitSet, PermitSetIn, permitRefusalIn};
-ghost use Rattle.permission.specs.Withdraw.{isPutPlace, isTakePlace, isUnreadable, lacksPermission, withdrawal};
+ghost use Rattle.permission.specs.Withdraw.{isPutPlace, isUnreadable, withdrawal};
 use access::Effect;
 use access::Plan;
 use region::Answer;
@@ -33,31 +33,6 @@ fn is_put_place(place: Place) -> bool
     ensures { λ r. ⌜ r ≡ isPutPlace place ⌝ }
 {
     region::is_between(1, place.number(), 8)
-}
-
-// E1, E2, 17 and 18.
-fn is_take_place(place: Place) -> bool
-    ensures { λ r. ⌜ r ≡ isTakePlace place ⌝ }
-{
-    let number = place.number();
-    if region::is_between(9, number, 10) {
-        return true;
-    }
-    region::is_between(17, number, 18)
-}
-
-// Whether the thread stands where its operation needs a permission that it does not have.
-pub fn lacks_permission(t: Thread) -> bool
-    ensures { λ r. ⌜ r ≡ lacksPermission t ⌝ }
-{
-    let place = t.place;
-    if is_put_place(place) {
-        return !may_put(t);
-    }
-    if is_take_place(place) {
-        return !may_take(t);
-    }
-    false
 }
 
 // Whether a turn is refused 7, which comes before its withdrawal.

@@ -340,7 +340,7 @@ module _ (f : Frame) (t p : ℕ) (passed : PermitPassed f t p) where
 
 -- the call sets the permission, or is refused and leaves the bytes alone
 module _ (f : Frame) (b : List ℕ) (t p : ℕ) where
-  permit-either : (P : List ℕ → Type 0) → (PermitPassed f t p → P (setPermissionIn f b t p)) → ((permitRefusalIn f t p ≡ done → ⊥) → P b)
+  pub permit-either : (P : List ℕ → Type 0) → (PermitPassed f t p → P (setPermissionIn f b t p)) → ((permitRefusalIn f t p ≡ done → ⊥) → P b)
       → P (permitBytesIn f b t p)
   unfolding permitBytesIn
   permit-either P set same =

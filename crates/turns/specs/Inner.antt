@@ -8,11 +8,13 @@ use Rattle.region.specs.Pick.{pick}
 use Rattle.region.specs.Shared.{setThreadIn}
 use Rattle.region.specs.Thread.{goneIdle, isIdle}
 use Rattle.region.specs.declared.answer.Answer.{Answer}
+use Rattle.region.specs.declared.answer.Answer.the-variants.{Withdrawn}
 use Rattle.region.specs.declared.frame.Frame.{Frame}
 use Rattle.access.specs.Effect.{effectBytes}
 use Rattle.access.specs.Inner.{freeing, ofKind}
 use Rattle.access.specs.Plan.{changesNothing, answersOperation}
 use Rattle.access.specs.declared.plan.Plan.{Plan}
+use Rattle.permission.specs.Withdraw.{isUnreadable}
 
 -- the region with a plan's record stored, gone idle where `idle` says so; or as it was where the turn is idle or refused
 unfoldable pub recordBytes : Frame → List ℕ → ℕ → Plan → Bool → List ℕ
@@ -42,3 +44,18 @@ goesIdle k = byEffect (eqb k freeing)
 pub record Ended (k : ℕ) (f : Frame) (b b′ : List ℕ) (n : ℕ) (p : Plan) (r : Answer) : Type 0 where
   pub answer : r ≡ p .answer
   pub bytes : b′ ≡ effectBytes f (recordBytes f b n p (goesIdle k p)) (ofKind k (p .effect))
+
+-- the answer of a turn that lacks its permission, a being that of its place
+unfoldable pub withheld : Answer → Answer
+withheld a = pick (isUnreadable a) a Withdrawn
+
+-- storing the record where `may` says that the permission is there
+pub record StoredIf (may : Bool) (f : Frame) (b b′ : List ℕ) (n : ℕ) (p : Plan) (idle : Bool) (r : Answer) : Type 0 where
+  pub granted : may ≡ true → Stored f b b′ n p idle r
+  pub lacking : may ≡ false → (r ≡ withheld (p .answer)) × (b′ ≡ b)
+
+-- what a turn answers and leaves at a place that decides plan p, where `may` says whether the permission is there; the withdrawal is not
+-- carried out yet
+pub record Looked (may : Bool) (k : ℕ) (f : Frame) (b b′ : List ℕ) (n : ℕ) (p : Plan) (r : Answer) : Type 0 where
+  pub granted : may ≡ true → Ended k f b b′ n p r
+  pub lacking : may ≡ false → (r ≡ withheld (p .answer)) × (b′ ≡ b)

@@ -1,5 +1,6 @@
 // A whole turn at each place: the thread's record is loaded, the place decides a plan, the record is stored and
-// the plan's effect carried out. The record is stored first, while the fields that the turn left alone are known to be in their
+// the plan's effect carried out. Where the permission lacks that a put's or a take's place looks at, nothing is stored, and the answer
+// withdrawn asks for `withdraw`, which is thus called at one place. The record is stored first, while the fields that the turn left alone are known to be in their
 // places. Each place has a function of its own, so that its compiled code reads and writes the fields that it needs and no others.
 ghost use mathlib.Core.Path.{_≡_};
 ghost use lib.ListN.{length};
@@ -11,7 +12,9 @@ ghost use Rattle.access.specs.Plan.{answersOperation, changesNothing};
 ghost use Rattle.extract.specs.Extract.{handOut, listReadRoot, readRoot, removeHead, removeList};
 ghost use Rattle.insert.specs.Insert.{growDepth, insertAtRoot, insertBelow, readAncestor, readDepth, readLeaf, readParent, readTarget};
 ghost use Rattle.moundify.specs.Moundify.{mendClean, mendReadDepth, mendReadLeft, mendReadNode, mendReadRight, mendSwap};
-ghost use Rattle.turns.specs.Inner.{Ended, Stored};
+ghost use Rattle.permission.specs.Grants.{mayPut, mayTake};
+ghost use Rattle.permission.specs.Withdraw.{withdrawal};
+ghost use Rattle.turns.specs.Inner.{Ended, Looked, Stored, StoredIf, withheld};
 use access::Plan;
 use region::Answer;
 use region::Frame;
@@ -85,105 +88,177 @@ fn store_hand(f: Frame, b: &mut [u8], n: u32, plan: Plan) -> Answer
     answer
 }
 
+// The answer of a turn that lacks its permission, given that of its place: refused 7 all the same, else withdrawn.
+fn withheld(answer: Answer) -> Answer
+    ensures { λ r. ⌜ r ≡ withheld answer ⌝ }
+{
+    if permission::is_unreadable(answer) {
+        return answer;
+    }
+    Answer::Withdrawn
+}
+
+// As `store_record`, at a place that looks at a permission: where that lacks, nothing is stored. It is looked at last on each way, so that the
+// compiled code of a place chooses its way as it does without.
+fn store_permitted(f: Frame, b: &mut [u8], n: u32, plan: Plan, may: bool) -> Answer
+    requires { ⌜ Within f (length (now b)) ⌝ }
+    ensures { λ r. ⌜ StoredIf may f (now (b .entry)) (now (b .exit)) n plan (answersOperation (plan .answer)) r ⌝ }
+{
+    let answer = plan.answer;
+    if changes_nothing(answer) {
+        if may {
+            return answer;
+        }
+        return withheld(answer);
+    }
+    let record = plan.thread;
+    if answers_operation(answer) {
+        if may {
+            f.store_thread(b, n, record.gone_idle());
+            return answer;
+        }
+        return Answer::Withdrawn;
+    }
+    if may {
+        f.store_thread(b, n, record);
+        return answer;
+    }
+    Answer::Withdrawn
+}
+
+// Carries out the withdrawal of thread n, which a turn has answered.
+pub fn withdraw(f: Frame, b: &mut [u8], n: u32) -> Answer
+    requires { ⌜ Within f (length (now b)) ⌝ }
+    ensures { λ r. ⌜ Ended freeing f (now (b .entry)) (now (b .exit)) n (withdrawal (threadIn f (now (b .entry)) n)) r ⌝ }
+{
+    let plan = permission::withdrawal(f.load_thread(b, n));
+    let effect = plan.effect;
+    let answer = store_hand(f, b, n, plan);
+    access::carry_freeing(f, b, effect);
+    answer
+}
+
 // I1
 pub fn turn_read_depth(f: Frame, b: &mut [u8], n: u32) -> Answer
     requires { ⌜ Within f (length (now b)) ⌝ }
-    ensures { λ r. ⌜ Ended reading f (now (b .entry)) (now (b .exit)) n (readDepth (sharedIn f (now (b .entry))) (threadIn f (now (b .entry)) n)) r ⌝ }
+    ensures { λ r. ⌜ Looked (mayPut (threadIn f (now (b .entry)) n)) reading f (now (b .entry)) (now (b .exit)) n (readDepth (sharedIn f (now (b .entry))) (threadIn f (now (b .entry)) n)) r ⌝ }
 {
-    let plan = insert::read_depth(f, b, f.load_thread(b, n));
-    store_record(f, b, n, plan)
+    let t = f.load_thread(b, n);
+    let plan = insert::read_depth(f, b, t);
+    store_permitted(f, b, n, plan, permission::may_put(t))
 }
 
 // I2
 pub fn turn_read_leaf(f: Frame, b: &mut [u8], n: u32, choice: u32) -> Answer
     requires { ⌜ Within f (length (now b)) ⌝ }
-    ensures { λ r. ⌜ Ended reading f (now (b .entry)) (now (b .exit)) n (readLeaf (f .shape) (sharedIn f (now (b .entry))) (threadIn f (now (b .entry)) n) choice) r ⌝ }
+    ensures { λ r. ⌜ Looked (mayPut (threadIn f (now (b .entry)) n)) reading f (now (b .entry)) (now (b .exit)) n (readLeaf (f .shape) (sharedIn f (now (b .entry))) (threadIn f (now (b .entry)) n) choice) r ⌝ }
 {
-    let plan = insert::read_leaf(f, b, f.load_thread(b, n), choice);
-    store_record(f, b, n, plan)
+    let t = f.load_thread(b, n);
+    let plan = insert::read_leaf(f, b, t, choice);
+    store_permitted(f, b, n, plan, permission::may_put(t))
 }
 
 // I3
 pub fn turn_read_ancestor(f: Frame, b: &mut [u8], n: u32) -> Answer
     requires { ⌜ Within f (length (now b)) ⌝ }
-    ensures { λ r. ⌜ Ended reading f (now (b .entry)) (now (b .exit)) n (readAncestor (sharedIn f (now (b .entry))) (threadIn f (now (b .entry)) n)) r ⌝ }
+    ensures { λ r. ⌜ Looked (mayPut (threadIn f (now (b .entry)) n)) reading f (now (b .entry)) (now (b .exit)) n (readAncestor (sharedIn f (now (b .entry))) (threadIn f (now (b .entry)) n)) r ⌝ }
 {
-    let plan = insert::read_ancestor(f, b, f.load_thread(b, n));
-    store_record(f, b, n, plan)
+    let t = f.load_thread(b, n);
+    let plan = insert::read_ancestor(f, b, t);
+    store_permitted(f, b, n, plan, permission::may_put(t))
 }
 
 // I4
 pub fn turn_grow_depth(f: Frame, b: &mut [u8], n: u32) -> Answer
     requires { ⌜ Within f (length (now b)) ⌝ }
-    ensures { λ r. ⌜ Ended growing f (now (b .entry)) (now (b .exit)) n (growDepth (f .shape) (sharedIn f (now (b .entry))) (threadIn f (now (b .entry)) n)) r ⌝ }
+    ensures { λ r. ⌜ Looked (mayPut (threadIn f (now (b .entry)) n)) growing f (now (b .entry)) (now (b .exit)) n (growDepth (f .shape) (sharedIn f (now (b .entry))) (threadIn f (now (b .entry)) n)) r ⌝ }
 {
-    let plan = insert::grow_depth(f, b, f.load_thread(b, n));
+    let t = f.load_thread(b, n);
+    let plan = insert::grow_depth(f, b, t);
     let effect = plan.effect;
-    let answer = store_record(f, b, n, plan);
-    access::carry_growth(f, b, effect);
+    let may = permission::may_put(t);
+    let answer = store_permitted(f, b, n, plan, may);
+    if may {
+        access::carry_growth(f, b, effect);
+    }
     answer
 }
 
 // I5
 pub fn turn_read_target(f: Frame, b: &mut [u8], n: u32) -> Answer
     requires { ⌜ Within f (length (now b)) ⌝ }
-    ensures { λ r. ⌜ Ended reading f (now (b .entry)) (now (b .exit)) n (readTarget (sharedIn f (now (b .entry))) (threadIn f (now (b .entry)) n)) r ⌝ }
+    ensures { λ r. ⌜ Looked (mayPut (threadIn f (now (b .entry)) n)) reading f (now (b .entry)) (now (b .exit)) n (readTarget (sharedIn f (now (b .entry))) (threadIn f (now (b .entry)) n)) r ⌝ }
 {
-    let plan = insert::read_target(f, b, f.load_thread(b, n));
-    store_record(f, b, n, plan)
+    let t = f.load_thread(b, n);
+    let plan = insert::read_target(f, b, t);
+    store_permitted(f, b, n, plan, permission::may_put(t))
 }
 
 // I6
 pub fn turn_insert_at_root(f: Frame, b: &mut [u8], n: u32) -> Answer
     requires { ⌜ Within f (length (now b)) ⌝ }
-    ensures { λ r. ⌜ Ended pushing f (now (b .entry)) (now (b .exit)) n (insertAtRoot (sharedIn f (now (b .entry))) (threadIn f (now (b .entry)) n)) r ⌝ }
+    ensures { λ r. ⌜ Looked (mayPut (threadIn f (now (b .entry)) n)) pushing f (now (b .entry)) (now (b .exit)) n (insertAtRoot (sharedIn f (now (b .entry))) (threadIn f (now (b .entry)) n)) r ⌝ }
 {
-    let plan = insert::insert_at_root(f, b, f.load_thread(b, n));
+    let t = f.load_thread(b, n);
+    let plan = insert::insert_at_root(f, b, t);
     let effect = plan.effect;
-    let answer = store_record(f, b, n, plan);
-    access::carry_push(f, b, effect);
+    let may = permission::may_put(t);
+    let answer = store_permitted(f, b, n, plan, may);
+    if may {
+        access::carry_push(f, b, effect);
+    }
     answer
 }
 
 // I7
 pub fn turn_read_parent(f: Frame, b: &mut [u8], n: u32) -> Answer
     requires { ⌜ Within f (length (now b)) ⌝ }
-    ensures { λ r. ⌜ Ended reading f (now (b .entry)) (now (b .exit)) n (readParent (sharedIn f (now (b .entry))) (threadIn f (now (b .entry)) n)) r ⌝ }
+    ensures { λ r. ⌜ Looked (mayPut (threadIn f (now (b .entry)) n)) reading f (now (b .entry)) (now (b .exit)) n (readParent (sharedIn f (now (b .entry))) (threadIn f (now (b .entry)) n)) r ⌝ }
 {
-    let plan = insert::read_parent(f, b, f.load_thread(b, n));
-    store_record(f, b, n, plan)
+    let t = f.load_thread(b, n);
+    let plan = insert::read_parent(f, b, t);
+    store_permitted(f, b, n, plan, permission::may_put(t))
 }
 
 // I8
 pub fn turn_insert_below(f: Frame, b: &mut [u8], n: u32) -> Answer
     requires { ⌜ Within f (length (now b)) ⌝ }
-    ensures { λ r. ⌜ Ended pushing f (now (b .entry)) (now (b .exit)) n (insertBelow (sharedIn f (now (b .entry))) (threadIn f (now (b .entry)) n)) r ⌝ }
+    ensures { λ r. ⌜ Looked (mayPut (threadIn f (now (b .entry)) n)) pushing f (now (b .entry)) (now (b .exit)) n (insertBelow (sharedIn f (now (b .entry))) (threadIn f (now (b .entry)) n)) r ⌝ }
 {
-    let plan = insert::insert_below(f, b, f.load_thread(b, n));
+    let t = f.load_thread(b, n);
+    let plan = insert::insert_below(f, b, t);
     let effect = plan.effect;
-    let answer = store_record(f, b, n, plan);
-    access::carry_push(f, b, effect);
+    let may = permission::may_put(t);
+    let answer = store_permitted(f, b, n, plan, may);
+    if may {
+        access::carry_push(f, b, effect);
+    }
     answer
 }
 
 // E1
 pub fn turn_read_root(f: Frame, b: &mut [u8], n: u32) -> Answer
     requires { ⌜ Within f (length (now b)) ⌝ }
-    ensures { λ r. ⌜ Ended reading f (now (b .entry)) (now (b .exit)) n (readRoot (sharedIn f (now (b .entry))) (threadIn f (now (b .entry)) n)) r ⌝ }
+    ensures { λ r. ⌜ Looked (mayTake (threadIn f (now (b .entry)) n)) reading f (now (b .entry)) (now (b .exit)) n (readRoot (sharedIn f (now (b .entry))) (threadIn f (now (b .entry)) n)) r ⌝ }
 {
-    let plan = extract::read_root(f, b, f.load_thread(b, n));
-    store_record(f, b, n, plan)
+    let t = f.load_thread(b, n);
+    let plan = extract::read_root(f, b, t);
+    store_permitted(f, b, n, plan, permission::may_take(t))
 }
 
 // E2
 pub fn turn_remove_head(f: Frame, b: &mut [u8], n: u32) -> Answer
     requires { ⌜ Within f (length (now b)) ⌝ }
-    ensures { λ r. ⌜ Ended popping f (now (b .entry)) (now (b .exit)) n (removeHead (sharedIn f (now (b .entry))) (threadIn f (now (b .entry)) n)) r ⌝ }
+    ensures { λ r. ⌜ Looked (mayTake (threadIn f (now (b .entry)) n)) popping f (now (b .entry)) (now (b .exit)) n (removeHead (sharedIn f (now (b .entry))) (threadIn f (now (b .entry)) n)) r ⌝ }
 {
-    let plan = extract::remove_head(f, b, f.load_thread(b, n));
+    let t = f.load_thread(b, n);
+    let plan = extract::remove_head(f, b, t);
     let effect = plan.effect;
-    let answer = store_record(f, b, n, plan);
-    access::carry_pop(f, b, effect);
+    let may = permission::may_take(t);
+    let answer = store_permitted(f, b, n, plan, may);
+    if may {
+        access::carry_pop(f, b, effect);
+    }
     answer
 }
 
@@ -250,21 +325,26 @@ pub fn turn_mend_clean(f: Frame, b: &mut [u8], n: u32, w: u32) -> Answer
 // 17
 pub fn turn_list_read_root(f: Frame, b: &mut [u8], n: u32) -> Answer
     requires { ⌜ Within f (length (now b)) ⌝ }
-    ensures { λ r. ⌜ Ended reading f (now (b .entry)) (now (b .exit)) n (listReadRoot (sharedIn f (now (b .entry))) (threadIn f (now (b .entry)) n)) r ⌝ }
+    ensures { λ r. ⌜ Looked (mayTake (threadIn f (now (b .entry)) n)) reading f (now (b .entry)) (now (b .exit)) n (listReadRoot (sharedIn f (now (b .entry))) (threadIn f (now (b .entry)) n)) r ⌝ }
 {
-    let plan = extract::list_read_root(f, b, f.load_thread(b, n));
-    store_record(f, b, n, plan)
+    let t = f.load_thread(b, n);
+    let plan = extract::list_read_root(f, b, t);
+    store_permitted(f, b, n, plan, permission::may_take(t))
 }
 
 // 18
 pub fn turn_remove_list(f: Frame, b: &mut [u8], n: u32) -> Answer
     requires { ⌜ Within f (length (now b)) ⌝ }
-    ensures { λ r. ⌜ Ended detaching f (now (b .entry)) (now (b .exit)) n (removeList (sharedIn f (now (b .entry))) (threadIn f (now (b .entry)) n)) r ⌝ }
+    ensures { λ r. ⌜ Looked (mayTake (threadIn f (now (b .entry)) n)) detaching f (now (b .entry)) (now (b .exit)) n (removeList (sharedIn f (now (b .entry))) (threadIn f (now (b .entry)) n)) r ⌝ }
 {
-    let plan = extract::remove_list(f, b, f.load_thread(b, n));
+    let t = f.load_thread(b, n);
+    let plan = extract::remove_list(f, b, t);
     let effect = plan.effect;
-    let answer = store_record(f, b, n, plan);
-    access::carry_detaching(f, b, effect);
+    let may = permission::may_take(t);
+    let answer = store_permitted(f, b, n, plan, may);
+    if may {
+        access::carry_detaching(f, b, effect);
+    }
     answer
 }
 
@@ -274,17 +354,6 @@ pub fn turn_hand_out(f: Frame, b: &mut [u8], n: u32) -> Answer
     ensures { λ r. ⌜ Ended freeing f (now (b .entry)) (now (b .exit)) n (handOut (sharedIn f (now (b .entry))) (threadIn f (now (b .entry)) n)) r ⌝ }
 {
     let plan = extract::hand_out(f, b, f.load_thread(b, n));
-    let effect = plan.effect;
-    let answer = store_hand(f, b, n, plan);
-    access::carry_freeing(f, b, effect);
-    answer
-}
-
-// A turn that frees a cell of the thread's own, or none, and makes no access (a withdrawn turn).
-pub fn turn_withdrawn(f: Frame, b: &mut [u8], n: u32, plan: Plan) -> Answer
-    requires { ⌜ Within f (length (now b)) ⌝ }
-    ensures { λ r. ⌜ Ended freeing f (now (b .entry)) (now (b .exit)) n plan r ⌝ }
-{
     let effect = plan.effect;
     let answer = store_hand(f, b, n, plan);
     access::carry_freeing(f, b, effect);

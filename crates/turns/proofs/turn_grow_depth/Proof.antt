@@ -1,8 +1,9 @@
--- `turns::turn_grow_depth` meets its contract. Assumes nothing.
+-- `turns::turn_grow_depth` meets its contract, with the permission there or not. Assumes nothing.
 use borrow.Author.Needs.{needs}
 use Rattle.insert.specs.Insert.{growDepth}
+use Rattle.permission.specs.Grants.{mayPut}
 use Rattle.turns.proofs.turn_grow_depth.Statement.{statement}
-use Rattle.turns.proofs.Ways.{changes}
+use Rattle.turns.proofs.Ways.{changes-granted, lacks}
 use Rattle.turns.proofs.turn_grow_depth.Tie as tie
 
 pub turn-grow-depth-spec : {M : Type 1} → statement M
@@ -13,5 +14,8 @@ turn-grow-depth-spec =
     (λ c κs. search needs)
     (λ c κs. search needs)
     (λ c κs. search needs)
+    (λ c κs. search needs)
     (λ c. search needs)
-    (λ c. search (changes (growDepth))))
+    (λ c. search (changes-granted (growDepth) mayPut))
+    (λ c. search needs)
+    (λ c. search (lacks (growDepth) mayPut)))

@@ -1,8 +1,9 @@
--- `turns::turn_insert_below` meets its contract. Assumes nothing.
+-- `turns::turn_insert_below` meets its contract, with the permission there or not. Assumes nothing.
 use borrow.Author.Needs.{needs}
 use Rattle.insert.specs.Insert.{insertBelow}
+use Rattle.permission.specs.Grants.{mayPut}
 use Rattle.turns.proofs.turn_insert_below.Statement.{statement}
-use Rattle.turns.proofs.Ways.{changes}
+use Rattle.turns.proofs.Ways.{changes-granted, lacks}
 use Rattle.turns.proofs.turn_insert_below.Tie as tie
 
 pub turn-insert-below-spec : {M : Type 1} → statement M
@@ -13,5 +14,8 @@ turn-insert-below-spec =
     (λ c κs. search needs)
     (λ c κs. search needs)
     (λ c κs. search needs)
+    (λ c κs. search needs)
     (λ c. search needs)
-    (λ c. search (changes (λ s. insertBelow))))
+    (λ c. search (changes-granted (λ s. insertBelow) mayPut))
+    (λ c. search needs)
+    (λ c. search (lacks (λ s. insertBelow) mayPut)))

@@ -1,8 +1,9 @@
--- `turns::turn_read_ancestor` meets its contract. Assumes nothing.
+-- `turns::turn_read_ancestor` meets its contract, with the permission there or not. Assumes nothing.
 use borrow.Author.Needs.{needs}
 use Rattle.insert.specs.Insert.{readAncestor}
+use Rattle.permission.specs.Grants.{mayPut}
 use Rattle.turns.proofs.turn_read_ancestor.Statement.{statement}
-use Rattle.turns.proofs.Ways.{reads}
+use Rattle.turns.proofs.Ways.{reads-looked}
 use Rattle.turns.proofs.turn_read_ancestor.Tie as tie
 
 pub turn-read-ancestor-spec : {M : Type 1} → statement M
@@ -12,5 +13,6 @@ turn-read-ancestor-spec =
     (λ c κs. search needs)
     (λ c κs. search needs)
     (λ c κs. search needs)
+    (λ c κs. search needs)
     (λ c. search needs)
-    (λ c. search (reads (λ s. readAncestor))))
+    (λ c. search (reads-looked (λ s. readAncestor) mayPut)))

@@ -1,8 +1,9 @@
--- `turns::turn_read_depth` meets its contract. Assumes nothing.
+-- `turns::turn_read_depth` meets its contract, with the permission there or not. Assumes nothing.
 use borrow.Author.Needs.{needs}
 use Rattle.insert.specs.Insert.{readDepth}
+use Rattle.permission.specs.Grants.{mayPut}
 use Rattle.turns.proofs.turn_read_depth.Statement.{statement}
-use Rattle.turns.proofs.Ways.{reads}
+use Rattle.turns.proofs.Ways.{reads-looked}
 use Rattle.turns.proofs.turn_read_depth.Tie as tie
 
 pub turn-read-depth-spec : {M : Type 1} → statement M
@@ -12,5 +13,6 @@ turn-read-depth-spec =
     (λ c κs. search needs)
     (λ c κs. search needs)
     (λ c κs. search needs)
+    (λ c κs. search needs)
     (λ c. search needs)
-    (λ c. search (reads (λ s. readDepth))))
+    (λ c. search (reads-looked (λ s. readDepth) mayPut)))

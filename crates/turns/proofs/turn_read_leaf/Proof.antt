@@ -1,8 +1,9 @@
--- `turns::turn_read_leaf` meets its contract. Assumes nothing.
+-- `turns::turn_read_leaf` meets its contract, with the permission there or not. Assumes nothing.
 use borrow.Author.Needs.{needs}
 use Rattle.insert.specs.Insert.{readLeaf}
+use Rattle.permission.specs.Grants.{mayPut}
 use Rattle.turns.proofs.turn_read_leaf.Statement.{statement}
-use Rattle.turns.proofs.Ways.{reads-by}
+use Rattle.turns.proofs.Ways.{reads-looked-by}
 use Rattle.turns.proofs.turn_read_leaf.Tie as tie
 
 pub turn-read-leaf-spec : {M : Type 1} → statement M
@@ -12,5 +13,6 @@ turn-read-leaf-spec =
     (λ c κs. search needs)
     (λ c κs. search needs)
     (λ c κs. search needs)
+    (λ c κs. search needs)
     (λ c. search needs)
-    (λ c. search (reads-by (readLeaf))))
+    (λ c. search (reads-looked-by (readLeaf) mayPut)))

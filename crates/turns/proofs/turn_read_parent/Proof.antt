@@ -1,8 +1,9 @@
--- `turns::turn_read_parent` meets its contract. Assumes nothing.
+-- `turns::turn_read_parent` meets its contract, with the permission there or not. Assumes nothing.
 use borrow.Author.Needs.{needs}
 use Rattle.insert.specs.Insert.{readParent}
+use Rattle.permission.specs.Grants.{mayPut}
 use Rattle.turns.proofs.turn_read_parent.Statement.{statement}
-use Rattle.turns.proofs.Ways.{reads}
+use Rattle.turns.proofs.Ways.{reads-looked}
 use Rattle.turns.proofs.turn_read_parent.Tie as tie
 
 pub turn-read-parent-spec : {M : Type 1} → statement M
@@ -12,5 +13,6 @@ turn-read-parent-spec =
     (λ c κs. search needs)
     (λ c κs. search needs)
     (λ c κs. search needs)
+    (λ c κs. search needs)
     (λ c. search needs)
-    (λ c. search (reads (λ s. readParent))))
+    (λ c. search (reads-looked (λ s. readParent) mayPut)))

@@ -1,8 +1,9 @@
--- `turns::turn_read_root` meets its contract. Assumes nothing.
+-- `turns::turn_read_root` meets its contract, with the permission there or not. Assumes nothing.
 use borrow.Author.Needs.{needs}
 use Rattle.extract.specs.Extract.{readRoot}
+use Rattle.permission.specs.Grants.{mayTake}
 use Rattle.turns.proofs.turn_read_root.Statement.{statement}
-use Rattle.turns.proofs.Ways.{reads}
+use Rattle.turns.proofs.Ways.{reads-looked}
 use Rattle.turns.proofs.turn_read_root.Tie as tie
 
 pub turn-read-root-spec : {M : Type 1} → statement M
@@ -12,5 +13,6 @@ turn-read-root-spec =
     (λ c κs. search needs)
     (λ c κs. search needs)
     (λ c κs. search needs)
+    (λ c κs. search needs)
     (λ c. search needs)
-    (λ c. search (reads (λ s. readRoot))))
+    (λ c. search (reads-looked (λ s. readRoot) mayTake)))

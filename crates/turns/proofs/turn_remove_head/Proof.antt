@@ -1,8 +1,9 @@
--- `turns::turn_remove_head` meets its contract. Assumes nothing.
+-- `turns::turn_remove_head` meets its contract, with the permission there or not. Assumes nothing.
 use borrow.Author.Needs.{needs}
 use Rattle.extract.specs.Extract.{removeHead}
+use Rattle.permission.specs.Grants.{mayTake}
 use Rattle.turns.proofs.turn_remove_head.Statement.{statement}
-use Rattle.turns.proofs.Ways.{changes}
+use Rattle.turns.proofs.Ways.{changes-granted, lacks}
 use Rattle.turns.proofs.turn_remove_head.Tie as tie
 
 pub turn-remove-head-spec : {M : Type 1} → statement M
@@ -13,5 +14,8 @@ turn-remove-head-spec =
     (λ c κs. search needs)
     (λ c κs. search needs)
     (λ c κs. search needs)
+    (λ c κs. search needs)
     (λ c. search needs)
-    (λ c. search (changes (λ s. removeHead))))
+    (λ c. search (changes-granted (λ s. removeHead) mayTake))
+    (λ c. search needs)
+    (λ c. search (lacks (λ s. removeHead) mayTake)))
