@@ -5,7 +5,7 @@ use Prim.Native.Nat.{ℕ, zero, suc, _+_, _-_, _*_, _^_, _≤_, _<_, min}
 use native.Mathlib.Decide.{ℕ-discrete}
 use native.Mathlib.Omega.{arith}
 use mathlib.Core.Path.{_≡_, refl, sym, ap, subst, _∙_}
-use mathlib.Core.Bool.{Bool, true, false, _||_}
+use mathlib.Core.Bool.{Bool, true, false, not, _||_}
 use mathlib.Core.List.{List, [], _∷_}
 use borrow.Author.Tests.{eq-eqb, ne-eqb}
 use lib.Dec.{eqb}
@@ -14,7 +14,8 @@ use lib.Pow.{pow-mono}
 use Rattle.region.specs.Answer.{counterSpent}
 use Rattle.region.specs.Level.{digits, level}
 use Rattle.region.specs.Pick.{pick, upd}
-use Rattle.region.specs.Shape.{nodeCount}
+use Rattle.region.specs.Place.{placeNumber}
+use Rattle.region.specs.Shape.{between, nodeCount}
 use Rattle.region.specs.Inner.{InRange}
 use Rattle.region.specs.Shared.{Shared, sharedIn, threadIn}
 use Rattle.region.specs.Thread.{atPlace, goneIdle, mending, withAfter, withCopies, withDepth, withFirst, withNode, withResult, withSecond, withThird}
@@ -29,7 +30,7 @@ use Rattle.region.specs.declared.shape.Shape.{Shape}
 use Rattle.region.specs.declared.thread.Thread.{Thread}
 use Rattle.region.proofs.Levels.{level-holds, power-doubles}
 use Rattle.region.proofs.Picks.{upd-same, upd-other}
-use Rattle.region.proofs.Shapes.{is-between, sizes}
+use Rattle.region.proofs.Shapes.{above, below as before, between-least, between-most, is-between, sizes}
 use Rattle.access.specs.Effect.{effectShared, freed}
 use Rattle.access.specs.Order.{val, valueOf}
 use Rattle.access.specs.Plan.{changesNothing, moved, onTo, plan, refused}
@@ -40,6 +41,9 @@ use Rattle.access.proofs.ReadLaws.{same-itself, updated-dirty, updated-first}
 use Rattle.readable.proofs.Laws.{Good}
 use Rattle.extract.specs.Extract.{afterRootRead, readRoot, afterRemoval, casRoot, removeHead}
 use Rattle.moundify.specs.Moundify.{returning, mendReadNode, afterDepthRead, mendReadDepth, mendReadLeft, lessBelow, childLess, afterChildrenRead, mendReadRight, exchangeAt, nodeAndChildSame, exchangeWith, cleanAt, mendClean, returnAnswer}
+use Rattle.permission.specs.Grants.{mayTake}
+use Rattle.permission.specs.Withdraw.{isPutPlace, isTakePlace, lacksPermission, permitted}
+use Rattle.permission.proofs.Laws.{none-lacks, take-lacks}
 use Rattle.machine.specs.Turn.{decide, decideAt, turnAnswer, turnBytes, turnPlan}
 use Rattle.cost.specs.Cost.{lesserChild, levelsDown, withoutHead}
 use Rattle.cost.proofs.Laws.{goes-down, lesser-is-child, levels-same, rests-deepest, rests-there, swaps-as-placed, tests-as-placed}
@@ -86,19 +90,37 @@ clean-but : (f : ℕ → Node) (n c : ℕ) (v w : Node) → v .dirty ≡ 0 → (
     → (x : ℕ) → (x ≡ c → ⊥) → upd (upd f n v) c w x .dirty ≡ 0
 clean-but f n c v w e h x nc = ap (λ y. y .dirty) (upd-other (upd f n v) c x w nc) ∙ clean-now f n v e h x
 
+-- The plan of the place: at mending without a look at the permission, at E1 and E2 with the permission there.
+module _ (s : Shape) (m : Shared) (u : Thread) (c : ℕ) where
+  not-lacking : {z : Place} → u .place ≡ z → lacksPermission u ≡ false → decide s m u c ≡ decideAt s m u c z
+  unfolding decide permitted pick
+  not-lacking e h = rw h (ap (decideAt s m u c) e)
+
+  at-mending : {z : Place} → u .place ≡ z → between 11 (placeNumber z) 16 ≡ true → decide s m u c ≡ decideAt s m u c z
+  unfolding isPutPlace isTakePlace
+  at-mending {z} e h =
+      let n = placeNumber (u .place) in
+      let k : between 11 n 16 ≡ true = ap (λ y. between 11 (placeNumber y) 16) e ∙ h in
+      let least = between-least 11 n 16 k in
+      let most = between-most 11 n 16 k in
+      not-lacking e (none-lacks u (above 1 n 8 (omega arith)) (rw (above 9 n 10 (omega arith), before 17 n 18 (omega arith)) refl))
+
+  at-take : {z : Place} → u .place ≡ z → isTakePlace z ≡ true → mayTake u ≡ true → decide s m u c ≡ decideAt s m u c z
+  at-take e h may = not-lacking e (take-lacks u (ap isTakePlace e ∙ h) ∙ ap not may)
+
 module _ (f : Frame) (t : ℕ) (t-least : 1 ≤ t) (t-most : t ≤ f .shape .threads) where
   abbrev s : Shape
   s = f .shape
 
   -- E1 at an empty root answers empty.
-  pub empty-ends : (m : Shared) (u : Thread) → u .place ≡ ReadRoot → m .node 1 .first ≡ 0 → m .node 1 .dirty ≡ 0 → (b cs : List ℕ)
+  pub empty-ends : (m : Shared) (u : Thread) → u .place ≡ ReadRoot → mayTake u ≡ true → m .node 1 .first ≡ 0 → m .node 1 .dirty ≡ 0 → (b cs : List ℕ)
       → sharedIn f b ≡ m → threadIn f b t ≡ u → 1 ≤ length cs
       → EndsAt (λ x. x .answer ≡ Empty) 1 (alone f b t cs)
-  unfolding alone turnAnswer decide readRoot afterRootRead plan pick readNode
-  empty-ends m u place none clean b [] em eu long = absurd (omega arith)
-  empty-ends m u place none clean b (c ∷ cs) em eu long =
+  unfolding alone turnAnswer between isTakePlace readRoot afterRootRead plan pick readNode
+  empty-ends m u place may none clean b [] em eu long = absurd (omega arith)
+  empty-ends m u place may none clean b (c ∷ cs) em eu long =
       let e : decide s m u c ≡ plan Nothing (goneIdle u) Empty =
-      ap (decideAt s m u c) place ∙ rw (not-dirty {n = m .node 1} refl clean, eq-eqb (m .node 1 .first) 0 none) refl
+      at-take s m u c place refl may ∙ rw (not-dirty {n = m .node 1} refl clean, eq-eqb (m .node 1 .first) 0 none) refl
       in
       last (ap (λ x. x .answer) (turn-decides f b t c t-least t-most ∙ (λ i. decide s (em i) (eu i) c) ∙ e))
 
@@ -215,13 +237,13 @@ module _ (f : Frame) (t : ℕ) (t-least : 1 ≤ t) (t-most : t ≤ f .shape .thr
     -- M6: the node becomes clean, and the take answers.
     clean-rests : (l spent : ℕ) (m : Shared) (u : Thread) → Mending l m u (MendClean 0) → u .copies .first ≡ readNode m (u .node) → l ≡ j
         → spent + 1 ≡ end → RestsFrom spent m u
-    unfolding decide mendClean cleanAt returning returnAnswer plan pick sharedIn turnAnswer effectShared readNode
+    unfolding between mendClean cleanAt returning returnAnswer plan pick sharedIn turnAnswer effectShared readNode
     clean-rests l spent m u h copied there exact =
         let n = u .copies .first .node in
         let v = updated n (n .first) 0 in
         let same : n ≡ m .node (u .node) = ap (λ q. q .node) copied in
         comes-to-rest spent m u (omega arith) (isSpent n) (returning (Clean (u .node) v) u 0)
-        (λ c. ap (decideAt s m u c) (h .place) ∙ rw (ne-eqb (u .node) 0 (λ z. omega (arith, h .some)), same-copy same) refl)
+        (λ c. at-mending s m u c (h .place) refl ∙ rw (ne-eqb (u .node) 0 (λ z. omega (arith, h .some)), same-copy same) refl)
         exact
         (λ b c g em eu e.
         let answered : turnPlan f b t c .answer ≡ Took (u .result) =
@@ -312,12 +334,12 @@ module _ (f : Frame) (t : ℕ) (t-least : 1 ≤ t) (t-most : t ≤ f .shape .thr
         swap-rests : 2 * u .node + 1 ≤ nodeCount s → u .copies .second ≡ readNode m (2 * u .node)
             → u .copies .third ≡ readNode m (2 * u .node + 1)
             → l + 1 + levelsDown (val m) (val m (u .node)) (d - (l + 1)) (lesserChild (val m) (u .node)) ≡ j → RestsFrom (5 * l + 4) m u
-        unfolding decide
+        unfolding between
         swap-rests there second third on =
             let c = lesserChild (val m) (u .node) in
             let is = lesser-is-child (val m) (u .node) in
             exchange-rests c (m .node c) (is .0) (is .1) (omega (arith, is)) refl on
-            (λ x. ap (decideAt s m u x) (h .place) ∙ swaps-as-placed m u second third s 0)
+            (λ x. at-mending s m u x (h .place) refl ∙ swaps-as-placed m u second third s 0)
 
       -- below a level above d there are children
       children-there : (m : Shared) (u : Thread) (p : Place) → Mending l m u p → l < d → 2 * u .node + 1 ≤ nodeCount s
@@ -337,7 +359,7 @@ module _ (f : Frame) (t : ℕ) (t-least : 1 ≤ t) (t-most : t ≤ f .shape .thr
       -- M4, M3, M2 and M1
       right-rests : (m : Shared) (u : Thread) → Mending l m u (MendReadRight 0) → u .copies .first ≡ readNode m (u .node)
           → u .copies .second ≡ readNode m (2 * u .node) → l < d → RestsFrom (5 * l + 3) m u
-      unfolding decide mendReadRight afterChildrenRead isNode onTo pick atPlace withThird withCopies readNode
+      unfolding between mendReadRight afterChildrenRead isNode onTo pick atPlace withThird withCopies readNode
       right-rests m u h copied second higher = go (childLess v) decides (sym less)
         where
           v : Thread
@@ -348,7 +370,7 @@ module _ (f : Frame) (t : ℕ) (t-least : 1 ≤ t) (t-most : t ≤ f .shape .thr
 
           decides : (c : ℕ) → decide s m u c ≡ pick (childLess v) (onTo v (MendSwap 0)) (onTo v (MendClean 0))
           decides c =
-              ap (decideAt s m u c) (h .place)
+              at-mending s m u c (h .place) refl
               ∙ rw (
                 ne-eqb (u .node) 0 (λ e. omega (arith, h .some)),
                 is-between 1 (2 * u .node + 1) (nodeCount s) (omega arith) there,
@@ -382,18 +404,18 @@ module _ (f : Frame) (t : ℕ) (t-least : 1 ≤ t) (t-most : t ≤ f .shape .thr
 
       left-rests : (m : Shared) (u : Thread) → Mending l m u (MendReadLeft 0) → u .copies .first ≡ readNode m (u .node) → l < d
           → RestsFrom (5 * l + 2) m u
-      unfolding decide mendReadLeft isNode onTo pick atPlace withSecond withCopies readNode
+      unfolding between mendReadLeft isNode onTo pick atPlace withSecond withCopies readNode
       left-rests m u h copied higher =
           let v = atPlace (withSecond u (readNode m (2 * u .node))) (MendReadRight 0) in
           let there = children-there m u (MendReadLeft 0) h higher in
           goes-on (5 * l + 2) (5 * l + 3) (omega arith) m u v (omega (arith, h .goes))
-          (λ c. ap (decideAt s m u c) (h .place)
+          (λ c. at-mending s m u c (h .place) refl
           ∙ rw (is-between 1 (2 * u .node) (nodeCount s) (omega (arith, h .some)) (omega arith)) refl)
           (right-rests m v (kept h v (MendReadRight 0) refl refl refl refl) copied refl higher)
 
       depth-rests : (m : Shared) (u : Thread) → Mending l m u (MendReadDepth 0) → u .copies .first ≡ readNode m (u .node)
           → RestsFrom (5 * l + 1) m u
-      unfolding decide mendReadDepth afterDepthRead onTo pick atPlace withDepth readNode
+      unfolding between mendReadDepth afterDepthRead onTo pick atPlace withDepth readNode
       depth-rests m u h copied = go (ℕ-discrete l d)
         where
           v : Place → Thread
@@ -402,7 +424,7 @@ module _ (f : Frame) (t : ℕ) (t-least : 1 ≤ t) (t-most : t ≤ f .shape .thr
           known : (c : ℕ) → decide s m u c ≡ pick (eqb (level (u .node)) (m .depth)) (moved (v (MendClean 0)))
               (moved (v (MendReadLeft 0)))
           known c =
-              ap (decideAt s m u c) (h .place)
+              at-mending s m u c (h .place) refl
               ∙ rw (still-dirty (ap (λ q. q .node) copied) (h .dirty), ne-eqb (u .node) 0 (λ e. omega (arith, h .some))) refl
 
           go : Dec (l ≡ d) → RestsFrom (5 * l + 1) m u
@@ -423,11 +445,11 @@ module _ (f : Frame) (t : ℕ) (t-least : 1 ≤ t) (t-most : t ≤ f .shape .thr
               copied (omega (arith, h .above)))
 
       node-rests : (m : Shared) (u : Thread) → Mending l m u (MendReadNode 0) → RestsFrom (5 * l) m u
-      unfolding decide mendReadNode onTo pick atPlace withFirst withCopies readNode
+      unfolding between mendReadNode onTo pick atPlace withFirst withCopies readNode
       node-rests m u h =
           let v = atPlace (withFirst u (readNode m (u .node))) (MendReadDepth 0) in
           goes-on (5 * l) (5 * l + 1) refl m u v (omega (arith, h .above, h .goes))
-          (λ c. ap (decideAt s m u c) (h .place) ∙ rw (ne-eqb (u .node) 0 (λ e. omega (arith, h .some))) refl)
+          (λ c. at-mending s m u c (h .place) refl ∙ rw (ne-eqb (u .node) 0 (λ e. omega (arith, h .some))) refl)
           (depth-rests m v (kept h v (MendReadDepth 0) refl refl refl refl) refl)
 
     -- by the levels left below l
@@ -441,15 +463,15 @@ module _ (f : Frame) (t : ℕ) (t-least : 1 ≤ t) (t-most : t ≤ f .shape .thr
         (full : m .node 1 .first ≡ 0 → ⊥) (clean : (x : ℕ) → m .node x .dirty ≡ 0)
         (taken : m .cell (m .node 1 .first) .item ≡ rootItem f b₀) (begins : m .cell (m .node 1 .first) .next ≡ first)
         (cells : popped m .cell ≡ cell) (goes : 1 + levelsDown (val (popped m)) (val (popped m) 1) (d - 1) 1 ≡ j) where
-      head-rests : (u : Thread) → u .place ≡ RemoveHead → u .copies .first ≡ readNode m 1 → RestsFrom 4 m u
-      unfolding decide removeHead casRoot afterRemoval effectShared plan pick mending atPlace withNode withAfter withResult level digits readNode popped withoutHead
-      head-rests u place copied =
+      head-rests : (u : Thread) → u .place ≡ RemoveHead → mayTake u ≡ true → u .copies .first ≡ readNode m 1 → RestsFrom 4 m u
+      unfolding between isTakePlace mayTake removeHead casRoot afterRemoval effectShared plan pick mending atPlace withNode withAfter withResult level digits readNode popped withoutHead
+      head-rests u place may copied =
           let q = u .copies .first in
           let v = updated (q .node) (q .head .next) 1 in
           let w = mending (withAfter (withResult u (q .head .item)) 1) 1 0 in
           let root : m .node 1 .first ≡ q .node .first = ap (λ x. x .node .first) (sym copied) in
           moves 4 m u (omega (arith, goes)) (isSpent (q .node)) (plan (Pop v (q .node .first)) w Moved)
-          (λ c. ap (decideAt s m u c) place
+          (λ c. at-take s m u c place refl may
           ∙ rw (same-copy (ap (λ x. x .node) copied), ne-eqb (q .node .first) 0 (λ z. full (root ∙ z))) refl)
           refl 5 refl
           (subst (λ x. RestsFrom 5 x w)
@@ -476,10 +498,10 @@ module _ (f : Frame) (t : ℕ) (t-least : 1 ≤ t) (t-most : t ≤ f .shape .thr
             goes = goes;
           })))
 
-      pub root-rests : (u : Thread) → u .place ≡ ReadRoot → RestsFrom 3 m u
-      unfolding decide readRoot afterRootRead onTo pick atPlace withFirst withCopies readNode
-      root-rests u place =
+      pub root-rests : (u : Thread) → u .place ≡ ReadRoot → mayTake u ≡ true → RestsFrom 3 m u
+      unfolding between isTakePlace mayTake readRoot afterRootRead onTo pick atPlace withFirst withCopies readNode
+      root-rests u place may =
           let v = atPlace (withFirst u (readNode m 1)) RemoveHead in
           goes-on 3 4 refl m u v (omega (arith, goes))
-          (λ c. ap (decideAt s m u c) place ∙ rw (not-dirty {n = m .node 1} refl (clean 1), ne-eqb (m .node 1 .first) 0 full) refl)
-          (head-rests v refl refl)
+          (λ c. at-take s m u c place refl may ∙ rw (not-dirty {n = m .node 1} refl (clean 1), ne-eqb (m .node 1 .first) 0 full) refl)
+          (head-rests v refl may refl)

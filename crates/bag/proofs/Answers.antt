@@ -31,6 +31,8 @@ use Rattle.readable.proofs.Laws.{Good}
 use Rattle.preserved.proofs.PlansGood.{or-left, or-right}
 use Rattle.permission.specs.Withdraw.{isPutPlace, isUnreadable, lacksPermission, permitted, withdrawal}
 use Rattle.run.specs.Run.{Turn}
+use Rattle.machine.specs.Inner.{isWithdrawn}
+use Rattle.machine.proofs.PlaceEffects.{plan-fits}
 use Rattle.machine.specs.Turn.{decide, decideAt, turnAnswer, turnPlan}
 use Rattle.mound.specs.Told.{nothing, decidesEmpty, decidesPut}
 use Rattle.mound.proofs.Steps.{effectTells, quietTells}
@@ -39,28 +41,14 @@ use Rattle.bag.specs.History.{ServedTurn, turned, rootItem, rootItems, s
 use Rattle.bag.specs.Told.{answerTells, stands, tells}
 use Rattle.bag.proofs.Carried.{turn-threads}
 
-abbrev pub isWithdrawn : Answer → Bool
-isWithdrawn Moved = false
-isWithdrawn AnswersIdle = false
-isWithdrawn Inserted = false
-isWithdrawn (Took i) = false
-isWithdrawn Empty = false
-isWithdrawn (Refused n) = false
-isWithdrawn Withdrawn = true
-
 -- the turn of thread u, with i as the root's item and is as its list, from the place p on by the plan x
 module _ (i : Item) (is : List Item) (u : ℕ) where
   abbrev pub seen : Place → Place → Answer → ServedTurn
   seen p q a = record { thread = u; from = p; to = q; answer = a; root = i; list = is }
 
-  record Speaks (p : Place) (x : Plan) : Type 0 where
+  record Spoken (p : Place) (x : Plan) : Type 0 where
     tells-so : answerTells (seen p (x .thread .place) (x .answer)) (x .answer) ≡ effectTells i is u (x .answer) (x .effect)
     says : Says u (x .answer) (effectTells i is u (x .answer) (x .effect))
-
-  -- no place itself answers withdrawn
-  record Spoken (p : Place) (x : Plan) : Type 0 where
-    speaks : Speaks p x
-    not-withdrawn : isWithdrawn (x .answer) ≡ false
 
   -- the place where the thread stands afterwards matters where it moved
   pub place-after : (p q q′ : Place) (a : Answer) → (a ≡ Moved → q ≡ q′) → answerTells (seen p q a) a ≡ answerTells (seen p q′ a) a
@@ -73,13 +61,13 @@ module _ (i : Item) (is : List Item) (u : ℕ) where
   place-after p q q′ Withdrawn h = refl
 
   plan-says : (p : Place) (e : Effect) (t : Thread) (a : Answer) → answerTells (seen p (t .place) a) a ≡ effectTells i is u a e
-      → Says u a (effectTells i is u a e) → isWithdrawn a ≡ false → Spoken p (plan e t a)
+      → Says u a (effectTells i is u a e) → Spoken p (plan e t a)
   unfolding plan
-  plan-says p e t a k h w = record { speaks = record { tells-so = k; says = h }; not-withdrawn = w }
+  plan-says p e t a k h = record { tells-so = k; says = h }
 
   refused-says : (p : Place) (t : Thread) (n : ℕ) → Spoken p (refused t n)
   unfolding refused
-  refused-says p t n = plan-says p Nothing t (Refused n) refl says-refused refl
+  refused-says p t n = plan-says p Nothing t (Refused n) refl says-refused
 
   either : (p : Place) (q : Bool) {a b : Plan} → Spoken p a → Spoken p b → Spoken p (pick q a b)
   either p q h g = pick-good (Spoken p) q (λ e. h) (λ e. g)
@@ -94,7 +82,7 @@ module _ (i : Item) (is : List Item) (u : ℕ) where
 
     moves-on : (e : Effect) (t : Thread) → effectTells i is u Moved e ≡ nothing → Spoken p (plan e t Moved)
     moves-on e t k =
-        plan-says p e t Moved (quiet-tells (t .place) ∙ sym k) (subst (Says u Moved) (sym k) says-moved) refl
+        plan-says p e t Moved (quiet-tells (t .place) ∙ sym k) (subst (Says u Moved) (sym k) says-moved)
 
     moved-says : (t : Thread) → Spoken p (moved t)
     unfolding moved
@@ -109,7 +97,7 @@ module _ (i : Item) (is : List Item) (u : ℕ) where
     unfolding returning returnAnswer
     returning-says e t w h =
         pick-good (λ a. Spoken p (plan e (returned t w) a)) (eqb w 0 && eqb (t .after) 1)
-        (λ k. plan-says p e _ _ (sym (h (Took (t .result)))) (subst (Says u (Took (t .result))) (sym (h (Took (t .result)))) took) refl)
+        (λ k. plan-says p e _ _ (sym (h (Took (t .result)))) (subst (Says u (Took (t .result))) (sym (h (Took (t .result)))) took))
         (λ k. moves-on e _ (h Moved))
 
   -- every place
@@ -118,7 +106,7 @@ module _ (i : Item) (is : List Item) (u : ℕ) where
     push-says : (p : Place) → stands p InsertAtRoot || stands p InsertBelow ≡ true → (n k x : ℕ) (v : Node)
         → Spoken p (plan (Push n v k x) (goneIdle t) Inserted)
     unfolding pick
-    push-says p here n k x v = plan-says p _ _ _ (ap (λ q. pick q (decidesPut u) nothing) here) inserted refl
+    push-says p here n k x v = plan-says p _ _ _ (ap (λ q. pick q (decidesPut u) nothing) here) inserted
 
     inserts-says : (p : Place) (n : ℕ) (holds : Bool) → stands p RemoveHead || stands p RemoveList ≡ false
         → stands p InsertAtRoot || stands p InsertBelow ≡ true → Spoken p (insertAt t n holds)
@@ -128,11 +116,11 @@ module _ (i : Item) (is : List Item) (u : ℕ) where
 
     empty-says : (p : Place) → stands p ReadRoot || stands p ListReadRoot ≡ true → Spoken p (plan Nothing (goneIdle t) Empty)
     unfolding pick
-    empty-says p here = plan-says p _ _ _ (ap (λ q. pick q (decidesEmpty u) nothing) here) empty refl
+    empty-says p here = plan-says p _ _ _ (ap (λ q. pick q (decidesEmpty u) nothing) here) empty
 
     fails : (p back : Place) → stands back (MendReadNode 0) ≡ false → Spoken p (onTo t back)
     unfolding pick onTo moved atPlace
-    fails p back e = plan-says p _ _ _ (rw e refl) says-moved refl
+    fails p back e = plan-says p _ _ _ (rw e refl) says-moved
 
     -- E1 and 17
     root-read-says : (p : Place) (after : ℕ) (next : Place) → stands p RemoveHead || stands p RemoveList ≡ false
@@ -150,15 +138,15 @@ module _ (i : Item) (is : List Item) (u : ℕ) where
 
     pop-says : (v : Node) (k n w : ℕ) (x : Thread) → Spoken RemoveHead (plan (Pop v k) (mending x n w) Moved)
     unfolding pick mending atPlace
-    pop-says v k n w x = plan-says _ _ _ _ refl removed refl
+    pop-says v k n w x = plan-says _ _ _ _ refl removed
 
     detach-says : (v : Node) (n w : ℕ) (x : Thread) → Spoken RemoveList (plan (Detach v) (mending x n w) Moved)
     unfolding pick mending atPlace
-    detach-says v n w x = plan-says _ _ _ _ refl list-removed refl
+    detach-says v n w x = plan-says _ _ _ _ refl list-removed
 
     at-place-says : (p : Place) → Spoken p (decideAt s m t c p)
     unfolding readDepth readLeaf readAncestor growDepth readTarget insertAtRoot readParent insertBelow readRoot removeHead listReadRoot removeList handOut handedOut mendReadNode mendReadDepth mendReadLeft mendReadRight mendSwap mendClean
-    at-place-says Idle = plan-says _ _ _ _ refl idle refl
+    at-place-says Idle = plan-says _ _ _ _ refl idle
     at-place-says ReadDepth = onTo-says _ refl _ _
     at-place-says ReadLeaf =
         either _ _ (either _ _ (either _ _ (onTo-says _ refl _ _) (either _ _ (onTo-says _ refl _ _) (refused-says _ _ _))) (onTo-says _ refl _ _))
@@ -192,39 +180,38 @@ module _ (i : Item) (is : List Item) (u : ℕ) where
         (either _ _ (either _ _ (refused-says _ _ _) (returning-says _ refl (Clean _ _) t w (λ a. refl))) (onTo-says _ refl _ _))
     at-place-says ListReadRoot = root-read-says ListReadRoot 2 RemoveList refl refl
     at-place-says RemoveList = root-cas-says RemoveList ListReadRoot _ refl (detach-says _ _ _ _)
-    at-place-says HandOut = either _ _ (refused-says _ _ _) (plan-says _ (Free _) _ _ refl took refl)
+    at-place-says HandOut = either _ _ (refused-says _ _ _) (plan-says _ (Free _) _ _ refl took)
 
   -- a withdrawn turn
-  withdrawal-speaks : (p : Place) (t : Thread) → Speaks p (withdrawal t)
-  unfolding withdrawal plan
-  withdrawal-speaks p t =
-      pick-good (Speaks p) (isPutPlace (t .place))
-      (λ e. pick-good (Speaks p) (eqb (t .own) 0) (λ z. refused-says p t unreadable .speaks)
-      (λ z. record { tells-so = refl; says = says-withdrawn }))
-      (λ e. record { tells-so = refl; says = says-withdrawn })
+  withdrawal-says : (p : Place) (t : Thread) → Spoken p (withdrawal t)
+  unfolding withdrawal
+  withdrawal-says p t =
+      either p _ (either p _ (refused-says p t unreadable) (plan-says p (Free (t .own)) _ _ refl says-withdrawn))
+      (plan-says p Nothing _ _ refl says-withdrawn)
 
-plan-speaks : (f : Frame) (b : List ℕ) (t c : ℕ) → Speaks (rootItem f b) (rootItems f b) t (threadIn f b t .place) (turnPlan f b t c)
+plan-spoken : (f : Frame) (b : List ℕ) (t c : ℕ) → Spoken (rootItem f b) (rootItems f b) t (threadIn f b t .place) (turnPlan f b t c)
 unfolding turnPlan decide permitted
-plan-speaks f b t c =
+plan-spoken f b t c =
     let i = rootItem f b in
     let is = rootItems f b in
     let u = threadIn f b t in
-    pick-good (Speaks i is t (u .place)) (between 1 t (f .shape .threads))
-    (λ e. pick-good (Speaks i is t (u .place)) (lacksPermission u && not (isUnreadable _)) (λ k. withdrawal-speaks i is t _ u)
-    (λ k. at-place-says i is t (f .shape) (sharedIn f b) u c (u .place) .speaks))
-    (λ e. refused-says i is t _ _ _ .speaks)
+    either i is t _ _ (either i is t _ _ (withdrawal-says i is t _ u) (at-place-says i is t (f .shape) (sharedIn f b) u c (u .place)))
+    (refused-says i is t _ _ _)
 
--- a turn answers withdrawn by its withdrawal alone
-pub by-withdrawal : (f : Frame) (b : List ℕ) (t c : ℕ) → turnPlan f b t c .answer ≡ Withdrawn → turnPlan f b t c ≡ withdrawal (threadIn f b t)
-unfolding turnPlan decide permitted refused plan
-by-withdrawal f b t c =
-    let u = threadIn f b t in
-    let W = λ (p : Plan). p .answer ≡ Withdrawn → p ≡ withdrawal u in
-    pick-good W (between 1 t (f .shape .threads))
-    (λ e. pick-good W (lacksPermission u && not (isUnreadable _)) (λ k h. refl)
-    (λ k h. absurd (true≢false (sym (ap isWithdrawn h)
-    ∙ at-place-says (rootItem f b) (rootItems f b) t (f .shape) (sharedIn f b) u c (u .place) .not-withdrawn))))
-    (λ e h. absurd (true≢false (sym (ap isWithdrawn h))))
+-- a turn answers withdrawn by its withdrawal alone: no place itself does
+module _ (f : Frame) (b : List ℕ) (t c : ℕ) where
+  abbrev ByWithdrawal : Plan → Type 0
+  ByWithdrawal p = p .answer ≡ Withdrawn → p ≡ withdrawal (threadIn f b t)
+
+  pub by-withdrawal : ByWithdrawal (turnPlan f b t c)
+  unfolding turnPlan decide permitted refused plan
+  by-withdrawal =
+      let u = threadIn f b t in
+      let p = decideAt (f .shape) (sharedIn f b) u c (u .place) in
+      pick-good ByWithdrawal (between 1 t (f .shape .threads))
+      (λ e. pick-good ByWithdrawal (lacksPermission u && not (isUnreadable (p .answer))) (λ k h. refl)
+      (λ k h. absurd (true≢false (sym (ap isWithdrawn h) ∙ plan-fits (f .shape) (sharedIn f b) u c (u .place) .own-answer))))
+      (λ e h. absurd (true≢false (sym (ap isWithdrawn h))))
 
 -- a turn on bytes in range
 module _ (f : Frame) (b : List ℕ) (g : Good f b) (x : Turn) where
@@ -239,8 +226,8 @@ module _ (f : Frame) (b : List ℕ) (g : Good f b) (x : Turn) where
       place-after (rootItem f b) (rootItems f b) t _ _ (p .thread .place) (p .answer) (λ e.
       let moved-on = ap (λ h. h t) (turn-threads f b t c g (ap changesNothing e)) ∙ upd-same (threadIn f b) t (p .thread) in
       ap (λ y. y .place) moved-on)
-      ∙ plan-speaks f b t c .tells-so
+      ∙ plan-spoken f b t c .tells-so
 
   pub turn-says : Says (x .thread) (turnAnswer f b (x .thread) (x .choice)) (tells (turned (servedOn f b x)))
   unfolding turnAnswer
-  turn-says = subst (Says (x .thread) (p .answer)) (sym turn-tells) (plan-speaks f b (x .thread) (x .choice) .says)
+  turn-says = subst (Says (x .thread) (p .answer)) (sym turn-tells) (plan-spoken f b (x .thread) (x .choice) .says)

@@ -98,6 +98,11 @@ unfolding pick
 none-taken true = refl
 none-taken false = refl
 
+none-if : (q : Bool) → (q ≡ true → ⊥) → pick {A = ℕ} q 1 0 ≡ 0
+unfolding pick
+none-if true h = absurd (h refl)
+none-if false h = refl
+
 pub none-here : (q : Bool) (k : ℕ) → pick q 1 0 + k ≡ 0 → q ≡ false
 unfolding pick
 none-here true k e = absurd (omega arith)
@@ -141,7 +146,7 @@ module _ (t : ℕ) where
   told-rests x l l′ (empty-decides {t = u} {o = o} e un _) ne =
       omega (arith, rests (l .operation) u o none 0 e (omega arith) t, none-taken (eqb t u))
   told-rests x l l′ (take-answers {t = u} {i = i} {is = is} e) ne =
-      omega (arith, rests (l .operation) u (owing i is) (stillOwing is) 0 e (busy-most (stillOwing is)) t, none-taken (eqb t u))
+      omega (arith, rests (l .operation) u (owing i is) (stillOwing is) 0 e (omega (arith, busy-most (stillOwing is))) t, none-taken (eqb t u))
   told-rests x l l′ (ends-withdrawn {t = u} {o = o} e un) ne =
       rests (l .operation) u o none 1 e (omega (arith, one-remains o un, remaining-busy o)) t
 
@@ -245,37 +250,27 @@ module _ (t : ℕ) where
   -- none is answered while it has not decided, nor where none is under way
   unanswered : (ms later : List Moment) (l : Ledger) (f : Followed l (ms ++ later)) (z : count (begins t) ms ≡ 0)
       → (remaining (all-take ms later l f z .ledger .operation t) ≡ 1) ⊎ (busy (l .operation t) ≡ 0) → count (answered t) ms ≡ 0
-  unfolding count pick
+  unfolding count pick all-take
   unanswered [] later l f z h = refl
-  unanswered (m ∷ ms) later l f z h = go (answered t (m .event)) refl
-    where
-      n : beginning t (tells (m .event)) ≡ false
-      n = none-here (begins t (m .event)) (count (begins t) ms) z
-
-      more : count (answered t) ms ≡ 0
-      more =
-          unanswered ms later (f .0) (f .3) (omega (arith, z))
-          (⊎-elim (λ k. inl k) (λ k. inr (omega (arith, k, told-rests (tells (m .event)) l (f .0) (f .1) n))) h)
-
-      never : answered t (m .event) ≡ true → ⊥
-      never a =
-          let end = answer-ends (m .event) l (f .0) (f .1) (f .2) a in
-          let r = all-take ms later (f .0) (f .3) (omega (arith, z)) in
-          ⊎-elim (λ k. omega (arith, k, r .taken, end .over)) (λ k. omega (arith, k, end .under-way)) h
-
-      go : (q : Bool) → answered t (m .event) ≡ q → pick q 1 0 + count (answered t) ms ≡ 0
-      go true a = absurd (never a)
-      go false a = more
+  unanswered (m ∷ ms) later l f z h =
+      let n = none-here (begins t (m .event)) (count (begins t) ms) z in
+      let r = all-take ms later (f .0) (f .3) (omega (arith, z)) in
+      let more =
+      unanswered ms later (f .0) (f .3) (omega (arith, z))
+      (⊎-elim (λ k. inl k) (λ k. inr (omega (arith, k, told-rests (tells (m .event)) l (f .0) (f .1) n))) h)
+      in
+      omega (
+        arith,
+        more,
+        none-if (answered t (m .event)) λ a.
+            let end = answer-ends (m .event) l (f .0) (f .1) (f .2) a in
+            ⊎-elim (λ k. omega (arith, k, r .taken, end .over)) (λ k. omega (arith, k, end .under-way)) h,
+      )
 
   -- what withdraws answers nothing
-  not-answered : (x : Moment) (l : Ledger) {later : List Moment} → Followed l (x ∷ later) → withdrawn t (x .event) ≡ true
+  not-answered : (x : Moment) (l l′ : Ledger) → Follows (tells (x .event)) l l′ → AnswerSays (x .event) → withdrawn t (x .event) ≡ true
       → pick {A = ℕ} (answered t (x .event)) 1 0 ≡ 0
-  unfolding pick
-  not-answered x l f w = go (answered t (x .event)) refl
-    where
-      go : (q : Bool) → answered t (x .event) ≡ q → pick {A = ℕ} q 1 0 ≡ 0
-      go true a = absurd (true≢false (sym w ∙ answer-ends (x .event) l (f .0) (f .1) (f .2) a .withdraws-none))
-      go false a = refl
+  not-answered x l l′ f s w = none-if (answered t (x .event)) λ a. true≢false (sym w ∙ answer-ends (x .event) l l′ f s a .withdraws-none)
 
 -- the ledger somewhere on the way
 followed-on : (before later : List Moment) (l : Ledger) → Followed l (before ++ later) → (l′ : Ledger) × Followed l′ later
@@ -290,6 +285,7 @@ module _ (l : Ledger) (all : List Moment) (f : Followed l all) where
       omega (arith, r .taken, told-begins t (tells (y .event)) _ (g .0) (g .1) b)
 
   pub exactly-once : AnsweredDecidesOnce all
+  unfolding count pick
   exactly-once t y x before since later split b z a =
       let g = followed-on before (y ∷ (since ++ x ∷ later)) l (subst (Followed l) split f) .1 in
       let r = all-take t since (x ∷ later) (g .0) (g .3) z in
@@ -323,7 +319,7 @@ module _ (l : Ledger) (all : List Moment) (f : Followed l all) where
         omega (
           arith,
           unanswered t since (x ∷ (after ++ later)) (g .0) (g .3) z (inl (o .undecided)),
-          not-answered t x (r .ledger) h w,
+          not-answered t x (r .ledger) (h .0) (h .1) (h .2) w,
           unanswered t after later (h .0) (h .3) z′ (inr (o .at-rest)),
           count-middle (answered t) since after x,
         ),

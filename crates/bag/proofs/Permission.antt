@@ -5,7 +5,7 @@ use native.Mathlib.Omega.{arith}
 use mathlib.Core.Path.{_≡_, refl, sym, ap, subst, _∙_}
 use mathlib.Core.Bool.{Bool, true, false, not, _&&_, _||_, true≢false}
 use mathlib.Core.List.{List, []}
-use borrow.Author.Tests.{eqb-true, eqb-false, ne-eqb}
+use borrow.Author.Tests.{eqb-true, eqb-false, ne-eqb, not-false}
 use lib.Dec.{eqb}
 use Rattle.region.specs.Answer.{badThread, done, unreadable}
 use Rattle.region.specs.Pick.{pick, upd}
@@ -32,13 +32,15 @@ use Rattle.readable.specs.Readable.{frameIn}
 use Rattle.readable.proofs.Laws.{Good}
 use Rattle.permission.specs.Grants.{mayPut, mayTake}
 use Rattle.permission.specs.Withdraw.{isPutPlace, isTakePlace, isUnreadable, lacksPermission, permitted, withdrawal}
+use Rattle.permission.proofs.Laws.{put-lacks, take-lacks}
 use Rattle.begin.specs.Begin.{putBytesIn, putRefusalIn, takeBytesIn, takeRefusalIn}
 use Rattle.begin.proofs.Laws.{is-idle}
 use Rattle.run.specs.Run.{Turn}
+use Rattle.machine.specs.Inner.{isWithdrawn}
 use Rattle.machine.specs.Turn.{carriedOut, decide, decideAt, turnAnswer, turnBytes, turnPlan}
 use Rattle.preserved.proofs.Proved.{put-passed, take-passed}
 use Rattle.mound.specs.Ledger.{Ledger}
-use Rattle.mound.specs.Told.{nothing}
+use Rattle.mound.specs.Told.{Told}
 use Rattle.mound.specs.Tree.{listFrom}
 use Rattle.mound.proofs.Chains.{Chain, ends, first-owned, link}
 use Rattle.mound.proofs.Held.{free-chain, node-chain}
@@ -47,21 +49,10 @@ use Rattle.bag.specs.History.{ServedTurn, servedOn, turned}
 use Rattle.bag.specs.Operations.{withdrawing, withdrawn}
 use Rattle.bag.specs.Permission.{FreeAgain, Granted, NotIn}
 use Rattle.bag.specs.Told.{answerTells, stands, tells}
-use Rattle.bag.proofs.Answers.{by-withdrawal, isWithdrawn}
+use Rattle.bag.proofs.Answers.{by-withdrawal}
 use Rattle.bag.proofs.Carried.{turn-shared, turn-threads}
 
--- The permission is there where it does not lack, and a turn that lacks it is withdrawn or refused.
-put-there : (p m x : Bool) → (p && not m) || x ≡ false → p ≡ true → m ≡ true
-put-there true true x e h = refl
-put-there true false x e h = absurd (true≢false e)
-put-there false m x e h = absurd (true≢false (sym h))
-
-take-there : (x p m : Bool) → x || (p && not m) ≡ false → p ≡ true → m ≡ true
-take-there false true true e h = refl
-take-there false true false e h = absurd (true≢false e)
-take-there false false m e h = absurd (true≢false (sym h))
-take-there true p m e h = absurd (true≢false e)
-
+-- A turn that lacks its permission is withdrawn or refused.
 abbrev undone : Answer → Bool
 undone Moved = false
 undone Idle = false
@@ -80,11 +71,13 @@ unreadable-undone Empty e = absurd (true≢false (sym e))
 unreadable-undone (Refused n) e = refl
 unreadable-undone Withdrawn e = refl
 
+abbrev Undone : Plan → Type 0
+Undone p = undone (p .answer) ≡ true
+
 withdrawal-undone : (t : Thread) → undone (withdrawal t .answer) ≡ true
 unfolding withdrawal plan refused
 withdrawal-undone t =
-    let U = λ (p : Plan). undone (p .answer) ≡ true in
-    pick-good U (isPutPlace (t .place)) (λ e. pick-good U (eqb (t .own) 0) (λ z. refl) (λ z. refl)) (λ e. refl)
+    pick-good Undone (isPutPlace (t .place)) (λ e. pick-good Undone (eqb (t .own) 0) (λ z. refl) (λ z. refl)) (λ e. refl)
 
 lacking-undone : (t : Thread) (p : Plan) → lacksPermission t ≡ true → undone (permitted t p .answer) ≡ true
 unfolding permitted pick
@@ -103,19 +96,21 @@ module _ (b : List ℕ) (y : ServedTurn) (th : Thread) (here : threadIn (frameIn
     (lacks : undone (y .answer) ≡ false → lacksPermission th ≡ false) where
   may-put : (p : Place) → isPutPlace p ≡ true → stands (y .from) p ≡ true → undone (y .answer) ≡ false
       → mayPut (threadIn (frameIn b) b (y .thread)) ≡ true
-  unfolding lacksPermission isPutPlace
+  unfolding isPutPlace
   may-put p h k u =
       ap mayPut here
-      ∙ put-there (isPutPlace (th .place)) (mayPut th) _ (lacks u)
-      (ap (λ n. between 1 n 8) (ap placeNumber (sym from) ∙ eqb-true (placeNumber (y .from)) (placeNumber p) k) ∙ h)
+      ∙ not-false (mayPut th)
+      (sym (put-lacks th (ap (λ n. between 1 n 8) (ap placeNumber (sym from) ∙ eqb-true (placeNumber (y .from)) (placeNumber p) k) ∙ h)) ∙ lacks u)
 
   may-take : (p : Place) → isTakePlace p ≡ true → stands (y .from) p ≡ true → undone (y .answer) ≡ false
       → mayTake (threadIn (frameIn b) b (y .thread)) ≡ true
-  unfolding lacksPermission isTakePlace
+  unfolding isTakePlace
   may-take p h k u =
       ap mayTake here
-      ∙ take-there _ (isTakePlace (th .place)) (mayTake th) (lacks u)
-      (ap (λ n. between 9 n 10 || between 17 n 18) (ap placeNumber (sym from) ∙ eqb-true (placeNumber (y .from)) (placeNumber p) k) ∙ h)
+      ∙ not-false (mayTake th)
+      (sym (take-lacks th
+      (ap (λ n. between 9 n 10 || between 17 n 18) (ap placeNumber (sym from) ∙ eqb-true (placeNumber (y .from)) (placeNumber p) k) ∙ h))
+      ∙ lacks u)
 
   answer-granted : (a : Answer) → y .answer ≡ a → Granted b (answerTells y a)
   unfolding isPutPlace isTakePlace between
@@ -160,21 +155,24 @@ turn-granted b x =
     (not-lacking (frameIn b) b (x .thread) (x .choice)) _ refl
 
 -- A withdrawn turn.
+abbrev NotWithdrawing : ℕ → Told → Type 0
+NotWithdrawing t x = withdrawing t x ≡ false
+
 withdraws-so : (t : ℕ) (y : ServedTurn) (a : Answer) → withdrawing t (answerTells y a) ≡ true → (a ≡ Withdrawn) × (t ≡ y .thread)
 withdraws-so t y Moved h =
-    let N = λ x. withdrawing t x ≡ false in
     absurd (true≢false (sym h ∙
-    pick-good N (stands (y .to) (MendReadNode 0))
-    (λ k. pick-good N (stands (y .from) RemoveHead) (λ s. refl) (λ s. pick-good N (stands (y .from) RemoveList) (λ r. refl) (λ r. refl)))
+    pick-good (NotWithdrawing t) (stands (y .to) (MendReadNode 0))
+    (λ k. pick-good (NotWithdrawing t) (stands (y .from) RemoveHead) (λ s. refl)
+    (λ s. pick-good (NotWithdrawing t) (stands (y .from) RemoveList) (λ r. refl) (λ r. refl)))
     (λ k. refl)))
 withdraws-so t y Idle h = absurd (true≢false (sym h))
 withdraws-so t y Inserted h =
     absurd (true≢false (sym h ∙
-    pick-good (λ x. withdrawing t x ≡ false) (stands (y .from) InsertAtRoot || stands (y .from) InsertBelow) (λ k. refl) (λ k. refl)))
+    pick-good (NotWithdrawing t) (stands (y .from) InsertAtRoot || stands (y .from) InsertBelow) (λ k. refl) (λ k. refl)))
 withdraws-so t y (Took i) h = absurd (true≢false (sym h))
 withdraws-so t y Empty h =
     absurd (true≢false (sym h ∙
-    pick-good (λ x. withdrawing t x ≡ false) (stands (y .from) ReadRoot || stands (y .from) ListReadRoot) (λ k. refl) (λ k. refl)))
+    pick-good (NotWithdrawing t) (stands (y .from) ReadRoot || stands (y .from) ListReadRoot) (λ k. refl) (λ k. refl)))
 withdraws-so t y (Refused n) h = absurd (true≢false (sym h))
 withdraws-so t y Withdrawn h = (refl, eqb-true t (y .thread) h)
 

@@ -38,7 +38,7 @@ use Rattle.mound.proofs.Steps.{root-sorted}
 use Rattle.bag.specs.Calls.{Call, NoAcceptedLayout, put, take, list, permit}
 use Rattle.bag.specs.Demand3.{Agrees, AnswerSays, HoldsTheSame, RegionIsABag, inTree}
 use Rattle.bag.specs.History.{Event, called, turned, Moment, history, rootItem, rootItems, servedOn}
-use Rattle.bag.specs.Moments.{InEveryHistory, regionAfter}
+use Rattle.bag.specs.Moments.{EachMoment, InEveryHistory, regionAfter}
 use Rattle.bag.specs.Operations.{withdrawing}
 use Rattle.bag.specs.Permission.{FreeAgain, Granted, StaysBarred, WithdrawnLeaves, Withdrew, makes}
 use Rattle.bag.specs.Told.{callTells, tells}
@@ -238,6 +238,11 @@ turned-next s b l g x =
       region = n .region;
     }
 
+nothing-told : (q : Bool) → nothing ≡ pick q nothing nothing
+unfolding pick
+nothing-told true = refl
+nothing-told false = refl
+
 -- every history of a laid-out region keeps the invariant
 pub history-kept : InEveryHistory λ s permissions b ms. Kept (QueueRegion s) Moves b emptyLedger ms
 history-kept s ps b e calls h =
@@ -245,19 +250,14 @@ history-kept s ps b e calls h =
     calls-kept (QueueRegion s) Moves (frameOf s) (4 * regionWords s)
     (λ b l g. queue-frame s b l g) (λ b l g. queue-long s b l g)
     (λ b l g t i. called-next (put t i) (putRefusal b t i) (put-barred s b l g t (putRefusal b t i) i) (put-followed s b l g t i))
-    (λ b l g t. called-next (take t) (takeRefusal b t) (take-barred s b l g t ReadRoot _ (λ u k. eqb-true u t k)) (take-followed s b l g t))
-    (λ b l g t. called-next (list t) (takeRefusal b t) (take-barred s b l g t ListReadRoot _ (λ u k. eqb-true u t k)) (list-followed s b l g t))
+    (λ b l g t. called-next (take t) (takeRefusal b t) (take-barred s b l g t ReadRoot (called (take t) (takeRefusal b t)) (λ u k. eqb-true u t k)) (take-followed s b l g t))
+    (λ b l g t. called-next (list t) (takeRefusal b t) (take-barred s b l g t ListReadRoot (called (list t) (takeRefusal b t)) (λ u k. eqb-true u t k)) (list-followed s b l g t))
     (λ b l g t p. called-next (permit t p) (permitRefusal b t p) (λ u idle empty made. absurd (true≢false (sym made)))
     (subst (λ x. Next (QueueRegion s) Follows l x (permitBytes b t p)) (nothing-told (eqb (permitRefusal b t p) done)) (permit-followed s b l g t p)))
     (λ b l g x. turned-next s b l g x)
     (λ b l g c r k. called-next c r (λ t idle empty made. refl) (call-still s b l g c r k))
     calls (layoutBytes s ps b) emptyLedger laid
     (subst (λ n. NoAcceptedLayout n calls) (laid-exact s ps b e ∙ sym (queue-long s (layoutBytes s ps b) emptyLedger laid)) h)
-  where
-    nothing-told : (q : Bool) → nothing ≡ pick q nothing nothing
-    unfolding pick
-    nothing-told true = refl
-    nothing-told false = refl
 
 -- an operation that owes nothing has no item left
 nothing-owed : (is : List Item) → stillOwing is ≡ none → is ≡ []
@@ -302,7 +302,9 @@ region-is-a-bag s ps b e calls n =
     let ms = history laid calls in
     let k = history-kept s ps b e calls n in
     let f = followed s ms laid emptyLedger k in
-    let each = λ Q h. kept-each (QueueRegion s) Moves Q h ms laid emptyLedger k in
+    let each : (Q : List ℕ → Moment → Type 0) → ((b : List ℕ) (m : Moment) (l l′ : Ledger) → Moves b m l l′ → Q b m) → EachMoment Q laid ms =
+    λ Q h. kept-each (QueueRegion s) Moves Q h ms laid emptyLedger k
+    in
     record {
       bag = agrees s ms laid emptyLedger (laid-queue s ps b e) k;
       at-most-once = at-most-once emptyLedger ms f;

@@ -33,7 +33,8 @@ use Rattle.readable.proofs.Laws.{Good, good}
 use Rattle.readable.proofs.Stores.{thread-fit}
 use Rattle.begin.specs.Begin.{acceptedTake, one-item, takeBytes, takeRefusal}
 use Rattle.begin.proofs.Laws.{take-refusal-in}
-use Rattle.run.specs.Run.{Turn, accessesOf}
+use Rattle.run.specs.Run.{Turn}
+use Rattle.permission.specs.Grants.{mayTake}
 use Rattle.machine.specs.Turn.{turnAnswer, turnBytes}
 use Rattle.cost.specs.Cost.{levelsDown, restLevel, takeCost, withoutHead}
 use Rattle.cost.proofs.Laws.{cost-ceiling, cost-counted, cost-empty, cost-full, levels-same, rest-most}
@@ -57,15 +58,7 @@ choicesOf : ℕ → List Turn → List ℕ
 choicesOf t [] = []
 choicesOf t (u ∷ us) = pick (eqb (u .thread) t) (u .choice ∷ choicesOf t us) (choicesOf t us)
 
-no-access : (a : Answer) → accessesOf a ≡ 0 → changesNothing a ≡ true
-no-access Moved h = absurd (omega arith)
-no-access Idle h = refl
-no-access Inserted h = absurd (omega arith)
-no-access (Took i) h = absurd (omega arith)
-no-access Empty h = absurd (omega arith)
-no-access (Refused n) h = refl
-
--- turns of others that make no access leave thread t alone
+-- turns of others that are idle or refused leave thread t alone
 module _ (f : Frame) (t : ℕ) where
   others-aside : (us : List Turn) (b : List ℕ) → NoOtherMoves f b t us → stepsOf f b t us ≡ alone f b t (choicesOf t us)
   unfolding stepsOf alone choicesOf pick turnAnswer
@@ -86,7 +79,7 @@ module _ (f : Frame) (t : ℕ) where
       go false e more =
           more
           ∙ ap (λ b′. alone f b′ t (choicesOf t us))
-          (turn-stays f b (u .thread) (u .choice) (no-access (turnAnswer f b (u .thread) (u .choice)) (h .0 (eqb-false (u .thread) t e))))
+          (turn-stays f b (u .thread) (u .choice) (h .0 (eqb-false (u .thread) t e)))
 
 -- what holds of the last turn may be weakened
 ends-so : {P Q : Step → Type 0} {n : ℕ} {xs : List Step} → ((x : Step) → P x → Q x) → EndsAt P n xs → EndsAt Q n xs
@@ -130,9 +123,9 @@ module _ (f : Frame) (b : List ℕ) (t : ℕ) (choices : List ℕ) (r : Good f b
     -- an empty root: 1 access
     take-empty : nodeIn f b 1 .first ≡ 0 → 1 ≤ length choices
         → EndsAt (λ x. x .answer ≡ Empty) 1 (alone f begun t choices)
-    unfolding sharedIn atPlace
+    unfolding sharedIn atPlace mayTake
     take-empty none long =
-        empty-ends f t t-least t-most (sharedIn f b) (atPlace (threadIn f b t) ReadRoot) refl none (clean-all 1)
+        empty-ends f t t-least t-most (sharedIn f b) (atPlace (threadIn f b t) ReadRoot) refl (passed .permitted) none (clean-all 1)
         begun choices begun-shared begun-thread long
 
     -- any other, with the cells in order
@@ -185,10 +178,10 @@ module _ (f : Frame) (b : List ℕ) (t : ℕ) (choices : List ℕ) (r : Good f b
       take-rests : end f t t-least t-most b (m .depth) (restLevel m) (popped m .cell) second behind ≤ 3 + length choices
           → NoneSpent (alone f begun t choices)
           → Rests f t t-least t-most b (m .depth) (restLevel m) (popped m .cell) second behind 3 begun choices
-      unfolding atPlace sharedIn
+      unfolding atPlace sharedIn mayTake
       take-rests long spent =
           root-rests f t t-least t-most b (m .depth) (restLevel m) (popped m .cell) second behind (r .range) (g .depth-least)
-          (g .depth-most) m refl full clean-all refl refl refl goes (atPlace (threadIn f b t) ReadRoot) refl
+          (g .depth-most) m refl full clean-all refl refl refl goes (atPlace (threadIn f b t) ReadRoot) refl (passed .permitted)
           begun choices (accepted-take-keeps f b t passed r ReadRoot one-item .good) begun-shared begun-thread long spent
 
 -- on a region of one queue

@@ -2,6 +2,7 @@
 -- thread moving and no turn refused 11", and what it is to end in n accesses.
 use Prim.Native.Nat.{ℕ, suc, _≤_}
 use mathlib.Core.Path.{_≡_}
+use mathlib.Core.Bool.{true}
 use mathlib.Core.List.{List, [], _∷_}
 use lib.Dec.{eqb}
 use lib.ListN.{length}
@@ -13,9 +14,10 @@ use Rattle.region.specs.declared.answer.Answer.{Answer}
 use Rattle.region.specs.declared.answer.Answer.the-variants.{Moved, Refused}
 use Rattle.region.specs.declared.frame.Frame.{Frame}
 use Rattle.region.specs.declared.place.Place.the-variants.{ReadRoot}
+use Rattle.access.specs.Plan.{changesNothing}
 use Rattle.readable.specs.Readable.{frameIn}
 use Rattle.begin.specs.Begin.{takeBytes, takeRefusal}
-use Rattle.run.specs.Run.{Turn, accessesOf}
+use Rattle.run.specs.Run.{Turn}
 use Rattle.machine.specs.Turn.{turnAnswer, turnBytes}
 
 -- a turn: the region before it, its answer, and the region after it
@@ -41,12 +43,12 @@ stepsOf f b t (u ∷ us) =
 abbrev pub AllClean : Frame → List ℕ → Type 0
 AllClean f b = (n : ℕ) → 1 ≤ n → n ≤ nodeCount (f .shape) → nodeIn f b n .dirty ≡ 0
 
--- "no other thread moving": no other thread's turn makes an access. Its idle and refused turns may stand between; so may checks, which
--- leave the region as it is.
+-- "no other thread moving": no other thread's turn changes the region. Its idle and refused turns may stand between, not its withdrawn ones; so
+-- may checks, which leave the region as it is.
 abbrev pub NoOtherMoves : Frame → List ℕ → ℕ → List Turn → Type 0
 NoOtherMoves f b t [] = Unit
 NoOtherMoves f b t (u ∷ us) =
-    ((u .thread ≡ t → ⊥) → accessesOf (turnAnswer f b (u .thread) (u .choice)) ≡ 0)
+    ((u .thread ≡ t → ⊥) → changesNothing (turnAnswer f b (u .thread) (u .choice)) ≡ true)
     × NoOtherMoves f (turnBytes f b (u .thread) (u .choice)) t us
 
 -- "no turn refused 11"

@@ -10,6 +10,7 @@ use lib.Pow.{pow-mono}
 use Rattle.region.specs.Level.{level}
 use Rattle.region.specs.Place.{placeNumber}
 use Rattle.region.specs.Shared.{Shared}
+use Rattle.region.specs.Thread.{withPermission}
 use Rattle.region.specs.declared.place.Place.{Place}
 use Rattle.region.specs.declared.place.Place.the-variants.{Idle, ReadDepth, ReadLeaf, ReadAncestor, GrowDepth, ReadTarget, InsertAtRoot, ReadParent, InsertBelow, ReadRoot, RemoveHead, MendReadNode, MendReadDepth, MendReadLeft, MendReadRight, MendSwap, MendClean, ListReadRoot, RemoveList, HandOut}
 use Rattle.region.specs.declared.record.Item.{Item}
@@ -167,6 +168,30 @@ At s m t op (MendClean w) = Mends m t op × Dirty m (t .node) (t .copies .first)
 At s m t op ListReadRoot = Takes m t listing op
 At s m t op RemoveList = Takes m t listing op × RootRead m (t .copies .first)
 At s m t op HandOut = Hands m t op
+
+-- no fact looks at the permission
+pub any-permission : (s : Shape) (m : Shared) (t : Thread) (op : Operation) (n : ℕ) (p : Place) → At s m t op p → At s m (withPermission t n) op p
+unfolding withPermission
+any-permission s m t op n Idle h = h
+any-permission s m t op n ReadDepth h = h
+any-permission s m t op n ReadLeaf h = h
+any-permission s m t op n ReadAncestor h = h
+any-permission s m t op n GrowDepth h = h
+any-permission s m t op n ReadTarget h = h
+any-permission s m t op n InsertAtRoot h = h
+any-permission s m t op n ReadParent h = h
+any-permission s m t op n InsertBelow h = h
+any-permission s m t op n ReadRoot h = h
+any-permission s m t op n RemoveHead h = h
+any-permission s m t op n (MendReadNode w) h = h
+any-permission s m t op n (MendReadDepth w) h = h
+any-permission s m t op n (MendReadLeft w) h = h
+any-permission s m t op n (MendReadRight w) h = h
+any-permission s m t op n (MendSwap w) h = h
+any-permission s m t op n (MendClean w) h = h
+any-permission s m t op n ListReadRoot h = h
+any-permission s m t op n RemoveList h = h
+any-permission s m t op n HandOut h = h
 
 -- A thread is idle exactly where it has no operation.
 abbrev pub stage : Operation → ℕ

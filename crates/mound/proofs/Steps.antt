@@ -30,7 +30,7 @@ use Rattle.mound.specs.Told.{Told, nothing, beginsPut, beginsTake, begin
 use Rattle.mound.specs.Tree.{itemsOf, listFrom, sameItem}
 use Rattle.mound.proofs.Chains.{HasItems, ItemsStay, among, has-items, items, length-items, list-items, only-items}
 use Rattle.mound.proofs.Effects.{Keeps, Mound, in-tree, root-there, value-there, rely-same, begin-keeps, begin-counts, grow-keeps, grow-counts, push-keeps, push-counts, push-rest, pop-keeps, pop-counts, pop-items-stay, exchange-keeps, exchange-counts, clean-keeps, clean-counts, detach-keeps, detach-counts, free-keeps, free-counts, free-rest}
-use Rattle.mound.proofs.Facts.{At, Takes, stays}
+use Rattle.mound.proofs.Facts.{At, Takes, any-permission, stays}
 use Rattle.mound.proofs.Held.{counted, few-cells, held-by, head-held, node-chain}
 use Rattle.mound.proofs.Order.{root-above}
 use Rattle.mound.proofs.Plans.{Allowed, OwnAfter, OperationAfter, reads, grows, swaps, cleans, inserts, removes, detaches, empties, answers, cleans-answers, hands-out, frees-withdrawn, leaves-withdrawn}
@@ -451,7 +451,8 @@ module _ (s : Shape) (m : Shared) (th : ℕ → Thread) (l : Ledger) {all : ℕ}
   permit-holds p =
       let v = withPermission (th t) p in
       stepped-invariant s m m th l l t v (l .operation t) (inv .at)
-      (record { keeps = left-alone v (own-now v); others = λ u n. refl; now = refl; bag = inv .bag }) (inv .at t)
+      (record { keeps = left-alone v (own-now v); others = λ u n. refl; now = refl; bag = inv .bag })
+      (any-permission s m (th t) (l .operation t) p (th t .place) (inv .at t))
 
   module _ (idle : th t .place ≡ AtRest) where
     resting : At s m (th t) (l .operation t) AtRest
