@@ -6,12 +6,14 @@ use Rattle.cases.specs.Request1.{casesOfRequest1}
 use Rattle.cases.specs.Request2.{casesOfRequest2}
 use Rattle.cases.specs.Request3.{casesOfRequest3}
 use Rattle.cases.specs.Request4.{casesOfRequest4}
+use Rattle.cases.specs.Request5.{casesOfRequest5}
 use Rattle.cases.specs.Cases.{CasesHold}
 use Rattle.cases.proofs.Document01.{casesOf01-hold}
 use Rattle.cases.proofs.Request1.{casesOfRequest1-hold}
 use Rattle.cases.proofs.Request2.{casesOfRequest2-hold}
 use Rattle.cases.proofs.Request3.{casesOfRequest3-hold}
 use Rattle.cases.proofs.Request4.{casesOfRequest4-hold}
+use Rattle.cases.proofs.Request5.{casesOfRequest5-hold}
 
 and-then : (rs more : List Row) → AllHold rs → AllHold more → AllHold (rs ++ more)
 and-then [] more h k = k
@@ -19,7 +21,8 @@ and-then (r ∷ rs) more (h, hs) k = (h, and-then rs more hs k)
 
 pub cases-hold : CasesHold
 cases-hold =
-    and-then casesOf01 (casesOfRequest1 ++ casesOfRequest2 ++ casesOfRequest3 ++ casesOfRequest4) casesOf01-hold
-    (and-then casesOfRequest1 (casesOfRequest2 ++ casesOfRequest3 ++ casesOfRequest4) casesOfRequest1-hold
-    (and-then casesOfRequest2 (casesOfRequest3 ++ casesOfRequest4) casesOfRequest2-hold
-    (and-then casesOfRequest3 casesOfRequest4 casesOfRequest3-hold casesOfRequest4-hold)))
+    and-then casesOf01 (casesOfRequest1 ++ casesOfRequest2 ++ casesOfRequest3 ++ casesOfRequest4 ++ casesOfRequest5) casesOf01-hold
+    (and-then casesOfRequest1 (casesOfRequest2 ++ casesOfRequest3 ++ casesOfRequest4 ++ casesOfRequest5) casesOfRequest1-hold
+    (and-then casesOfRequest2 (casesOfRequest3 ++ casesOfRequest4 ++ casesOfRequest5) casesOfRequest2-hold
+    (and-then casesOfRequest3 (casesOfRequest4 ++ casesOfRequest5) casesOfRequest3-hold
+    (and-then casesOfRequest4 casesOfRequest5 casesOfRequest4-hold casesOfRequest5-hold))))

@@ -14,6 +14,7 @@ use Rattle.region.specs.declared.shape.Shape.{Shape}
 use Rattle.cost.specs.Cost.{takeCost}
 use Rattle.layout.specs.Layout.{layoutRefusal, layoutBytes}
 use Rattle.readable.specs.Readable.{checkAnswer, frameIn}
+use Rattle.permission.specs.Permit.{permitBytes, permitRefusal}
 use Rattle.begin.specs.Begin.{putBytes, putRefusal, takeBytes, takeRefusal}
 use Rattle.run.specs.Run.{Served, runResult}
 
@@ -24,6 +25,8 @@ pub data Does : Type 0 where
   -- a thread's take of one item, and of the root's list
   takes : ℕ → Does
   lists : ℕ → Does
+  -- a thread's permission is set
+  permits : ℕ → ℕ → Does
   -- a run of these threads' turns
   turns : List ℕ → Does
   -- a check of a copy of the region that has these words from a word on
@@ -81,6 +84,7 @@ abbrev outcomeOf : List ℕ → Does → Outcome
 outcomeOf b (putsItem t i) = leaving (putBytes b t i) (answered (putRefusal b t i))
 outcomeOf b (takes t) = leaving (takeBytes b t ReadRoot) (answered (takeRefusal b t))
 outcomeOf b (lists t) = leaving (takeBytes b t ListReadRoot) (answered (takeRefusal b t))
+outcomeOf b (permits t p) = leaving (permitBytes b t p) (answered (permitRefusal b t p))
 outcomeOf b (turns ts) = ran (length ts) (runResult b (schedule ts) 1000 (replicate (12 * length ts) 0))
 outcomeOf b (checks at ws) = leaving b (answered (checkAnswer (setWords b at ws)))
 outcomeOf b costs = leaving b (answered (takeCost (sharedIn (frameIn b) b)))

@@ -6,7 +6,7 @@ use Rattle.region.specs.Level.{digits, level, ancestor}
 use Rattle.region.specs.Pick.{pick, upd}
 use Rattle.region.specs.Record.{nodeAt, setNodeAt, cellAt, setCellAt}
 use Rattle.region.specs.Shape.{between, shapeFits, regionWords}
-use Rattle.region.specs.Shared.{loadEntry, storeEntry, nodeIn, setNodeIn, cellIn, setCellIn, threadIn, setThreadIn, sharedIn}
+use Rattle.region.specs.Shared.{loadEntry, storeEntry, nodeIn, setNodeIn, cellIn, setCellIn, threadIn, setThreadIn, setPermissionIn, sharedIn}
 use Rattle.region.specs.Thread.{threadAt, setThreadAt, goneIdle, atPlace, withItem, withOwn, withDepth, withSearch, withNode, withAfter, withResult, withCopies, withFirst, withSecond, withThird, begunPut, isIdle, mending}
 use Rattle.access.specs.Effect.{effectBytes, freedBytes, pushBytes}
 use Rattle.access.specs.Order.{itemLe, itemLt, valueOf}
@@ -18,10 +18,13 @@ use Rattle.moundify.specs.Moundify.{returning, mendReadNode, afterDepthRead, me
 use Rattle.cost.specs.Cost.{lesserChild, levelsDown, withoutHead, restLevel, costOfLevel, takeCost}
 use Rattle.layout.specs.Layout.{atMost, permissionsFit, layoutRefusal, cellWord, threadWord, laidWord, laidWords, layoutBytes}
 use Rattle.readable.specs.Readable.{greatestTries, greatestWaiting, bounded, threadReadable, allRecords, treeReadable, fieldsReadable, readable, checkAnswer}
-use Rattle.begin.specs.Begin.{mayPut, mayTake, isItem, hasFreeCell, putRefusal, acceptedPut, putBytes, takeRefusal, takeBytes}
+use Rattle.permission.specs.Grants.{mayPut, mayTake}
+use Rattle.permission.specs.Permit.{permitRefusalIn, permitRefusal, permitBytes}
+use Rattle.permission.specs.Withdraw.{isPutPlace, isTakePlace, lacksPermission, withdrawal, permitted}
+use Rattle.begin.specs.Begin.{isItem, hasFreeCell, putRefusal, acceptedPut, putBytes, takeRefusal, takeBytes}
 use Rattle.run.specs.Run.{turnsFrom, serve, serveAll, runRefusal, runResult}
 use Rattle.machine.specs.Turn.{decide, turnPlan, turnAnswer, carriedOut, turnBytes}
 
 unfoldable pub computes : ℕ
-unfolding word setWord frameOf digits level ancestor pick upd nodeAt setNodeAt cellAt setCellAt between shapeFits regionWords loadEntry storeEntry nodeIn setNodeIn cellIn setCellIn threadIn setThreadIn sharedIn threadAt setThreadAt goneIdle atPlace withItem withOwn withDepth withSearch withNode withAfter withResult withCopies withFirst withSecond withThird begunPut mending placeAfter returned returnAnswer effectBytes freedBytes pushBytes itemLe itemLt valueOf plan moved onTo refused readNode sameNode isDirty isSpent updated isNode isLevel readDepth searchOn leafOf nextTries failedPlace afterFailedTry afterLeafRead readLeaf afterAncestorRead middleLevel hasMiddle readAncestor growDepth targetPlace readTarget insertAt insertAtRoot readParent nodeAndParentSame insertBelow afterRootRead readRoot listReadRoot afterRemoval afterListRemoval casRoot removeHead removeList handedOut handOut returning mendReadNode afterDepthRead mendReadDepth mendReadLeft marked lessBelow childLess afterChildrenRead mendReadRight exchangeAt nodeAndChildSame exchangeWith mendSwap cleanAt mendClean lesserChild levelsDown withoutHead restLevel costOfLevel takeCost atMost permissionsFit layoutRefusal cellWord threadWord laidWord laidWords layoutBytes greatestTries greatestWaiting bounded threadReadable allRecords treeReadable fieldsReadable readable checkAnswer mayPut mayTake isIdle isItem hasFreeCell putRefusal acceptedPut putBytes takeRefusal takeBytes turnsFrom serve serveAll runRefusal runResult decide turnPlan turnAnswer carriedOut turnBytes
+unfolding word setWord frameOf digits level ancestor pick upd nodeAt setNodeAt cellAt setCellAt between shapeFits regionWords loadEntry storeEntry nodeIn setNodeIn cellIn setCellIn threadIn setThreadIn setPermissionIn sharedIn threadAt setThreadAt goneIdle atPlace withItem withOwn withDepth withSearch withNode withAfter withResult withCopies withFirst withSecond withThird begunPut mending placeAfter returned returnAnswer effectBytes freedBytes pushBytes itemLe itemLt valueOf plan moved onTo refused readNode sameNode isDirty isSpent updated isNode isLevel readDepth searchOn leafOf nextTries failedPlace afterFailedTry afterLeafRead readLeaf afterAncestorRead middleLevel hasMiddle readAncestor growDepth targetPlace readTarget insertAt insertAtRoot readParent nodeAndParentSame insertBelow afterRootRead readRoot listReadRoot afterRemoval afterListRemoval casRoot removeHead removeList handedOut handOut returning mendReadNode afterDepthRead mendReadDepth mendReadLeft marked lessBelow childLess afterChildrenRead mendReadRight exchangeAt nodeAndChildSame exchangeWith mendSwap cleanAt mendClean lesserChild levelsDown withoutHead restLevel costOfLevel takeCost atMost permissionsFit layoutRefusal cellWord threadWord laidWord laidWords layoutBytes greatestTries greatestWaiting bounded threadReadable allRecords treeReadable fieldsReadable readable checkAnswer mayPut mayTake permitRefusalIn permitRefusal permitBytes isPutPlace isTakePlace lacksPermission withdrawal permitted isIdle isItem hasFreeCell putRefusal acceptedPut putBytes takeRefusal takeBytes turnsFrom serve serveAll runRefusal runResult decide turnPlan turnAnswer carriedOut turnBytes
 computes = 0
