@@ -15,16 +15,17 @@ use Rattle.region.specs.declared.answer.Answer.{Answer}
 use Rattle.region.specs.declared.answer.Answer.the-variants.{Refused}
 use Rattle.region.specs.declared.place.Place.the-variants.{ReadRoot, ListReadRoot}
 use Rattle.region.specs.declared.record.Item.{Item}
+use Rattle.permission.specs.Permit.{PermitSet}
 use Rattle.begin.specs.Begin.{PutBegun, TakeBegun}
 use Rattle.machine.specs.Turn.{TurnedOn}
 use Rattle.script.specs.Inner.{Wrote, CallMade, LinesRan}
 use Rattle.script.specs.Reading.{readLine}
 use Rattle.script.specs.Printing.{lineText}
-use Rattle.script.specs.Script.{Ran, after, begunOr, callBytes, callOutcome, linesFrom, nothingMore}
+use Rattle.script.specs.Script.{Ran, after, callBytes, callOutcome, doneOr, linesFrom, nothingMore}
 use Rattle.script.specs.declared.printing.Outcome.{Outcome}
-use Rattle.script.specs.declared.printing.Outcome.the-variants.{Begun, Answered, Unreadable}
+use Rattle.script.specs.declared.printing.Outcome.the-variants.{Begun, Set, Answered, Unreadable}
 use Rattle.script.specs.declared.reading.What.{What}
-use Rattle.script.specs.declared.reading.What.the-variants.{Put, Take, TakeList, Turn}
+use Rattle.script.specs.declared.reading.What.the-variants.{Put, Take, TakeList, Permit, Turn}
 use Rattle.script.specs.declared.reading.Line.{Line}
 use Rattle.script.specs.declared.reading.Line.the-variants.{Read as LineRead, Unreadable as NotLine}
 use Rattle.script.specs.declared.reading.ScriptLine.{ScriptLine}
@@ -33,13 +34,13 @@ use Rattle.script.proofs.Readings.{line-long}
 use Rattle.script.proofs.Texts.{sets-append, wrote-length}
 
 -- A line's call.
-pub begun : (n : ℕ) → n ≡ done → Begun ≡ begunOr n
+pub call-done : (o : Outcome) (n : ℕ) → n ≡ done → o ≡ doneOr o n
 unfolding pick
-begun n e = rw (eq-eqb n done e) refl
+call-done o n e = rw (eq-eqb n done e) refl
 
-pub not-begun : (n : ℕ) → (n ≡ done → ⊥) → Answered (Refused n) ≡ begunOr n
+pub call-refused : (o : Outcome) (n : ℕ) → (n ≡ done → ⊥) → Answered (Refused n) ≡ doneOr o n
 unfolding pick
-not-begun n h = rw (ne-eqb n done h) refl
+call-refused o n h = rw (ne-eqb n done h) refl
 
 module _ (b b′ : List ℕ) (what : What) (t : ℕ) where
   made : (p : What) → what ≡ p → (r : Outcome) → r ≡ callOutcome b p t → b′ ≡ callBytes b p t → CallMade b b′ what t r
@@ -49,14 +50,17 @@ module _ (b b′ : List ℕ) (what : What) (t : ℕ) where
         bytes = eb ∙ ap (λ w. callBytes b w t) (sym e);
       }
 
-  pub put-made : (i : Item) → what ≡ Put i → (n : ℕ) → PutBegun b b′ t i n → (r : Outcome) → r ≡ begunOr n → CallMade b b′ what t r
-  put-made i e n p r er = made (Put i) e r (er ∙ ap begunOr (p .answer)) (p .bytes)
+  pub put-made : (i : Item) → what ≡ Put i → (n : ℕ) → PutBegun b b′ t i n → (r : Outcome) → r ≡ doneOr Begun n → CallMade b b′ what t r
+  put-made i e n p r er = made (Put i) e r (er ∙ ap (doneOr Begun) (p .answer)) (p .bytes)
 
-  pub take-made : what ≡ Take → (n : ℕ) → TakeBegun b b′ t ReadRoot n → (r : Outcome) → r ≡ begunOr n → CallMade b b′ what t r
-  take-made e n p r er = made Take e r (er ∙ ap begunOr (p .answer)) (p .bytes)
+  pub take-made : what ≡ Take → (n : ℕ) → TakeBegun b b′ t ReadRoot n → (r : Outcome) → r ≡ doneOr Begun n → CallMade b b′ what t r
+  take-made e n p r er = made Take e r (er ∙ ap (doneOr Begun) (p .answer)) (p .bytes)
 
-  pub list-made : what ≡ TakeList → (n : ℕ) → TakeBegun b b′ t ListReadRoot n → (r : Outcome) → r ≡ begunOr n → CallMade b b′ what t r
-  list-made e n p r er = made TakeList e r (er ∙ ap begunOr (p .answer)) (p .bytes)
+  pub list-made : what ≡ TakeList → (n : ℕ) → TakeBegun b b′ t ListReadRoot n → (r : Outcome) → r ≡ doneOr Begun n → CallMade b b′ what t r
+  list-made e n p r er = made TakeList e r (er ∙ ap (doneOr Begun) (p .answer)) (p .bytes)
+
+  pub permit-made : (x : ℕ) → what ≡ Permit x → (n : ℕ) → PermitSet b b′ t x n → (r : Outcome) → r ≡ doneOr Set n → CallMade b b′ what t r
+  permit-made x e n p r er = made (Permit x) e r (er ∙ ap (doneOr Set) (p .answer)) (p .bytes)
 
   pub turn-made : (c : ℕ) → what ≡ Turn c → (x : Answer) → TurnedOn b b′ t c x → CallMade b b′ what t (Answered x)
   turn-made c e x p = made (Turn c) e (Answered x) (ap Answered (p .answer)) (p .bytes)

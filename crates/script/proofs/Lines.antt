@@ -5,11 +5,11 @@ use mathlib.Core.Path.{_≡_, subst, sym}
 use mathlib.Core.List.{List}
 use lib.ListN.{length, length-append}
 use Rattle.region.specs.declared.answer.Answer.{Answer}
-use Rattle.region.specs.declared.answer.Answer.the-variants.{Moved, Idle, Inserted, Took, Empty, Refused}
+use Rattle.region.specs.declared.answer.Answer.the-variants.{Moved, Idle, Inserted, Took, Empty, Refused, Withdrawn}
 use Rattle.script.specs.Inner.{Wrote}
 use Rattle.script.specs.Printing.{answerWord, lineText, numberText, outcomeKey, outcomeTag, outcomeText, outcomeWord}
 use Rattle.script.specs.declared.printing.Outcome.{Outcome}
-use Rattle.script.specs.declared.printing.Outcome.the-variants.{Begun, Answered, Unreadable}
+use Rattle.script.specs.declared.printing.Outcome.the-variants.{Begun, Set, Answered, Unreadable}
 use Rattle.script.proofs.Decimals.{decimal-most, number-most}
 use Rattle.script.proofs.Texts.{wrote-length, wrote-more}
 
@@ -28,9 +28,11 @@ answer-most Inserted = omega arith
 answer-most (Took i) = omega arith
 answer-most Empty = omega arith
 answer-most (Refused n) = omega arith
+answer-most Withdrawn = omega arith
 
 word-most : (o : Outcome) → length (outcomeWord o) ≤ 11
 word-most Begun = omega arith
+word-most Set = omega arith
 word-most (Answered a) = answer-most a
 word-most Unreadable = omega arith
 

@@ -3,7 +3,7 @@
 use Prim.Native.Nat.{ℕ, _+_, _^_, _≤_, _<_}
 use native.Mathlib.Omega.{arith}
 use mathlib.Core.Path.{_≡_, refl, sym, ap, _∙_}
-use mathlib.Core.Bool.{Bool, true, false, not, _&&_}
+use mathlib.Core.Bool.{Bool, true, false, not}
 use mathlib.Core.List.{List}
 use mir.Syntax.{w64}
 use mir.Val.{Fits}
@@ -11,14 +11,15 @@ use borrow.Author.Tests.{le-leb, lt-leb, eq-eqb, ne-eqb, not-true, not-false}
 use lib.Dec.{eqb}
 use lib.ListN.{length}
 use Rattle.region.specs.Pick.{pick}
+use Rattle.region.proofs.Picks.{pick-good}
 use Rattle.script.specs.Text.{ascii, textAt}
-use Rattle.script.specs.Reading.{fieldThen, fieldsAt, headedOpening, lineHeading, numberThen, putLine, readLine, readOpening, shapeAt, shapeHeading, takeLine, turnLine}
+use Rattle.script.specs.Reading.{fieldThen, fieldsAt, headedOpening, lineHeading, lineIfZero, numberLine, numberThen, putLine, readLine, readOpening, shapeAt, shapeHeading, takeLine}
 use Rattle.script.specs.declared.numbers.Number.{Number}
 use Rattle.script.specs.declared.numbers.Number.the-variants.{Read, Unreadable}
 use Rattle.script.specs.declared.reading.Fields.{Fields}
 use Rattle.script.specs.declared.reading.Fields.the-variants.{Read as AllRead, Unreadable as NotFields}
 use Rattle.script.specs.declared.reading.What.{What}
-use Rattle.script.specs.declared.reading.What.the-variants.{Put, Take, TakeList, Turn}
+use Rattle.script.specs.declared.reading.What.the-variants.{Put, Take, TakeList, Permit, Turn}
 use Rattle.script.specs.declared.reading.Line.{Line}
 use Rattle.script.specs.declared.reading.Line.the-variants.{Read as LineRead, Unreadable as NotLine}
 use Rattle.script.specs.declared.reading.ScriptLine.{ScriptLine}
@@ -49,6 +50,15 @@ module _ (s : List ℕ) (at : ℕ) (r₁ : Number) (e₁ : r₁ ≡ numberThen s
       all-fields b at₃ g₃ = rw (← e₁, g₁, ← e₂, g₂, ← e₃, g₃) refl
 
 -- What the fields mean.
+module _ (b : ℕ) (l : ScriptLine) where
+  pub not-zero : (b ≡ 0 → ⊥) → NotLine ≡ lineIfZero b l
+  unfolding pick
+  not-zero h = rw (ne-eqb b 0 h) refl
+
+  pub is-zero : b ≡ 0 → LineRead l ≡ lineIfZero b l
+  unfolding pick
+  is-zero h = rw (eq-eqb b 0 h) refl
+
 module _ (f : Fields) (t a b n : ℕ) (e : f ≡ AllRead t a b n) where
   pub put-read : LineRead (record { what = Put (record { key = a; tag = b }); thread = t; next = n }) ≡ putLine f
   put-read = rw e refl
@@ -57,21 +67,12 @@ module _ (f : Fields) (t a b n : ℕ) (e : f ≡ AllRead t a b n) where
   unfolding pick
   take-a what h = rw (e, ne-eqb a 0 h) refl
 
-  pub take-b : (what : What) → a ≡ 0 → (b ≡ 0 → ⊥) → NotLine ≡ takeLine what f
+  pub take-read : (what : What) → a ≡ 0 → (r : Line) → r ≡ lineIfZero b (record { what = what; thread = t; next = n }) → r ≡ takeLine what f
   unfolding pick
-  take-b what g h = rw (e, eq-eqb a 0 g, ne-eqb b 0 h) refl
+  take-read what g r er = rw (e, eq-eqb a 0 g) er
 
-  pub take-read : (what : What) → a ≡ 0 → b ≡ 0 → LineRead (record { what = what; thread = t; next = n }) ≡ takeLine what f
-  unfolding pick
-  take-read what g h = rw (e, eq-eqb a 0 g, eq-eqb b 0 h) refl
-
-  pub turn-b : (b ≡ 0 → ⊥) → NotLine ≡ turnLine f
-  unfolding pick
-  turn-b h = rw (e, ne-eqb b 0 h) refl
-
-  pub turn-read : b ≡ 0 → LineRead (record { what = Turn a; thread = t; next = n }) ≡ turnLine f
-  unfolding pick
-  turn-read h = rw (e, eq-eqb b 0 h) refl
+  pub number-read : (what : ℕ → What) (r : Line) → r ≡ lineIfZero b (record { what = what a; thread = t; next = n }) → r ≡ numberLine what f
+  number-read what r er = rw e er
 
 -- A line, by its first word: the position behind it fits its type.
 pub word-fits : (w : List ℕ) → 0 < length w → (s : List ℕ) (at : ℕ) (q : Bool) → length s < 2 ^ 64 → q ≡ true → q ≡ textAt s at w
@@ -93,14 +94,19 @@ module _ (s : List ℕ) (at : ℕ) (q₁ : Bool) (e₁ : q₁ ≡ textAt s at (a
       unfolding readLine pick
       list-line g f ef r er = rw (← e₁, g₁, ← e₂, g₂, ← e₃, g, ← ef) er
 
-      module _ (g₃ : q₃ ≡ false) (q₄ : Bool) (e₄ : q₄ ≡ textAt s at (ascii "turn ")) where
-        pub turn-line : q₄ ≡ true → (f : Fields) → f ≡ fieldsAt s (at + 5) → (r : Line) → r ≡ turnLine f → r ≡ readLine s at
+      module _ (g₃ : q₃ ≡ false) (q₄ : Bool) (e₄ : q₄ ≡ textAt s at (ascii "permit ")) where
+        pub permit-line : q₄ ≡ true → (f : Fields) → f ≡ fieldsAt s (at + 7) → (r : Line) → r ≡ numberLine Permit f → r ≡ readLine s at
         unfolding readLine pick
-        turn-line g f ef r er = rw (← e₁, g₁, ← e₂, g₂, ← e₃, g₃, ← e₄, g, ← ef) er
+        permit-line g f ef r er = rw (← e₁, g₁, ← e₂, g₂, ← e₃, g₃, ← e₄, g, ← ef) er
 
-        pub other-line : q₄ ≡ false → NotLine ≡ readLine s at
-        unfolding readLine pick
-        other-line g = rw (← e₁, g₁, ← e₂, g₂, ← e₃, g₃, ← e₄, g) refl
+        module _ (g₄ : q₄ ≡ false) (q₅ : Bool) (e₅ : q₅ ≡ textAt s at (ascii "turn ")) where
+          pub turn-line : q₅ ≡ true → (f : Fields) → f ≡ fieldsAt s (at + 5) → (r : Line) → r ≡ numberLine Turn f → r ≡ readLine s at
+          unfolding readLine pick
+          turn-line g f ef r er = rw (← e₁, g₁, ← e₂, g₂, ← e₃, g₃, ← e₄, g₄, ← e₅, g, ← ef) er
+
+          pub other-line : q₅ ≡ false → NotLine ≡ readLine s at
+          unfolding readLine pick
+          other-line g = rw (← e₁, g₁, ← e₂, g₂, ← e₃, g₃, ← e₄, g₄, ← e₅, g) refl
 
 -- A field that was read, where what it leads to is not the refusal.
 record FieldRead {A : Type 0} (r : Number) (f : ℕ → ℕ → A) (x : A) : Type 0 where
@@ -158,30 +164,32 @@ put-fields (AllRead t a b n) l e = fields-of true (Put (record { key = a; tag = 
 
 take-fields : (what : What) (f : Fields) (l : ScriptLine) → takeLine what f ≡ LineRead l → OfFields f l
 take-fields what NotFields l e = absurd (no-line e)
-take-fields what (AllRead t a b n) l e = fields-of (eqb a 0 && eqb b 0) what t a b n l e
+take-fields what (AllRead t a b n) l e =
+    pick-good (λ x. x ≡ LineRead l → OfFields (AllRead t a b n) l) (eqb a 0) (λ g. fields-of (eqb b 0) what t a b n l)
+    (λ g h. absurd (no-line h)) e
 
-turn-fields : (f : Fields) (l : ScriptLine) → turnLine f ≡ LineRead l → OfFields f l
-turn-fields NotFields l e = absurd (no-line e)
-turn-fields (AllRead t a b n) l e = fields-of (eqb b 0) (Turn a) t a b n l e
+number-fields : (what : ℕ → What) (f : Fields) (l : ScriptLine) → numberLine what f ≡ LineRead l → OfFields f l
+number-fields what NotFields l e = absurd (no-line e)
+number-fields what (AllRead t a b n) l e = fields-of (eqb b 0) (what a) t a b n l e
 
-fields-long : (s : List ℕ) (at : ℕ) (l : ScriptLine) → OfFields (fieldsAt s at) l → at + 6 ≤ l .next
-fields-long s at l o = fields-next s at (o .t) (o .a) (o .b) (l .next) (o .read)
+-- it is long enough, whichever its first word is
+module _ (s : List ℕ) (at : ℕ) (l : ScriptLine) where
+  abbrev Long : Line → Type 0
+  Long x = x ≡ LineRead l → at + 10 ≤ l .next
 
-pub line-long : (s : List ℕ) (at : ℕ) (l : ScriptLine) → readLine s at ≡ LineRead l → at + 10 ≤ l .next
-unfolding readLine pick
-line-long s at l e =
-    ways (textAt s at (ascii "put ")) (textAt s at (ascii "take ")) (textAt s at (ascii "list ")) (textAt s at (ascii "turn ")) e
-  where
-    ways : (p q r u : Bool)
-        → pick p (putLine (fieldsAt s (at + 4)))
-        (pick q (takeLine Take (fieldsAt s (at + 5)))
-        (pick r (takeLine TakeList (fieldsAt s (at + 5))) (pick u (turnLine (fieldsAt s (at + 5))) NotLine)))
-        ≡ LineRead l → at + 10 ≤ l .next
-    ways true q r u e = omega (arith, fields-long s (at + 4) l (put-fields (fieldsAt s (at + 4)) l e))
-    ways false true r u e = omega (arith, fields-long s (at + 5) l (take-fields Take (fieldsAt s (at + 5)) l e))
-    ways false false true u e = omega (arith, fields-long s (at + 5) l (take-fields TakeList (fieldsAt s (at + 5)) l e))
-    ways false false false true e = omega (arith, fields-long s (at + 5) l (turn-fields (fieldsAt s (at + 5)) l e))
-    ways false false false false e = absurd (no-line e)
+  -- behind a word of n bytes, four or more
+  behind : (n : ℕ) → 4 ≤ n → OfFields (fieldsAt s (at + n)) l → at + 10 ≤ l .next
+  behind n h o = omega (arith, fields-next s (at + n) (o .t) (o .a) (o .b) (l .next) (o .read))
+
+  pub line-long : readLine s at ≡ LineRead l → at + 10 ≤ l .next
+  unfolding readLine
+  line-long =
+      pick-good Long (textAt s at (ascii "put ")) (λ g e. behind 4 (omega arith) (put-fields _ l e))
+      (λ g. pick-good Long (textAt s at (ascii "take ")) (λ g e. behind 5 (omega arith) (take-fields Take _ l e))
+      (λ g. pick-good Long (textAt s at (ascii "list ")) (λ g e. behind 5 (omega arith) (take-fields TakeList _ l e))
+      (λ g. pick-good Long (textAt s at (ascii "permit ")) (λ g e. behind 7 (omega arith) (number-fields Permit _ l e))
+      (λ g. pick-good Long (textAt s at (ascii "turn ")) (λ g e. behind 5 (omega arith) (number-fields Turn _ l e))
+      (λ g e. absurd (no-line e))))))
 
 -- The line of five numbers.
 module _ (s : List ℕ) (at : ℕ) (r₁ : Number) (e₁ : r₁ ≡ numberThen s at 32) where

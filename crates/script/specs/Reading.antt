@@ -1,5 +1,5 @@
--- Reading a script (document 01, The script program; document 02, request 1): "lines end in LF, fields are decimal, parted by single spaces";
--- "a number past 32 bits cannot be read". A position counts the bytes of the whole script.
+-- Reading a script (document 01, The script program; document 02, requests 1 and 5): "lines end in LF, fields are decimal, parted by single
+-- spaces"; "a number past 32 bits cannot be read". A position counts the bytes of the whole script.
 use Prim.Native.Nat.{ℕ, suc, _+_, _-_, _*_}
 use mathlib.Core.Bool.{_&&_}
 use mathlib.Core.List.{List, [], _∷_}
@@ -12,9 +12,10 @@ use Rattle.script.specs.declared.numbers.Number.the-variants.{Read, Unre
 use Rattle.script.specs.declared.reading.Fields.{Fields}
 use Rattle.script.specs.declared.reading.Fields.the-variants.{Read as AllRead, Unreadable as NotFields}
 use Rattle.script.specs.declared.reading.What.{What}
-use Rattle.script.specs.declared.reading.What.the-variants.{Put, Take, TakeList, Turn}
+use Rattle.script.specs.declared.reading.What.the-variants.{Put, Take, TakeList, Permit, Turn}
 use Rattle.script.specs.declared.reading.Line.{Line}
 use Rattle.script.specs.declared.reading.Line.the-variants.{Read as LineRead, Unreadable as NotLine}
+use Rattle.script.specs.declared.reading.ScriptLine.{ScriptLine}
 use Rattle.script.specs.declared.reading.Opening.{Opening}
 use Rattle.script.specs.declared.reading.Opening.the-variants.{Read as OpeningRead, Unreadable as NotOpening}
 
@@ -49,18 +50,24 @@ fieldsAt s at =
     fieldThen (numberThen s at₂ lineEnd) NotFields λ b at₃. AllRead thread a b at₃
 
 -- "for put, a and b are key and tag, for turn, a run of one, a is the choice and b 0; take has 0 0"; of a list "its script line is `list`,
--- fields as take's" (request 1)
+-- fields as take's" (request 1); of a thread's permission "its script line is `permit`, a the permission, b 0" (request 5)
 abbrev pub putLine : Fields → Line
 putLine (AllRead t a b next) = LineRead (record { what = Put (record { key = a; tag = b }); thread = t; next = next })
 putLine NotFields = NotLine
 
+-- a line whose b is 0
+abbrev pub lineIfZero : ℕ → ScriptLine → Line
+lineIfZero b l = pick (eqb b 0) (LineRead l) NotLine
+
+-- a take of one item, or of the root's list
 abbrev pub takeLine : What → Fields → Line
-takeLine what (AllRead t a b next) = pick (eqb a 0 && eqb b 0) (LineRead (record { what = what; thread = t; next = next })) NotLine
+takeLine what (AllRead t a b next) = pick (eqb a 0) (lineIfZero b (record { what = what; thread = t; next = next })) NotLine
 takeLine what NotFields = NotLine
 
-abbrev pub turnLine : Fields → Line
-turnLine (AllRead t a b next) = pick (eqb b 0) (LineRead (record { what = Turn a; thread = t; next = next })) NotLine
-turnLine NotFields = NotLine
+-- a turn, or the thread's permission
+abbrev pub numberLine : (ℕ → What) → Fields → Line
+numberLine what (AllRead t a b next) = lineIfZero b (record { what = what a; thread = t; next = next })
+numberLine what NotFields = NotLine
 
 -- the line that starts at a position
 unfoldable pub readLine : List ℕ → ℕ → Line
@@ -75,7 +82,10 @@ readLine s at =
     (pick
     (textAt s at (ascii "list "))
     (takeLine TakeList (fieldsAt s (at + 5)))
-    (pick (textAt s at (ascii "turn ")) (turnLine (fieldsAt s (at + 5))) NotLine)))
+    (pick
+    (textAt s at (ascii "permit "))
+    (numberLine Permit (fieldsAt s (at + 7)))
+    (pick (textAt s at (ascii "turn ")) (numberLine Turn (fieldsAt s (at + 5))) NotLine))))
 
 -- the line of five numbers under the first heading: D, C, T, H and the permission
 unfoldable pub shapeAt : List ℕ → ℕ → Opening

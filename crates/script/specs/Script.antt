@@ -10,15 +10,16 @@ use Rattle.region.specs.Shape.{regionWords}
 use Rattle.region.specs.declared.answer.Answer.the-variants.{Refused}
 use Rattle.region.specs.declared.place.Place.the-variants.{ReadRoot, ListReadRoot}
 use Rattle.layout.specs.Layout.{layoutRefusal, layoutBytes}
+use Rattle.permission.specs.Permit.{permitRefusal, permitBytes}
 use Rattle.begin.specs.Begin.{putRefusal, putBytes, takeRefusal, takeBytes}
 use Rattle.machine.specs.Turn.{turnOnAnswer, turnOnBytes}
 use Rattle.script.specs.Text.{ascii}
 use Rattle.script.specs.Reading.{readLine, readOpening}
 use Rattle.script.specs.Printing.{lineText}
 use Rattle.script.specs.declared.printing.Outcome.{Outcome}
-use Rattle.script.specs.declared.printing.Outcome.the-variants.{Begun, Answered, Unreadable}
+use Rattle.script.specs.declared.printing.Outcome.the-variants.{Begun, Set, Answered, Unreadable}
 use Rattle.script.specs.declared.reading.What.{What}
-use Rattle.script.specs.declared.reading.What.the-variants.{Put, Take, TakeList, Turn}
+use Rattle.script.specs.declared.reading.What.the-variants.{Put, Take, TakeList, Permit, Turn}
 use Rattle.script.specs.declared.reading.Line.{Line}
 use Rattle.script.specs.declared.reading.Line.the-variants.{Read as LineRead, Unreadable as NotLine}
 use Rattle.script.specs.declared.reading.ScriptLine.{ScriptLine}
@@ -31,21 +32,23 @@ pub record Ran : Type 0 where
   pub printed : List ℕ
   pub region : List ℕ
 
--- a beginning that is done, or its refusal
-abbrev pub begunOr : ℕ → Outcome
-begunOr n = pick (eqb n done) Begun (Answered (Refused n))
+-- the outcome of a call that is done, or its refusal
+abbrev pub doneOr : Outcome → ℕ → Outcome
+doneOr o n = pick (eqb n done) o (Answered (Refused n))
 
 -- a line's call on the region b by thread t ("for turn, a run of one"): its outcome, and the bytes afterwards
 abbrev pub callOutcome : List ℕ → What → ℕ → Outcome
-callOutcome b (Put i) t = begunOr (putRefusal b t i)
-callOutcome b Take t = begunOr (takeRefusal b t)
-callOutcome b TakeList t = begunOr (takeRefusal b t)
+callOutcome b (Put i) t = doneOr Begun (putRefusal b t i)
+callOutcome b Take t = doneOr Begun (takeRefusal b t)
+callOutcome b TakeList t = doneOr Begun (takeRefusal b t)
+callOutcome b (Permit p) t = doneOr Set (permitRefusal b t p)
 callOutcome b (Turn c) t = Answered (turnOnAnswer b t c)
 
 abbrev pub callBytes : List ℕ → What → ℕ → List ℕ
 callBytes b (Put i) t = putBytes b t i
 callBytes b Take t = takeBytes b t ReadRoot
 callBytes b TakeList t = takeBytes b t ListReadRoot
+callBytes b (Permit p) t = permitBytes b t p
 callBytes b (Turn c) t = turnOnBytes b t c
 
 -- text printed, and then what else is

@@ -11,6 +11,7 @@ use region::Answer;
 // What came of a script line.
 pub enum Outcome {
     Begun,
+    Set,
     Answered(Answer),
     Unreadable,
 }
@@ -21,6 +22,7 @@ impl Outcome {
     {
         match self {
             Outcome::Begun => 0,
+            Outcome::Set => 0,
             Outcome::Answered(a) => a.key(),
             Outcome::Unreadable => 0,
         }
@@ -31,6 +33,7 @@ impl Outcome {
     {
         match self {
             Outcome::Begun => 0,
+            Outcome::Set => 0,
             Outcome::Answered(a) => a.tag(),
             Outcome::Unreadable => 0,
         }
@@ -49,6 +52,7 @@ fn write_answer(out: &mut [u8], at: usize, a: Answer) -> usize
         Answer::Took(_) => write_text(out, at, b"took "),
         Answer::Empty => write_text(out, at, b"empty "),
         Answer::Refused(_) => write_text(out, at, b"refused "),
+        Answer::Withdrawn => write_text(out, at, b"withdrawn "),
     }
 }
 
@@ -59,6 +63,7 @@ fn write_word(out: &mut [u8], at: usize, o: Outcome) -> usize
 {
     match o {
         Outcome::Begun => write_text(out, at, b"begun "),
+        Outcome::Set => write_text(out, at, b"set "),
         Outcome::Answered(a) => write_answer(out, at, a),
         Outcome::Unreadable => write_text(out, at, b"unreadable "),
     }

@@ -1,6 +1,7 @@
 // Reading the script: its opening (both headings and the shape between them), and one line at a position.
 ghost use mathlib.Core.Path.{_≡_};
-ghost use Rattle.script.specs.Reading.{fieldsAt, putLine, readLine, readOpening, shapeAt, takeLine, turnLine};
+ghost use Rattle.script.specs.Reading.{fieldsAt, lineIfZero, numberLine, putLine, readLine, readOpening, shapeAt, takeLine};
+ghost use Rattle.script.specs.declared.reading.What.the-variants.{Permit, Turn};
 use crate::numbers::Number;
 use crate::numbers::number_then;
 use crate::text::text_at;
@@ -16,11 +17,13 @@ pub enum Fields {
     Unreadable,
 }
 
-// The call that a line makes: a put of its item, a take of one item or of the root's list, a turn with its choice.
+// The call that a line makes: a put of its item, a take of one item or of the root's list, the thread's permission, a turn with
+// its choice.
 pub enum What {
     Put(Item),
     Take,
     TakeList,
+    Permit(u32),
     Turn(u32),
 }
 
@@ -78,6 +81,16 @@ fn put_line(fields: Fields) -> Line
     })
 }
 
+// A line whose b is 0.
+fn line_if_zero(b: u32, line: ScriptLine) -> Line
+    ensures { λ r. ⌜ r ≡ lineIfZero b line ⌝ }
+{
+    if b != 0 {
+        return Line::Unreadable;
+    }
+    Line::Read(line)
+}
+
 // A take's a and b are 0, whichever of the two kinds it is.
 fn take_line(what: What, fields: Fields) -> Line
     ensures { λ r. ⌜ r ≡ takeLine what fields ⌝ }
@@ -88,27 +101,41 @@ fn take_line(what: What, fields: Fields) -> Line
     if a != 0 {
         return Line::Unreadable;
     }
-    if b != 0 {
+    line_if_zero(b, ScriptLine { what, thread, next })
+}
+
+// A permit's a is the permission, its b is 0.
+fn permit_line(fields: Fields) -> Line
+    ensures { λ r. ⌜ r ≡ numberLine Permit fields ⌝ }
+{
+    let Fields::Read(thread, permission, b, next) = fields else {
         return Line::Unreadable;
-    }
-    Line::Read(ScriptLine { what, thread, next })
+    };
+    line_if_zero(
+        b,
+        ScriptLine {
+            what: What::Permit(permission),
+            thread,
+            next,
+        },
+    )
 }
 
 // A turn's a is the choice, its b is 0.
 fn turn_line(fields: Fields) -> Line
-    ensures { λ r. ⌜ r ≡ turnLine fields ⌝ }
+    ensures { λ r. ⌜ r ≡ numberLine Turn fields ⌝ }
 {
     let Fields::Read(thread, choice, b, next) = fields else {
         return Line::Unreadable;
     };
-    if b != 0 {
-        return Line::Unreadable;
-    }
-    Line::Read(ScriptLine {
-        what: What::Turn(choice),
-        thread,
-        next,
-    })
+    line_if_zero(
+        b,
+        ScriptLine {
+            what: What::Turn(choice),
+            thread,
+            next,
+        },
+    )
 }
 
 // The line that starts at a position.
@@ -123,6 +150,9 @@ pub fn read_line(s: &[u8], at: usize) -> Line
     }
     if text_at(s, at, b"list ") {
         return take_line(What::TakeList, fields_at(s, at + 5));
+    }
+    if text_at(s, at, b"permit ") {
+        return permit_line(fields_at(s, at + 7));
     }
     if text_at(s, at, b"turn ") {
         return turn_line(fields_at(s, at + 5));

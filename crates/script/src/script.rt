@@ -4,7 +4,7 @@ ghost use Prim.Native.Nat.{_+_, _≤_};
 ghost use mathlib.Core.List.{_++_};
 ghost use lib.ListN.{drop, length, replicate};
 ghost use Rattle.script.specs.Reading.{scriptMost};
-ghost use Rattle.script.specs.Script.{begunOr, laidRegion, regionLength, setupRefusal};
+ghost use Rattle.script.specs.Script.{doneOr, laidRegion, regionLength, setupRefusal};
 ghost use Rattle.script.specs.Promises.{ScriptRan, linesRoom, regionRoom};
 ghost use Rattle.script.specs.Inner.{CallMade, LinesRan, SetUp, SetupRan};
 use crate::printing::Outcome;
@@ -26,12 +26,12 @@ pub const REGION_ROOM: usize = 13068;
 // The most that a script prints: its heading, and 55 bytes for each of 6,000 lines and for one that cannot be read.
 pub const OUTPUT_ROOM: usize = 330082;
 
-// The outcome of a beginning.
-fn begun_or(refused: u32) -> Outcome
-    ensures { λ r. ⌜ r ≡ begunOr refused ⌝ }
+// The outcome of a call that is done, or its refusal.
+fn done_or(done: Outcome, refused: u32) -> Outcome
+    ensures { λ r. ⌜ r ≡ doneOr done refused ⌝ }
 {
     if refused == DONE {
-        return Outcome::Begun;
+        return done;
     }
     Outcome::Answered(Answer::Refused(refused))
 }
@@ -41,9 +41,10 @@ fn make_call(region: &mut [u8], what: What, thread: u32) -> Outcome
     ensures { λ r. ⌜ CallMade (now (region .entry)) (now (region .exit)) what thread r ⌝ }
 {
     match what {
-        What::Put(item) => begun_or(begin::begin_put(region, thread, item)),
-        What::Take => begun_or(begin::begin_take(region, thread)),
-        What::TakeList => begun_or(begin::begin_list(region, thread)),
+        What::Put(item) => done_or(Outcome::Begun, begin::begin_put(region, thread, item)),
+        What::Take => done_or(Outcome::Begun, begin::begin_take(region, thread)),
+        What::TakeList => done_or(Outcome::Begun, begin::begin_list(region, thread)),
+        What::Permit(p) => done_or(Outcome::Set, permission::permit(region, thread, p)),
         What::Turn(choice) => Outcome::Answered(machine::turn_on(region, thread, choice)),
     }
 }

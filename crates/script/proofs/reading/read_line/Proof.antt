@@ -2,7 +2,7 @@
 use native.Mathlib.Omega.{arith}
 use borrow.Author.Needs.{needs}
 use Rattle.script.specs.Text.{ascii}
-use Rattle.script.proofs.Readings.{list-line, other-line, put-line, take-line, turn-line, word-fits}
+use Rattle.script.proofs.Readings.{list-line, other-line, permit-line, put-line, take-line, turn-line, word-fits}
 use Rattle.script.proofs.reading.read_line.Statement.{statement}
 use Rattle.script.proofs.reading.read_line.Tie as tie
 
@@ -28,6 +28,12 @@ read-line-spec =
     (λ c κs. search needs)
     (λ c κs. search needs)
     (λ c. search list-line)
+    (λ c. search needs)
+    (λ c κs. search needs)
+    (λ c. search (word-fits (ascii "permit ") (omega arith)))
+    (λ c κs. search needs)
+    (λ c κs. search needs)
+    (λ c. search permit-line)
     (λ c. search needs)
     (λ c κs. search needs)
     (λ c. search (word-fits (ascii "turn ") (omega arith)))
