@@ -54,21 +54,20 @@ take-decided =
     ++ (takes 1, answered notPermitted)
     ∷ turnsTo 1 1 Idle)
 
--- the same of a list: thread 1 is past 18 and thread 2 mends the root that it found dirty at 17. Thread 2 mends on, M1, M2 and M6, and is
--- withdrawn at 17; thread 1 finds the root clean, M1 and M2, and hands out both items.
+-- the same of a list: thread 1 is past 18, and thread 2 mends the root that it found dirty at 17. Thread 2 mends on, M1, M2 and M6, and is
+-- withdrawn at 17; thread 1 finds the root clean, M1 and M2, and hands out.
 abbrev pub list-decided : Row
 list-decided =
     row
     (inserting (item 5) 4
-    ++ inserting (item 3) 4
     ++ (lists 1, answered done)
     ∷ (lists 2, answered done)
     ∷ (turns (1 ∷ 1 ∷ 2 ∷ []), serves (replicate 3 Moved))
     ∷ (permits 1 0, answered done)
     ∷ (permits 2 0, answered done)
     ∷ turnsTo 2 4 Withdrawn
-    ++ (turns (replicate 5 1), serves (Moved ∷ Moved ∷ Took (item 3) ∷ Took (item 5) ∷ Idle ∷ []))
-    ∷ [])
+    ++ turnsTo 1 3 (Took (item 5))
+    ++ turnsTo 1 1 Idle)
 
 -- only the turn looks at it: a permission that is back before the next turn was never missed
 abbrev pub given-back : Row
