@@ -7,7 +7,7 @@ use native.Mathlib.Omega.{arith}
 use mathlib.Core.Path.{_≡_, refl, sym, ap, subst, _∙_}
 use mathlib.Core.Bool.{Bool, true, false, not, _||_}
 use mathlib.Core.List.{List, [], _∷_}
-use borrow.Author.Tests.{eq-eqb, ne-eqb}
+use borrow.Author.Tests.{eq-eqb, eqb-false, eqb-true, ne-eqb}
 use lib.Dec.{eqb}
 use lib.ListN.{length}
 use lib.Pow.{pow-mono}
@@ -17,9 +17,9 @@ use Rattle.region.specs.Pick.{pick, upd}
 use Rattle.region.specs.Place.{placeNumber}
 use Rattle.region.specs.Shape.{between, nodeCount}
 use Rattle.region.specs.Inner.{InRange}
-use Rattle.region.specs.Shared.{Shared, sharedIn, threadIn}
-use Rattle.region.specs.Thread.{atPlace, goneIdle, mending, withAfter, withCopies, withDepth, withFirst, withNode, withResult, withSecond, withThird}
-use Rattle.region.specs.declared.answer.Answer.the-variants.{Moved, Took, Empty}
+use Rattle.region.specs.Shared.{Shared, setPermissionIn, sharedIn, threadIn}
+use Rattle.region.specs.Thread.{atPlace, goneIdle, mending, withAfter, withCopies, withDepth, withFirst, withNode, withPermission, withResult, withSecond, withThird}
+use Rattle.region.specs.declared.answer.Answer.the-variants.{Moved, Took, Empty, Refused}
 use Rattle.region.specs.declared.frame.Frame.{Frame}
 use Rattle.region.specs.declared.place.Place.{Place}
 use Rattle.region.specs.declared.place.Place.the-variants.{ReadRoot, RemoveHead, MendReadNode, MendReadDepth, MendReadLeft, MendReadRight, MendSwap, MendClean}
@@ -30,6 +30,7 @@ use Rattle.region.specs.declared.shape.Shape.{Shape}
 use Rattle.region.specs.declared.thread.Thread.{Thread}
 use Rattle.region.proofs.Levels.{level-holds, power-doubles}
 use Rattle.region.proofs.Picks.{upd-same, upd-other}
+use Rattle.region.proofs.Views.{shared-setPermission, threads-setPermission}
 use Rattle.region.proofs.Shapes.{above, below as before, between-least, between-most, is-between, sizes}
 use Rattle.access.specs.Effect.{effectShared, freed}
 use Rattle.access.specs.Order.{val, valueOf}
@@ -39,27 +40,25 @@ use Rattle.access.specs.declared.effect.Effect.the-variants.{Nothing, Pop, Exch
 use Rattle.access.specs.declared.plan.Plan.{Plan}
 use Rattle.access.proofs.ReadLaws.{same-itself, updated-dirty, updated-first}
 use Rattle.readable.proofs.Laws.{Good}
+use Rattle.readable.proofs.Stores.{keeps-setPermission}
 use Rattle.extract.specs.Extract.{afterRootRead, readRoot, afterRemoval, casRoot, removeHead}
 use Rattle.moundify.specs.Moundify.{returning, mendReadNode, afterDepthRead, mendReadDepth, mendReadLeft, lessBelow, childLess, afterChildrenRead, mendReadRight, exchangeAt, nodeAndChildSame, exchangeWith, cleanAt, mendClean, returnAnswer}
 use Rattle.permission.specs.Grants.{mayTake}
+use Rattle.permission.specs.Permit.{permitBytesIn}
 use Rattle.permission.specs.Withdraw.{isPutPlace, isTakePlace, lacksPermission, permitted}
 use Rattle.permission.proofs.Laws.{none-lacks, take-lacks}
+use Rattle.run.specs.Run.{Turn}
 use Rattle.machine.specs.Turn.{decide, decideAt, turnAnswer, turnBytes, turnPlan}
 use Rattle.cost.specs.Cost.{lesserChild, levelsDown, withoutHead}
 use Rattle.cost.proofs.Laws.{goes-down, lesser-is-child, levels-same, rests-deepest, rests-there, swaps-as-placed, tests-as-placed}
-use Rattle.preserved.proofs.Proved.{turn-keeps}
+use Rattle.preserved.proofs.Proved.{PermitPassed, permit-either, permit-least, permit-most, turn-keeps}
 use Rattle.preserved.proofs.TreeLevels.{level-child}
 use Rattle.mound.specs.Tree.{listFrom}
 use Rattle.mound.proofs.Sorted.{valueAt}
-use Rattle.bag.specs.Alone.{EndsAt, NoneSpent, Step, last, moved-then, stepOf}
+use Rattle.bag.specs.Alone.{Between, EndsAt, NoOtherMoves, NoneSpent, PermissionKept, Step, last, moved-then, permit, stepOf, stepsOf, turn}
 use Rattle.bag.specs.History.{rootItem}
 use Rattle.bag.specs.TakeCost.{LeavesList, listOf, rootHead}
-use Rattle.bag.proofs.Carried.{turn-decides, turn-shared, turn-threads}
-
--- thread t's turns with these choices, each on the bytes that the one before left
-unfoldable pub alone : Frame → List ℕ → ℕ → List ℕ → List Step
-alone f b t [] = []
-alone f b t (c ∷ cs) = stepOf f b t c ∷ alone f (turnBytes f b t c) t cs
+use Rattle.bag.proofs.Carried.{turn-decides, turn-shared, turn-stays, turn-threads}
 
 -- shared memory after E2, which frees the head's cell
 unfoldable pub popped : Shared → Shared
@@ -112,17 +111,90 @@ module _ (f : Frame) (t : ℕ) (t-least : 1 ≤ t) (t-most : t ≤ f .shape .thr
   abbrev s : Shape
   s = f .shape
 
+  -- Up to thread t's next turn no other thread's turn and no permission changes shared memory, nor t's record but for its permission.
+  module _ (m : Shared) (u : Thread) where
+    pub record StillSo (b : List ℕ) : Type 0 where
+      pub good : Good f b
+      pub shared : sharedIn f b ≡ m
+      pub permission : ℕ
+      pub thread : threadIn f b t ≡ withPermission u permission
+
+    permit-still : (b : List ℕ) (k p : ℕ) → StillSo b → StillSo (permitBytesIn f b k p)
+    unfolding withPermission
+    permit-still b k p h = permit-either f b k p StillSo (λ passed. set passed (ℕ-discrete t k)) (λ e. h)
+      where
+        set : PermitPassed f k p → Dec (t ≡ k) → StillSo (setPermissionIn f b k p)
+        set passed same =
+            let l = permit-least f k p passed in
+            let most = permit-most f k p passed in
+            let threads = threads-setPermission f b (h .good .framed) k p l most (omega (arith, passed .permission)) in
+            let now = go same in
+            record {
+              good = keeps-setPermission f b (h .good) k p l most (passed .permission) .good;
+              shared = shared-setPermission f b (h .good .framed) k p l most ∙ h .shared;
+              permission = now .0;
+              thread = ap (λ x. x t) threads ∙ now .1;
+            }
+          where
+            go : Dec (t ≡ k) → (n : ℕ) × (upd (threadIn f b) k (withPermission (threadIn f b k) p) t ≡ withPermission u n)
+            go (yes e) = (
+              p,
+              ap (upd (threadIn f b) k (withPermission (threadIn f b k) p)) e ∙ upd-same (threadIn f b) k _
+                  ∙ ap (λ x. withPermission (threadIn f b x) p) (sym e)
+                  ∙ ap (λ x. withPermission x p) (h .thread),
+            )
+            go (no n) = (h .permission, upd-other (threadIn f b) k t _ n ∙ h .thread)
+
+    module _ (C : List Step → Type 0)
+        (now : (n : ℕ) (b : List ℕ) (c : ℕ) (xs : List Between) → Good f b → sharedIn f b ≡ m → threadIn f b t ≡ withPermission u n
+        → mayTake (withPermission u n) ≡ true → NoOtherMoves f (turnBytes f b t c) t xs → PermissionKept f (turnBytes f b t c) t xs
+        → C (stepOf f b t c ∷ stepsOf f (turnBytes f b t c) t xs)) where
+      -- a turn: t's own, or another's, which leaves the region as it is
+      turn-next : (b : List ℕ) (x : Turn) (xs : List Between) → StillSo b → NoOtherMoves f b t (turn x ∷ xs)
+          → PermissionKept f b t (turn x ∷ xs) → ((b′ : List ℕ) → StillSo b′ → NoOtherMoves f b′ t xs → PermissionKept f b′ t xs
+          → 1 ≤ length (stepsOf f b′ t xs) → C (stepsOf f b′ t xs))
+          → 1 ≤ length (stepsOf f b t (turn x ∷ xs)) → C (stepsOf f b t (turn x ∷ xs))
+      unfolding stepsOf pick turnAnswer
+      turn-next b x xs h quiet may more = go (eqb (x .thread) t) refl
+        where
+          after : List ℕ
+          after = turnBytes f b (x .thread) (x .choice)
+
+          go : (q : Bool) → eqb (x .thread) t ≡ q
+              → 1 ≤ length (pick q (stepOf f b (x .thread) (x .choice) ∷ stepsOf f after t xs) (stepsOf f after t xs))
+              → C (pick q (stepOf f b (x .thread) (x .choice) ∷ stepsOf f after t xs) (stepsOf f after t xs))
+          go true e long =
+              let same = eqb-true (x .thread) t e in
+              subst (λ k. C (stepOf f b k (x .choice) ∷ stepsOf f (turnBytes f b k (x .choice)) t xs)) (sym same)
+              (now (h .permission) b (x .choice) xs (h .good) (h .shared) (h .thread) (ap mayTake (sym (h .thread)) ∙ may .0)
+              (subst (λ k. NoOtherMoves f (turnBytes f b k (x .choice)) t xs) same (quiet .1))
+              (subst (λ k. PermissionKept f (turnBytes f b k (x .choice)) t xs) same (may .1)))
+          go false e long =
+              let stays : after ≡ b = turn-stays f b (x .thread) (x .choice) (quiet .0 (eqb-false (x .thread) t e)) in
+              more after (subst StillSo (sym stays) h) (quiet .1) (may .1) long
+
+      pub first-turn : (xs : List Between) (b : List ℕ) → StillSo b → NoOtherMoves f b t xs → PermissionKept f b t xs
+          → 1 ≤ length (stepsOf f b t xs) → C (stepsOf f b t xs)
+      unfolding stepsOf
+      first-turn [] b h quiet may long = absurd (omega arith)
+      first-turn (turn x ∷ xs) b h quiet may long =
+          turn-next b x xs h quiet may (λ b′ h′ quiet′ may′ long′. first-turn xs b′ h′ quiet′ may′ long′) long
+      first-turn (permit k p ∷ xs) b h quiet may long = first-turn xs (permitBytesIn f b k p) (permit-still b k p h) quiet (may .1) long
+
   -- E1 at an empty root answers empty.
-  pub empty-ends : (m : Shared) (u : Thread) → u .place ≡ ReadRoot → mayTake u ≡ true → m .node 1 .first ≡ 0 → m .node 1 .dirty ≡ 0 → (b cs : List ℕ)
-      → sharedIn f b ≡ m → threadIn f b t ≡ u → 1 ≤ length cs
-      → EndsAt (λ x. x .answer ≡ Empty) 1 (alone f b t cs)
-  unfolding alone turnAnswer between isTakePlace readRoot afterRootRead plan pick readNode
-  empty-ends m u place may none clean b [] em eu long = absurd (omega arith)
-  empty-ends m u place may none clean b (c ∷ cs) em eu long =
-      let e : decide s m u c ≡ plan Nothing (goneIdle u) Empty =
-      at-take s m u c place refl may ∙ rw (not-dirty {n = m .node 1} refl clean, eq-eqb (m .node 1 .first) 0 none) refl
+  pub empty-ends : (m : Shared) (u : Thread) → u .place ≡ ReadRoot → m .node 1 .first ≡ 0 → m .node 1 .dirty ≡ 0 → (b : List ℕ)
+      (xs : List Between) → Good f b → sharedIn f b ≡ m → threadIn f b t ≡ u → NoOtherMoves f b t xs → PermissionKept f b t xs
+      → 1 ≤ length (stepsOf f b t xs) → EndsAt (λ x. x .answer ≡ Empty) 1 (stepsOf f b t xs)
+  unfolding turnAnswer between isTakePlace readRoot afterRootRead plan pick readNode withPermission
+  empty-ends m u place none clean b xs g em eu =
+      first-turn m u (EndsAt (λ x. x .answer ≡ Empty) 1)
+      (λ n b c xs g em eu may quiet kept.
+      let v = withPermission u n in
+      let e : decide s m v c ≡ plan Nothing (goneIdle v) Empty =
+      at-take s m v c place refl may ∙ rw (not-dirty {n = m .node 1} refl clean, eq-eqb (m .node 1 .first) 0 none) refl
       in
-      last (ap (λ x. x .answer) (turn-decides f b t c t-least t-most ∙ (λ i. decide s (em i) (eu i) c) ∙ e))
+      last (ap (λ x. x .answer) (turn-decides f b t c t-least t-most ∙ (λ i. decide s (em i) (eu i) c) ∙ e)))
+      xs b (record { good = g; shared = em; permission = u .permission; thread = eu })
 
   -- A take begun on the region b₀. Its root's list without its head begins with the cell `first` of these cells, and is to come to rest at
   -- level j, d being the present depth.
@@ -133,31 +205,46 @@ module _ (f : Frame) (t : ℕ) (t-least : 1 ≤ t) (t-most : t ≤ f .shape .thr
     end = min (5 * j + 5) (5 * d + 3)
 
     -- the list comes to rest after `count` accesses more
-    pub record Rests (spent : ℕ) (b cs : List ℕ) : Type 0 where
+    pub record Rests (spent : ℕ) (steps : List Step) : Type 0 where
       pub count : ℕ
       pub exact : spent + count ≡ end
-      pub rests : EndsAt (LeavesList f b₀ t j) count (alone f b t cs)
+      pub rests : EndsAt (LeavesList f b₀ t j) count steps
 
-    -- from every region with this shared memory and this record of thread t, with choices enough and no turn refused 11
+    -- with turns enough and none refused 11
+    abbrev RestsIn : ℕ → List Step → Type 0
+    RestsIn spent steps = end ≤ spent + length steps → NoneSpent steps → Rests spent steps
+
+    -- from every region with this shared memory and, but for its permission, this record of thread t
     abbrev RestsFrom : ℕ → Shared → Thread → Type 0
     RestsFrom spent m u =
-        (b cs : List ℕ) → Good f b → sharedIn f b ≡ m → threadIn f b t ≡ u → end ≤ spent + length cs
-        → NoneSpent (alone f b t cs) → Rests spent b cs
+        (b : List ℕ) (xs : List Between) → StillSo m u b → NoOtherMoves f b t xs → PermissionKept f b t xs
+        → RestsIn spent (stepsOf f b t xs)
+
+    -- from where thread t's turn comes next, with this very record
+    record RestsNow (spent : ℕ) (m : Shared) (u : Thread) : Type 0 where
+      few : spent < end
+      on : (b : List ℕ) (c : ℕ) (xs : List Between) → Good f b → sharedIn f b ≡ m → threadIn f b t ≡ u → mayTake u ≡ true
+          → NoOtherMoves f (turnBytes f b t c) t xs → PermissionKept f (turnBytes f b t c) t xs
+          → RestsIn spent (stepOf f b t c ∷ stepsOf f (turnBytes f b t c) t xs)
+
+    any-permission : (spent : ℕ) (m : Shared) (u : Thread) → ((n : ℕ) → RestsNow spent m (withPermission u n)) → RestsFrom spent m u
+    any-permission spent m u now b xs h quiet kept long none =
+        first-turn m u (RestsIn spent) (λ n. now n .on) xs b h quiet kept (omega (arith, now 0 .few, long)) long none
 
     -- A turn that is refused 11 or has the plan p.
     module _ (spent : ℕ) (m : Shared) (u : Thread) (few : spent < end) (q : Bool) (p : Plan)
-        (decides : (c : ℕ) → decide s m u c ≡ pick q (refused u counterSpent) p) where
-      module _ (b : List ℕ) (c : ℕ) (cs : List ℕ) (em : sharedIn f b ≡ m) (eu : threadIn f b t ≡ u)
-          (none : NoneSpent (alone f b t (c ∷ cs))) where
+        (decides : mayTake u ≡ true → (c : ℕ) → decide s m u c ≡ pick q (refused u counterSpent) p) where
+      module _ (b : List ℕ) (c : ℕ) (em : sharedIn f b ≡ m) (eu : threadIn f b t ≡ u) (may : mayTake u ≡ true)
+          (none : turnAnswer f b t c ≡ Refused counterSpent → ⊥) where
         by-place : turnPlan f b t c ≡ pick q (refused u counterSpent) p
-        by-place = turn-decides f b t c t-least t-most ∙ (λ i. decide s (em i) (eu i) c) ∙ decides c
+        by-place = turn-decides f b t c t-least t-most ∙ (λ i. decide s (em i) (eu i) c) ∙ decides may c
 
         not-spent : q ≡ false
-        unfolding alone turnAnswer pick refused plan
+        unfolding turnAnswer pick refused plan
         not-spent = go q by-place
           where
             go : (q : Bool) → turnPlan f b t c ≡ pick q (refused u counterSpent) p → q ≡ false
-            go true e = absurd (none .0 (ap (λ x. x .answer) e))
+            go true e = absurd (none (ap (λ x. x .answer) e))
             go false e = refl
 
         planned : turnPlan f b t c ≡ p
@@ -166,35 +253,42 @@ module _ (f : Frame) (t : ℕ) (t-least : 1 ≤ t) (t-most : t ≤ f .shape .thr
 
       -- on to what p leaves
       moves : p .answer ≡ Moved → (next : ℕ) → next ≡ spent + 1 → RestsFrom next (effectShared m (p .effect)) (p .thread)
-          → RestsFrom spent m u
-      unfolding alone turnAnswer
-      moves a next up after b [] g em eu long none = absurd (omega arith)
-      moves a next up after b (c ∷ cs) g em eu long none =
-          let e = planned b c cs em eu none in
-          let answered : turnPlan f b t c .answer ≡ Moved = ap (λ x. x .answer) e ∙ a in
-          let goes : changesNothing (turnPlan f b t c .answer) ≡ false = ap changesNothing answered in
-          let r = after (turnBytes f b t c) cs (turn-keeps f b g t c .good)
-          (turn-shared f b t c g goes ∙ (λ i. effectShared (em i) (e i .effect)))
-          (ap (λ h. h t) (turn-threads f b t c g goes) ∙ upd-same (threadIn f b) t (turnPlan f b t c .thread)
-          ∙ ap (λ x. x .thread) e)
-          (omega arith)
-          (none .1)
-          in
-          record { count = suc (r .count); exact = omega (arith, r .exact); rests = moved-then answered (r .rests) }
+          → RestsNow spent m u
+      unfolding turnAnswer withPermission
+      moves a next up after =
+          record {
+            few = few;
+            on = λ b c xs g em eu may quiet kept long none.
+                let e = planned b c em eu may (none .0) in
+                let answered : turnPlan f b t c .answer ≡ Moved = ap (λ x. x .answer) e ∙ a in
+                let goes : changesNothing (turnPlan f b t c .answer) ≡ false = ap changesNothing answered in
+                let r = after (turnBytes f b t c) xs
+                (record {
+                  good = turn-keeps f b g t c .good;
+                  shared = turn-shared f b t c g goes ∙ (λ i. effectShared (em i) (e i .effect));
+                  permission = p .thread .permission;
+                  thread = ap (λ h. h t) (turn-threads f b t c g goes) ∙ upd-same (threadIn f b) t (turnPlan f b t c .thread) ∙ ap (λ x. x .thread) e;
+                })
+                quiet kept (omega arith) (none .1)
+                in
+                record { count = suc (r .count); exact = omega (arith, r .exact); rests = moved-then answered (r .rests) };
+          }
 
       -- p is the last
       comes-to-rest : spent + 1 ≡ end
           → ((b : List ℕ) (c : ℕ) → Good f b → sharedIn f b ≡ m → threadIn f b t ≡ u → turnPlan f b t c ≡ p
           → LeavesList f b₀ t j (stepOf f b t c))
-          → RestsFrom spent m u
-      unfolding alone
-      comes-to-rest exact leaves b [] g em eu long none = absurd (omega arith)
-      comes-to-rest exact leaves b (c ∷ cs) g em eu long none =
-          record { count = 1; exact = exact; rests = last (leaves b c g em eu (planned b c cs em eu none)) }
+          → RestsNow spent m u
+      comes-to-rest exact leaves =
+          record {
+            few = few;
+            on = λ b c xs g em eu may quiet kept long none.
+                record { count = 1; exact = exact; rests = last (leaves b c g em eu (planned b c em eu may (none .0))) };
+          }
 
     -- a turn that no counter can refuse
-    goes-on : (spent next : ℕ) → next ≡ spent + 1 → (m : Shared) (u v : Thread) → spent < end → ((c : ℕ) → decide s m u c ≡ moved v)
-        → RestsFrom next m v → RestsFrom spent m u
+    goes-on : (spent next : ℕ) → next ≡ spent + 1 → (m : Shared) (u v : Thread) → spent < end
+        → (mayTake u ≡ true → (c : ℕ) → decide s m u c ≡ moved v) → RestsFrom next m v → RestsNow spent m u
     unfolding moved plan pick effectShared
     goes-on spent next up m u v few decides after = moves spent m u few false (moved v) decides refl next up after
 
@@ -234,16 +328,20 @@ module _ (f : Frame) (t : ℕ) (t-least : 1 ≤ t) (t-most : t ≤ f .shape .thr
           goes = ap (λ n. l + levelsDown (val m) (val m n) (d - l) n) en ∙ h .goes;
         }
 
+    kept-with : {l : ℕ} {m : Shared} {u : Thread} {p : Place} → Mending l m u p → (n : ℕ) → Mending l m (withPermission u n) p
+    unfolding withPermission
+    kept-with {u = u} {p = p} h n = kept h (withPermission u n) p (h .place) refl refl refl
+
     -- M6: the node becomes clean, and the take answers.
-    clean-rests : (l spent : ℕ) (m : Shared) (u : Thread) → Mending l m u (MendClean 0) → u .copies .first ≡ readNode m (u .node) → l ≡ j
-        → spent + 1 ≡ end → RestsFrom spent m u
+    cleaning-now : (l spent : ℕ) (m : Shared) (u : Thread) → Mending l m u (MendClean 0) → u .copies .first ≡ readNode m (u .node) → l ≡ j
+        → spent + 1 ≡ end → RestsNow spent m u
     unfolding between mendClean cleanAt returning returnAnswer plan pick sharedIn turnAnswer effectShared readNode
-    clean-rests l spent m u h copied there exact =
+    cleaning-now l spent m u h copied there exact =
         let n = u .copies .first .node in
         let v = updated n (n .first) 0 in
         let same : n ≡ m .node (u .node) = ap (λ q. q .node) copied in
         comes-to-rest spent m u (omega arith) (isSpent n) (returning (Clean (u .node) v) u 0)
-        (λ c. at-mending s m u c (h .place) refl ∙ rw (ne-eqb (u .node) 0 (λ z. omega (arith, h .some)), same-copy same) refl)
+        (λ may c. at-mending s m u c (h .place) refl ∙ rw (ne-eqb (u .node) 0 (λ z. omega (arith, h .some)), same-copy same) refl)
         exact
         (λ b c g em eu e.
         let answered : turnPlan f b t c .answer ≡ Took (u .result) =
@@ -270,6 +368,12 @@ module _ (f : Frame) (t : ℕ) (t-least : 1 ≤ t) (t-most : t ≤ f .shape .thr
               ∙ (λ i. listFrom (h .cells i) (f .shape .cells) (begins i))));
           answer = answered ∙ ap Took (h .result);
         })
+
+    clean-rests : (l spent : ℕ) (m : Shared) (u : Thread) → Mending l m u (MendClean 0) → u .copies .first ≡ readNode m (u .node) → l ≡ j
+        → spent + 1 ≡ end → RestsFrom spent m u
+    unfolding withPermission
+    clean-rests l spent m u h copied there exact =
+        any-permission spent m u λ n. cleaning-now l spent m (withPermission u n) (kept-with h n) copied there exact
 
     module _ (r : InRange s) (deep : d ≤ s .depth) (l : ℕ) (least : 1 ≤ l)
         (child : (m : Shared) (u : Thread) → Mending (l + 1) m u (MendReadNode 0) → RestsFrom (5 * (l + 1)) m u) where
@@ -298,11 +402,11 @@ module _ (f : Frame) (t : ℕ) (t-least : 1 ≤ t) (t-most : t ≤ f .shape .thr
               ap (λ x. levelsDown (val below) x (d - (l + 1)) c) value-below
               ∙ levels-same (val m) (val below) (val m (u .node)) (d - (l + 1)) c (omega (arith, h .some)) values-behind
 
-        exchange-rests : (c : ℕ) (k : Node) → 2 * u .node ≤ c → c ≤ 2 * u .node + 1 → c ≤ nodeCount s → k ≡ m .node c
+        exchange-now : (c : ℕ) (k : Node) → 2 * u .node ≤ c → c ≤ 2 * u .node + 1 → c ≤ nodeCount s → k ≡ m .node c
             → l + 1 + levelsDown (val m) (val m (u .node)) (d - (l + 1)) c ≡ j
-            → ((x : ℕ) → decide s m u x ≡ exchangeWith s m u 0 c k) → RestsFrom (5 * l + 4) m u
+            → ((x : ℕ) → decide s m u x ≡ exchangeWith s m u 0 c k) → RestsNow (5 * l + 4) m u
         unfolding exchangeWith exchangeAt nodeAndChildSame isNode effectShared plan pick mending atPlace withNode below readNode
-        exchange-rests c k lo hi there second on decides =
+        exchange-now c k lo hi there second on decides =
             let n = u .copies .first .node in
             let v = updated n (k .first) 0 in
             let w = updated k (n .first) 1 in
@@ -310,7 +414,7 @@ module _ (f : Frame) (t : ℕ) (t-least : 1 ≤ t) (t-most : t ≤ f .shape .thr
             let same : n ≡ m .node (u .node) = ap (λ q. q .node) copied in
             let gets : w .first ≡ m .node (u .node) .first = updated-first k (n .first) 1 ∙ ap (λ x. x .first) same in
             moves (5 * l + 4) m u (omega arith) (isSpent n || isSpent k) (plan (Exchange (u .node) v c w) (mending u c 0) Moved)
-            (λ x. decides x
+            (λ may x. decides x
             ∙ rw (ne-eqb (u .node) 0 (λ e. omega arith), is-between 1 c (nodeCount s) (omega arith) there, same-copy same, same-copy second) refl)
             refl
             (5 * (l + 1)) (omega arith)
@@ -331,15 +435,22 @@ module _ (f : Frame) (t : ℕ) (t-least : 1 ≤ t) (t-most : t ≤ f .shape .thr
               goes = ap (λ y. l + 1 + y) (levels-below c v w lo gets) ∙ on;
             }))
 
-        swap-rests : 2 * u .node + 1 ≤ nodeCount s → u .copies .second ≡ readNode m (2 * u .node)
+        swap-now : 2 * u .node + 1 ≤ nodeCount s → u .copies .second ≡ readNode m (2 * u .node)
             → u .copies .third ≡ readNode m (2 * u .node + 1)
-            → l + 1 + levelsDown (val m) (val m (u .node)) (d - (l + 1)) (lesserChild (val m) (u .node)) ≡ j → RestsFrom (5 * l + 4) m u
+            → l + 1 + levelsDown (val m) (val m (u .node)) (d - (l + 1)) (lesserChild (val m) (u .node)) ≡ j → RestsNow (5 * l + 4) m u
         unfolding between
-        swap-rests there second third on =
+        swap-now there second third on =
             let c = lesserChild (val m) (u .node) in
             let is = lesser-is-child (val m) (u .node) in
-            exchange-rests c (m .node c) (is .0) (is .1) (omega (arith, is)) refl on
+            exchange-now c (m .node c) (is .0) (is .1) (omega (arith, is)) refl on
             (λ x. at-mending s m u x (h .place) refl ∙ swaps-as-placed m u second third s 0)
+
+      swap-rests : (m : Shared) (u : Thread) → Mending l m u (MendSwap 0) → u .copies .first ≡ readNode m (u .node) → l < d
+          → 2 * u .node + 1 ≤ nodeCount s → u .copies .second ≡ readNode m (2 * u .node) → u .copies .third ≡ readNode m (2 * u .node + 1)
+          → l + 1 + levelsDown (val m) (val m (u .node)) (d - (l + 1)) (lesserChild (val m) (u .node)) ≡ j → RestsFrom (5 * l + 4) m u
+      unfolding withPermission
+      swap-rests m u h copied higher there second third on =
+          any-permission (5 * l + 4) m u λ n. swap-now m (withPermission u n) (kept-with h n) copied higher there second third on
 
       -- below a level above d there are children
       children-there : (m : Shared) (u : Thread) (p : Place) → Mending l m u p → l < d → 2 * u .node + 1 ≤ nodeCount s
@@ -357,10 +468,10 @@ module _ (f : Frame) (t : ℕ) (t-least : 1 ≤ t) (t-most : t ≤ f .shape .thr
           )
 
       -- M4, M3, M2 and M1
-      right-rests : (m : Shared) (u : Thread) → Mending l m u (MendReadRight 0) → u .copies .first ≡ readNode m (u .node)
-          → u .copies .second ≡ readNode m (2 * u .node) → l < d → RestsFrom (5 * l + 3) m u
+      right-now : (m : Shared) (u : Thread) → Mending l m u (MendReadRight 0) → u .copies .first ≡ readNode m (u .node)
+          → u .copies .second ≡ readNode m (2 * u .node) → l < d → RestsNow (5 * l + 3) m u
       unfolding between mendReadRight afterChildrenRead isNode onTo pick atPlace withThird withCopies readNode
-      right-rests m u h copied second higher = go (childLess v) decides (sym less)
+      right-now m u h copied second higher = go (childLess v) decides (sym less)
         where
           v : Thread
           v = withThird u (readNode m (2 * u .node + 1))
@@ -389,34 +500,46 @@ module _ (f : Frame) (t : ℕ) (t-least : 1 ≤ t) (t-most : t ≤ f .shape .thr
           one-down = ap (λ k. levelsDown (val m) value k (u .node)) (omega arith)
 
           go : (q : Bool) → ((c : ℕ) → decide s m u c ≡ pick q (onTo v (MendSwap 0)) (onTo v (MendClean 0)))
-              → lessBelow (val m (u .node)) (val m (2 * u .node)) (val m (2 * u .node + 1)) ≡ q → RestsFrom (5 * l + 3) m u
+              → lessBelow (val m (u .node)) (val m (2 * u .node)) (val m (2 * u .node + 1)) ≡ q → RestsNow (5 * l + 3) m u
           go true e t =
               let on = one-down ∙ goes-down (val m) value (d - (l + 1)) (u .node) t in
-              goes-on (5 * l + 3) (5 * l + 4) (omega arith) m u (atPlace v (MendSwap 0)) (omega (arith, on, h .goes)) e
+              goes-on (5 * l + 3) (5 * l + 4) (omega arith) m u (atPlace v (MendSwap 0)) (omega (arith, on, h .goes)) (λ may. e)
               (swap-rests m (atPlace v (MendSwap 0)) (kept h (atPlace v (MendSwap 0)) (MendSwap 0) refl refl refl refl)
               copied higher there second refl (omega (arith, on, h .goes)))
           go false e t =
               let on = one-down ∙ rests-there (val m) value (d - (l + 1)) (u .node) t in
-              goes-on (5 * l + 3) (5 * l + 4) (omega arith) m u (atPlace v (MendClean 0)) (omega (arith, on, h .goes)) e
+              goes-on (5 * l + 3) (5 * l + 4) (omega arith) m u (atPlace v (MendClean 0)) (omega (arith, on, h .goes)) (λ may. e)
               (clean-rests l (5 * l + 4) m (atPlace v (MendClean 0))
               (kept h (atPlace v (MendClean 0)) (MendClean 0) refl refl refl refl)
               copied (omega (arith, on, h .goes)) (omega (arith, on, h .goes)))
 
-      left-rests : (m : Shared) (u : Thread) → Mending l m u (MendReadLeft 0) → u .copies .first ≡ readNode m (u .node) → l < d
-          → RestsFrom (5 * l + 2) m u
+      right-rests : (m : Shared) (u : Thread) → Mending l m u (MendReadRight 0) → u .copies .first ≡ readNode m (u .node)
+          → u .copies .second ≡ readNode m (2 * u .node) → l < d → RestsFrom (5 * l + 3) m u
+      unfolding withPermission
+      right-rests m u h copied second higher =
+          any-permission (5 * l + 3) m u λ n. right-now m (withPermission u n) (kept-with h n) copied second higher
+
+      left-now : (m : Shared) (u : Thread) → Mending l m u (MendReadLeft 0) → u .copies .first ≡ readNode m (u .node) → l < d
+          → RestsNow (5 * l + 2) m u
       unfolding between mendReadLeft isNode onTo pick atPlace withSecond withCopies readNode
-      left-rests m u h copied higher =
+      left-now m u h copied higher =
           let v = atPlace (withSecond u (readNode m (2 * u .node))) (MendReadRight 0) in
           let there = children-there m u (MendReadLeft 0) h higher in
           goes-on (5 * l + 2) (5 * l + 3) (omega arith) m u v (omega (arith, h .goes))
-          (λ c. at-mending s m u c (h .place) refl
+          (λ may c. at-mending s m u c (h .place) refl
           ∙ rw (is-between 1 (2 * u .node) (nodeCount s) (omega (arith, h .some)) (omega arith)) refl)
           (right-rests m v (kept h v (MendReadRight 0) refl refl refl refl) copied refl higher)
 
-      depth-rests : (m : Shared) (u : Thread) → Mending l m u (MendReadDepth 0) → u .copies .first ≡ readNode m (u .node)
-          → RestsFrom (5 * l + 1) m u
+      left-rests : (m : Shared) (u : Thread) → Mending l m u (MendReadLeft 0) → u .copies .first ≡ readNode m (u .node) → l < d
+          → RestsFrom (5 * l + 2) m u
+      unfolding withPermission
+      left-rests m u h copied higher =
+          any-permission (5 * l + 2) m u λ n. left-now m (withPermission u n) (kept-with h n) copied higher
+
+      depth-now : (m : Shared) (u : Thread) → Mending l m u (MendReadDepth 0) → u .copies .first ≡ readNode m (u .node)
+          → RestsNow (5 * l + 1) m u
       unfolding between mendReadDepth afterDepthRead onTo pick atPlace withDepth readNode
-      depth-rests m u h copied = go (ℕ-discrete l d)
+      depth-now m u h copied = go (ℕ-discrete l d)
         where
           v : Place → Thread
           v p = atPlace (withDepth u (m .depth)) p
@@ -427,30 +550,38 @@ module _ (f : Frame) (t : ℕ) (t-least : 1 ≤ t) (t-most : t ≤ f .shape .thr
               at-mending s m u c (h .place) refl
               ∙ rw (still-dirty (ap (λ q. q .node) copied) (h .dirty), ne-eqb (u .node) 0 (λ e. omega (arith, h .some))) refl
 
-          go : Dec (l ≡ d) → RestsFrom (5 * l + 1) m u
+          go : Dec (l ≡ d) → RestsNow (5 * l + 1) m u
           go (yes e) =
               let none : levelsDown (val m) (val m (u .node)) (d - l) (u .node) ≡ 0 =
               ap (λ k. levelsDown (val m) (val m (u .node)) k (u .node)) (omega arith) ∙ rests-deepest (val m) (val m (u .node)) (u .node)
               in
               goes-on (5 * l + 1) (5 * l + 2) (omega arith) m u (v (MendClean 0)) (omega (arith, h .goes))
-              (λ c. known c ∙ rw (eq-eqb (level (u .node)) (m .depth) (h .at-level ∙ e ∙ sym (h .depth))) refl)
+              (λ may c. known c ∙ rw (eq-eqb (level (u .node)) (m .depth) (h .at-level ∙ e ∙ sym (h .depth))) refl)
               (clean-rests l (5 * l + 2) m (v (MendClean 0))
               (kept h (v (MendClean 0)) (MendClean 0) refl refl refl refl)
               copied (omega (arith, none, h .goes)) (omega (arith, none, h .goes)))
           go (no e) =
               goes-on (5 * l + 1) (5 * l + 2) (omega arith) m u (v (MendReadLeft 0)) (omega (arith, h .above, h .goes))
-              (λ c. known c ∙ rw (ne-eqb (level (u .node)) (m .depth) (λ z. e (sym (h .at-level) ∙ z ∙ h .depth))) refl)
+              (λ may c. known c ∙ rw (ne-eqb (level (u .node)) (m .depth) (λ z. e (sym (h .at-level) ∙ z ∙ h .depth))) refl)
               (left-rests m (v (MendReadLeft 0))
               (kept h (v (MendReadLeft 0)) (MendReadLeft 0) refl refl refl refl)
               copied (omega (arith, h .above)))
 
-      node-rests : (m : Shared) (u : Thread) → Mending l m u (MendReadNode 0) → RestsFrom (5 * l) m u
+      depth-rests : (m : Shared) (u : Thread) → Mending l m u (MendReadDepth 0) → u .copies .first ≡ readNode m (u .node)
+          → RestsFrom (5 * l + 1) m u
+      unfolding withPermission
+      depth-rests m u h copied = any-permission (5 * l + 1) m u λ n. depth-now m (withPermission u n) (kept-with h n) copied
+
+      node-now : (m : Shared) (u : Thread) → Mending l m u (MendReadNode 0) → RestsNow (5 * l) m u
       unfolding between mendReadNode onTo pick atPlace withFirst withCopies readNode
-      node-rests m u h =
+      node-now m u h =
           let v = atPlace (withFirst u (readNode m (u .node))) (MendReadDepth 0) in
           goes-on (5 * l) (5 * l + 1) refl m u v (omega (arith, h .above, h .goes))
-          (λ c. at-mending s m u c (h .place) refl ∙ rw (ne-eqb (u .node) 0 (λ e. omega (arith, h .some))) refl)
+          (λ may c. at-mending s m u c (h .place) refl ∙ rw (ne-eqb (u .node) 0 (λ e. omega (arith, h .some))) refl)
           (depth-rests m v (kept h v (MendReadDepth 0) refl refl refl refl) refl)
+
+      node-rests : (m : Shared) (u : Thread) → Mending l m u (MendReadNode 0) → RestsFrom (5 * l) m u
+      node-rests m u h = any-permission (5 * l) m u λ n. node-now m (withPermission u n) (kept-with h n)
 
     -- by the levels left below l
     mending-rests : InRange s → d ≤ s .depth → (k l : ℕ) → l + k ≡ d → 1 ≤ l → (m : Shared) (u : Thread) → Mending l m u (MendReadNode 0)
@@ -463,15 +594,15 @@ module _ (f : Frame) (t : ℕ) (t-least : 1 ≤ t) (t-most : t ≤ f .shape .thr
         (full : m .node 1 .first ≡ 0 → ⊥) (clean : (x : ℕ) → m .node x .dirty ≡ 0)
         (taken : m .cell (m .node 1 .first) .item ≡ rootItem f b₀) (begins : m .cell (m .node 1 .first) .next ≡ first)
         (cells : popped m .cell ≡ cell) (goes : 1 + levelsDown (val (popped m)) (val (popped m) 1) (d - 1) 1 ≡ j) where
-      head-rests : (u : Thread) → u .place ≡ RemoveHead → mayTake u ≡ true → u .copies .first ≡ readNode m 1 → RestsFrom 4 m u
-      unfolding between isTakePlace mayTake removeHead casRoot afterRemoval effectShared plan pick mending atPlace withNode withAfter withResult level digits readNode popped withoutHead
-      head-rests u place may copied =
+      head-now : (u : Thread) → u .place ≡ RemoveHead → u .copies .first ≡ readNode m 1 → RestsNow 4 m u
+      unfolding between isTakePlace removeHead casRoot afterRemoval effectShared plan pick mending atPlace withNode withAfter withResult level digits readNode popped withoutHead
+      head-now u place copied =
           let q = u .copies .first in
           let v = updated (q .node) (q .head .next) 1 in
           let w = mending (withAfter (withResult u (q .head .item)) 1) 1 0 in
           let root : m .node 1 .first ≡ q .node .first = ap (λ x. x .node .first) (sym copied) in
           moves 4 m u (omega (arith, goes)) (isSpent (q .node)) (plan (Pop v (q .node .first)) w Moved)
-          (λ c. at-take s m u c place refl may
+          (λ may c. at-take s m u c place refl may
           ∙ rw (same-copy (ap (λ x. x .node) copied), ne-eqb (q .node .first) 0 (λ z. full (root ∙ z))) refl)
           refl 5 refl
           (subst (λ x. RestsFrom 5 x w)
@@ -498,10 +629,14 @@ module _ (f : Frame) (t : ℕ) (t-least : 1 ≤ t) (t-most : t ≤ f .shape .thr
             goes = goes;
           })))
 
-      pub root-rests : (u : Thread) → u .place ≡ ReadRoot → mayTake u ≡ true → RestsFrom 3 m u
-      unfolding between isTakePlace mayTake readRoot afterRootRead onTo pick atPlace withFirst withCopies readNode
-      root-rests u place may =
+      root-now : (u : Thread) → u .place ≡ ReadRoot → RestsNow 3 m u
+      unfolding between isTakePlace withPermission readRoot afterRootRead onTo pick atPlace withFirst withCopies readNode
+      root-now u place =
           let v = atPlace (withFirst u (readNode m 1)) RemoveHead in
           goes-on 3 4 refl m u v (omega (arith, goes))
-          (λ c. at-take s m u c place refl may ∙ rw (not-dirty {n = m .node 1} refl (clean 1), ne-eqb (m .node 1 .first) 0 full) refl)
-          (head-rests v refl may refl)
+          (λ may c. at-take s m u c place refl may ∙ rw (not-dirty {n = m .node 1} refl (clean 1), ne-eqb (m .node 1 .first) 0 full) refl)
+          (any-permission 4 m v λ n. head-now (withPermission v n) refl refl)
+
+      pub root-rests : (u : Thread) → u .place ≡ ReadRoot → RestsFrom 3 m u
+      unfolding withPermission
+      root-rests u place = any-permission 3 m u λ n. root-now (withPermission u n) place

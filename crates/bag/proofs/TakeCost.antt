@@ -15,7 +15,7 @@ use Rattle.region.specs.Pick.{pick}
 use Rattle.region.specs.Record.{emptyNode}
 use Rattle.region.specs.Shape.{between, nodeCount}
 use Rattle.region.specs.Shared.{Shared, loadEntry, nodeIn, sharedIn, threadIn}
-use Rattle.region.specs.Thread.{atPlace}
+use Rattle.region.specs.Thread.{atPlace, withPermission}
 use Rattle.region.specs.declared.answer.Answer.{Answer}
 use Rattle.region.specs.declared.answer.Answer.the-variants.{Moved, Idle, Inserted, Took, Empty, Refused}
 use Rattle.region.specs.declared.frame.Frame.{Frame}
@@ -33,8 +33,6 @@ use Rattle.readable.proofs.Laws.{Good, good}
 use Rattle.readable.proofs.Stores.{thread-fit}
 use Rattle.begin.specs.Begin.{acceptedTake, one-item, takeBytes, takeRefusal}
 use Rattle.begin.proofs.Laws.{take-refusal-in}
-use Rattle.run.specs.Run.{Turn}
-use Rattle.permission.specs.Grants.{mayTake}
 use Rattle.machine.specs.Turn.{turnAnswer, turnBytes}
 use Rattle.cost.specs.Cost.{levelsDown, restLevel, takeCost, withoutHead}
 use Rattle.cost.proofs.Laws.{cost-ceiling, cost-counted, cost-empty, cost-full, levels-same, rest-most}
@@ -43,43 +41,9 @@ use Rattle.mound.specs.Tree.{listFrom}
 use Rattle.mound.proofs.Chains.{list-behind, next-apart}
 use Rattle.mound.proofs.Effects.{Mound, PopAllowed, in-tree, pop-others, root-there}
 use Rattle.mound.proofs.Held.{few-cells, node-chain}
-use Rattle.bag.specs.Alone.{AllClean, EndsAt, NoOtherMoves, NoneSpent, Step, last, moved-then, stepOf, stepsOf, takeSteps}
+use Rattle.bag.specs.Alone.{AllClean, Between, EndsAt, NoOtherMoves, NoneSpent, PermissionKept, Step, last, moved-then, stepsOf, takeSteps}
 use Rattle.bag.specs.TakeCost.{LastAccess, TakesCost, TakesEnd, listOf, rootHead}
-use Rattle.bag.proofs.Alone.{Rests, alone, empty-ends, end, popped, root-rests}
-use Rattle.bag.proofs.Carried.{turn-stays}
-
-length-alone : (f : Frame) (t : ℕ) (cs b : List ℕ) → length (alone f b t cs) ≡ length cs
-unfolding alone
-length-alone f t [] b = refl
-length-alone f t (c ∷ cs) b = ap suc (length-alone f t cs (turnBytes f b t c))
-
--- the choices of thread t's turns among these
-choicesOf : ℕ → List Turn → List ℕ
-choicesOf t [] = []
-choicesOf t (u ∷ us) = pick (eqb (u .thread) t) (u .choice ∷ choicesOf t us) (choicesOf t us)
-
--- turns of others that are idle or refused leave thread t alone
-module _ (f : Frame) (t : ℕ) where
-  others-aside : (us : List Turn) (b : List ℕ) → NoOtherMoves f b t us → stepsOf f b t us ≡ alone f b t (choicesOf t us)
-  unfolding stepsOf alone choicesOf pick turnAnswer
-  others-aside [] b h = refl
-  others-aside (u ∷ us) b h = go (eqb (u .thread) t) refl (others-aside us (turnBytes f b (u .thread) (u .choice)) (h .1))
-    where
-      rest : List ℕ → List Step
-      rest b′ = stepsOf f b′ t us
-
-      go : (q : Bool) → eqb (u .thread) t ≡ q
-          → rest (turnBytes f b (u .thread) (u .choice)) ≡ alone f (turnBytes f b (u .thread) (u .choice)) t (choicesOf t us)
-          → pick q (stepOf f b (u .thread) (u .choice) ∷ rest (turnBytes f b (u .thread) (u .choice)))
-          (rest (turnBytes f b (u .thread) (u .choice)))
-          ≡ alone f b t (pick q (u .choice ∷ choicesOf t us) (choicesOf t us))
-      go true e more =
-          ap (λ xs. stepOf f b (u .thread) (u .choice) ∷ xs) more
-          ∙ ap (λ k. stepOf f b k (u .choice) ∷ alone f (turnBytes f b k (u .choice)) t (choicesOf t us)) (eqb-true (u .thread) t e)
-      go false e more =
-          more
-          ∙ ap (λ b′. alone f b′ t (choicesOf t us))
-          (turn-stays f b (u .thread) (u .choice) (h .0 (eqb-false (u .thread) t e)))
+use Rattle.bag.proofs.Alone.{Rests, empty-ends, end, popped, root-rests}
 
 -- what holds of the last turn may be weakened
 ends-so : {P Q : Step → Type 0} {n : ℕ} {xs : List Step} → ((x : Step) → P x → Q x) → EndsAt P n xs → EndsAt Q n xs
@@ -87,7 +51,7 @@ ends-so h (last {x = x} p) = last (h x p)
 ends-so h (moved-then e more) = moved-then e (ends-so h more)
 
 -- A take begun on bytes in range.
-module _ (f : Frame) (b : List ℕ) (t : ℕ) (choices : List ℕ) (r : Good f b) (passed : TakePassed f b t) where
+module _ (f : Frame) (b : List ℕ) (t : ℕ) (xs : List Between) (r : Good f b) (passed : TakePassed f b t) where
   t-least : 1 ≤ t
   t-least = take-least f b t passed
 
@@ -96,6 +60,9 @@ module _ (f : Frame) (b : List ℕ) (t : ℕ) (choices : List ℕ) (r : Good f b
 
   abbrev begun : List ℕ
   begun = acceptedTake f b t ReadRoot
+
+  begun-good : Good f begun
+  begun-good = accepted-take-keeps f b t passed r ReadRoot one-item .good
 
   begun-shared : sharedIn f begun ≡ sharedIn f b
   begun-shared = shared-setThread f b (r .framed) t (atPlace (threadIn f b t) ReadRoot)
@@ -121,12 +88,12 @@ module _ (f : Frame) (b : List ℕ) (t : ℕ) (choices : List ℕ) (r : Good f b
         go false h = ap (λ n. n .dirty) (past x h)
 
     -- an empty root: 1 access
-    take-empty : nodeIn f b 1 .first ≡ 0 → 1 ≤ length choices
-        → EndsAt (λ x. x .answer ≡ Empty) 1 (alone f begun t choices)
-    unfolding sharedIn atPlace mayTake
-    take-empty none long =
-        empty-ends f t t-least t-most (sharedIn f b) (atPlace (threadIn f b t) ReadRoot) refl (passed .permitted) none (clean-all 1)
-        begun choices begun-shared begun-thread long
+    take-empty : nodeIn f b 1 .first ≡ 0 → NoOtherMoves f begun t xs → PermissionKept f begun t xs → 1 ≤ length (stepsOf f begun t xs)
+        → EndsAt (λ x. x .answer ≡ Empty) 1 (stepsOf f begun t xs)
+    unfolding sharedIn atPlace
+    take-empty none =
+        empty-ends f t t-least t-most (sharedIn f b) (atPlace (threadIn f b t) ReadRoot) refl none (clean-all 1)
+        begun xs begun-good begun-shared begun-thread
 
     -- any other, with the cells in order
     module _ (own : ℕ → ℕ) {all : ℕ} (g : Mound (f .shape) (sharedIn f b) own all)
@@ -175,14 +142,15 @@ module _ (f : Frame) (b : List ℕ) (t : ℕ) (choices : List ℕ) (r : Good f b
           (λ d n. upd-other (m .cell) c d _ n)
           (few-cells (f .shape) m own (g .held) 1 (omega arith) (in-tree (f .shape) m own g 1 (root-there (f .shape) m own g)))
 
-      take-rests : end f t t-least t-most b (m .depth) (restLevel m) (popped m .cell) second behind ≤ 3 + length choices
-          → NoneSpent (alone f begun t choices)
-          → Rests f t t-least t-most b (m .depth) (restLevel m) (popped m .cell) second behind 3 begun choices
-      unfolding atPlace sharedIn mayTake
-      take-rests long spent =
+      take-rests : NoOtherMoves f begun t xs → PermissionKept f begun t xs
+          → end f t t-least t-most b (m .depth) (restLevel m) (popped m .cell) second behind ≤ 3 + length (stepsOf f begun t xs)
+          → NoneSpent (stepsOf f begun t xs)
+          → Rests f t t-least t-most b (m .depth) (restLevel m) (popped m .cell) second behind 3 (stepsOf f begun t xs)
+      unfolding atPlace sharedIn withPermission
+      take-rests =
           root-rests f t t-least t-most b (m .depth) (restLevel m) (popped m .cell) second behind (r .range) (g .depth-least)
-          (g .depth-most) m refl full clean-all refl refl refl goes (atPlace (threadIn f b t) ReadRoot) refl (passed .permitted)
-          begun choices (accepted-take-keeps f b t passed r ReadRoot one-item .good) begun-shared begun-thread long spent
+          (g .depth-most) m refl full clean-all refl refl refl goes (atPlace (threadIn f b t) ReadRoot) refl
+          begun xs (record { good = begun-good; shared = begun-shared; permission = threadIn f b t .permission; thread = begun-thread })
 
 -- on a region of one queue
 begun-is : (b : List ℕ) (t : ℕ) → takeRefusal b t ≡ done → takeBytes b t ReadRoot ≡ acceptedTake (frameIn b) b t ReadRoot
@@ -193,48 +161,62 @@ begun-is b t e = rw (eq-eqb (takeRefusal b t) done e) refl
 pub take-costs : (b : List ℕ) → readable b ≡ true → (own : ℕ → ℕ) {all : ℕ}
     → Mound (frameIn b .shape) (sharedIn (frameIn b) b) own all → TakesCost b
 unfolding sharedIn
-take-costs b r own g t turns a = subst (EndsAt (LastAccess b t) (takeCost m)) (sym same) (go (ℕ-discrete (nodeIn (frameIn b) b 1 .first) 0))
+take-costs b r own g t xs a =
+    subst (λ x. EndsAt (LastAccess b t) (takeCost m) (stepsOf f x t xs)) (sym same) (go (ℕ-discrete (nodeIn f b 1 .first) 0))
   where
+    f : Frame
+    f = frameIn b
+
     m : Shared
-    m = sharedIn (frameIn b) b
+    m = sharedIn f b
 
-    choices : List ℕ
-    choices = choicesOf t turns
+    begun : List ℕ
+    begun = acceptedTake f b t ReadRoot
 
-    same : takeSteps b t turns ≡ alone (frameIn b) (acceptedTake (frameIn b) b t ReadRoot) t choices
-    same = others-aside (frameIn b) t turns (takeBytes b t ReadRoot) (a .quiet) ∙ ap (λ x. alone (frameIn b) x t choices) (begun-is b t (a .begun))
+    same : takeBytes b t ReadRoot ≡ begun
+    same = begun-is b t (a .begun)
 
-    enough : takeCost m ≤ length choices
-    enough = subst (λ n. takeCost m ≤ n) (ap length same ∙ length-alone (frameIn b) t choices _) (a .enough)
+    passed : TakePassed f b t
+    passed = take-passed f b t (sym (take-refusal-in b r t) ∙ a .begun)
 
-    unspent : NoneSpent (alone (frameIn b) (acceptedTake (frameIn b) b t ReadRoot) t choices)
-    unspent = subst NoneSpent same (a .unspent)
+    quiet : NoOtherMoves f begun t xs
+    quiet = subst (λ x. NoOtherMoves f x t xs) same (a .quiet)
 
-    passed : TakePassed (frameIn b) b t
-    passed = take-passed (frameIn b) b t (sym (take-refusal-in b r t) ∙ a .begun)
+    permission : PermissionKept f begun t xs
+    permission = subst (λ x. PermissionKept f x t xs) same (a .permission)
 
-    go : Dec (nodeIn (frameIn b) b 1 .first ≡ 0)
-        → EndsAt (LastAccess b t) (takeCost m) (alone (frameIn b) (acceptedTake (frameIn b) b t ReadRoot) t choices)
+    enough : takeCost m ≤ length (stepsOf f begun t xs)
+    enough = subst (λ x. takeCost m ≤ length (stepsOf f x t xs)) same (a .enough)
+
+    go : Dec (nodeIn f b 1 .first ≡ 0) → EndsAt (LastAccess b t) (takeCost m) (stepsOf f begun t xs)
     go (yes none) =
         let e = cost-empty m none in
-        subst (λ n. EndsAt (LastAccess b t) n (alone (frameIn b) (acceptedTake (frameIn b) b t ReadRoot) t choices)) (sym e)
+        subst (λ n. EndsAt (LastAccess b t) n (stepsOf f begun t xs)) (sym e)
         (ends-so (λ x h. record { empty = λ z. h; mended = λ full. absurd (full none) })
-        (take-empty (frameIn b) b t choices (good b r) passed (a .clean) none (omega (arith, e, enough))))
+        (take-empty f b t xs (good b r) passed (a .clean) none quiet permission (omega (arith, e, enough))))
     go (no full) =
         let e = cost-full m full in
         let k = cost-counted (m .depth) (restLevel m) (rest-most m (g .depth-least)) in
-        let h = take-rests (frameIn b) b t choices (good b r) passed (a .clean) own g full (omega (arith, e, k, enough)) unspent in
-        subst (λ n. EndsAt (LastAccess b t) n (alone (frameIn b) (acceptedTake (frameIn b) b t ReadRoot) t choices)) (omega (arith, e, k, h .exact))
+        let h = take-rests f b t xs (good b r) passed (a .clean) own g full quiet permission (omega (arith, e, k, enough))
+        (subst (λ x. NoneSpent (stepsOf f x t xs)) same (a .unspent)) in
+        subst (λ n. EndsAt (LastAccess b t) n (stepsOf f begun t xs)) (omega (arith, e, k, h .exact))
         (ends-so (λ x l. record { empty = λ z. absurd (full z); mended = λ n. l }) (h .rests))
 
 -- The ceiling follows: the figure is at most 5 × d.
 pub costs-end : (b : List ℕ) → 1 ≤ sharedIn (frameIn b) b .depth → TakesCost b → TakesEnd b
-costs-end b some costs t turns a =
+costs-end b some costs t xs a =
     let m = sharedIn (frameIn b) b in
     let c = cost-ceiling m some in (
       takeCost m,
       c .0,
       c .1,
-      costs t turns
-          (record { begun = a .begun; clean = a .clean; quiet = a .quiet; unspent = a .unspent; enough = omega (arith, a .enough) }),
+      costs t xs
+          (record {
+            begun = a .begun;
+            clean = a .clean;
+            quiet = a .quiet;
+            permission = a .permission;
+            unspent = a .unspent;
+            enough = omega (arith, a .enough);
+          }),
     )

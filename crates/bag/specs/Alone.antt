@@ -1,5 +1,5 @@
 -- A take of one item while no other thread moves: what document 01's ceiling and request 3's figure suppose, "with all nodes clean, no other
--- thread moving and no turn refused 11", and what it is to end in n accesses.
+-- thread moving and no turn refused 11", and with request 5 "the permission kept"; and what it is to end in n accesses.
 use Prim.Native.Nat.{ℕ, suc, _≤_}
 use mathlib.Core.Path.{_≡_}
 use mathlib.Core.Bool.{true}
@@ -9,13 +9,15 @@ use lib.ListN.{length}
 use Rattle.region.specs.Answer.{counterSpent, done}
 use Rattle.region.specs.Pick.{pick}
 use Rattle.region.specs.Shape.{nodeCount}
-use Rattle.region.specs.Shared.{nodeIn}
+use Rattle.region.specs.Shared.{nodeIn, threadIn}
 use Rattle.region.specs.declared.answer.Answer.{Answer}
 use Rattle.region.specs.declared.answer.Answer.the-variants.{Moved, Refused}
 use Rattle.region.specs.declared.frame.Frame.{Frame}
 use Rattle.region.specs.declared.place.Place.the-variants.{ReadRoot}
 use Rattle.access.specs.Plan.{changesNothing}
 use Rattle.readable.specs.Readable.{frameIn}
+use Rattle.permission.specs.Grants.{mayTake}
+use Rattle.permission.specs.Permit.{permitBytesIn}
 use Rattle.begin.specs.Begin.{takeBytes, takeRefusal}
 use Rattle.run.specs.Run.{Turn}
 use Rattle.machine.specs.Turn.{turnAnswer, turnBytes}
@@ -30,14 +32,25 @@ pub record Step : Type 0 where
 abbrev pub stepOf : Frame → List ℕ → ℕ → ℕ → Step
 stepOf f b t c = record { before = b; answer = turnAnswer f b t c; after = turnBytes f b t c }
 
--- thread t's turns among these, each turn on the bytes that the one before left
-unfoldable pub stepsOf : Frame → List ℕ → ℕ → List Turn → List Step
+-- what may come after the take's beginning: a turn, or the host's call that sets a permission (request 5)
+pub data Between : Type 0 where
+  turn : Turn → Between
+  permit : ℕ → ℕ → Between
+
+-- the region after it
+abbrev pub goneBy : Frame → List ℕ → Between → List ℕ
+goneBy f b (turn u) = turnBytes f b (u .thread) (u .choice)
+goneBy f b (permit k p) = permitBytesIn f b k p
+
+-- thread t's turns among these, each on the bytes that were left before
+unfoldable pub stepsOf : Frame → List ℕ → ℕ → List Between → List Step
 stepsOf f b t [] = []
-stepsOf f b t (u ∷ us) =
+stepsOf f b t (turn u ∷ xs) =
     pick
     (eqb (u .thread) t)
-    (stepOf f b (u .thread) (u .choice) ∷ stepsOf f (turnBytes f b (u .thread) (u .choice)) t us)
-    (stepsOf f (turnBytes f b (u .thread) (u .choice)) t us)
+    (stepOf f b (u .thread) (u .choice) ∷ stepsOf f (turnBytes f b (u .thread) (u .choice)) t xs)
+    (stepsOf f (turnBytes f b (u .thread) (u .choice)) t xs)
+stepsOf f b t (permit k p ∷ xs) = stepsOf f (permitBytesIn f b k p) t xs
 
 -- "with all nodes clean"
 abbrev pub AllClean : Frame → List ℕ → Type 0
@@ -45,11 +58,17 @@ AllClean f b = (n : ℕ) → 1 ≤ n → n ≤ nodeCount (f .shape) → nodeIn f
 
 -- "no other thread moving": no other thread's turn changes the region. Its idle and refused turns may stand between, not its withdrawn ones; so
 -- may checks, which leave the region as it is.
-abbrev pub NoOtherMoves : Frame → List ℕ → ℕ → List Turn → Type 0
+abbrev pub NoOtherMoves : Frame → List ℕ → ℕ → List Between → Type 0
 NoOtherMoves f b t [] = Unit
-NoOtherMoves f b t (u ∷ us) =
+NoOtherMoves f b t (turn u ∷ xs) =
     ((u .thread ≡ t → ⊥) → changesNothing (turnAnswer f b (u .thread) (u .choice)) ≡ true)
-    × NoOtherMoves f (turnBytes f b (u .thread) (u .choice)) t us
+    × NoOtherMoves f (turnBytes f b (u .thread) (u .choice)) t xs
+NoOtherMoves f b t (permit k p ∷ xs) = NoOtherMoves f (permitBytesIn f b k p) t xs
+
+-- "Request 3 supposes the permission kept" (request 5): whatever comes, thread t may take just before it
+abbrev pub PermissionKept : Frame → List ℕ → ℕ → List Between → Type 0
+PermissionKept f b t [] = Unit
+PermissionKept f b t (x ∷ xs) = (mayTake (threadIn f b t) ≡ true) × PermissionKept f (goneBy f b x) t xs
 
 -- "no turn refused 11"
 abbrev pub NoneSpent : List Step → Type 0
@@ -57,16 +76,17 @@ NoneSpent [] = Unit
 NoneSpent (x ∷ rest) = (x .answer ≡ Refused counterSpent → ⊥) × NoneSpent rest
 
 -- thread t's turns after it has begun a take on the region b
-abbrev pub takeSteps : List ℕ → ℕ → List Turn → List Step
-takeSteps b t turns = stepsOf (frameIn b) (takeBytes b t ReadRoot) t turns
+abbrev pub takeSteps : List ℕ → ℕ → List Between → List Step
+takeSteps b t xs = stepsOf (frameIn b) (takeBytes b t ReadRoot) t xs
 
--- the take is begun and alone, whichever turns come after its beginning, if thread t has at least n of them
-pub record Alone (b : List ℕ) (t : ℕ) (turns : List Turn) (n : ℕ) : Type 0 where
+-- the take is begun and alone, whatever comes after its beginning, if thread t has at least n turns
+pub record Alone (b : List ℕ) (t : ℕ) (xs : List Between) (n : ℕ) : Type 0 where
   pub begun : takeRefusal b t ≡ done
   pub clean : AllClean (frameIn b) b
-  pub quiet : NoOtherMoves (frameIn b) (takeBytes b t ReadRoot) t turns
-  pub unspent : NoneSpent (takeSteps b t turns)
-  pub enough : n ≤ length (takeSteps b t turns)
+  pub quiet : NoOtherMoves (frameIn b) (takeBytes b t ReadRoot) t xs
+  pub permission : PermissionKept (frameIn b) (takeBytes b t ReadRoot) t xs
+  pub unspent : NoneSpent (takeSteps b t xs)
+  pub enough : n ≤ length (takeSteps b t xs)
 
 -- n accesses: each turn before the n-th answers moved, and P holds of the n-th
 pub data EndsAt (P : Step → Type 0) : ℕ → List Step → Type 0 where

@@ -11,9 +11,8 @@ use Rattle.region.specs.declared.frame.Frame.{Frame}
 use Rattle.region.specs.declared.place.Place.the-variants.{MendClean}
 use Rattle.readable.specs.Readable.{frameIn}
 use Rattle.cost.specs.Cost.{restLevel, takeCost}
-use Rattle.run.specs.Run.{Turn}
 use Rattle.mound.specs.Tree.{Listed, listFrom}
-use Rattle.bag.specs.Alone.{AllClean, Alone, EndsAt, Step, takeSteps}
+use Rattle.bag.specs.Alone.{AllClean, Alone, Between, EndsAt, Step, takeSteps}
 use Rattle.bag.specs.History.{rootItem}
 
 -- node n's list: its cells with their items
@@ -47,11 +46,11 @@ pub record LastAccess (b : List ℕ) (t : ℕ) (x : Step) : Type 0 where
 -- "a take of one item begun at depth d ends in exactly" `takeCost` accesses
 abbrev pub TakesCost : List ℕ → Type 0
 TakesCost b =
-    (t : ℕ) (turns : List Turn) → Alone b t turns (takeCost (sharedIn (frameIn b) b))
-    → EndsAt (LastAccess b t) (takeCost (sharedIn (frameIn b) b)) (takeSteps b t turns)
+    (t : ℕ) (xs : List Between) → Alone b t xs (takeCost (sharedIn (frameIn b) b))
+    → EndsAt (LastAccess b t) (takeCost (sharedIn (frameIn b) b)) (takeSteps b t xs)
 
 -- "a take begun at depth d ends in at most 5 × d accesses"
 abbrev pub TakesEnd : List ℕ → Type 0
 TakesEnd b =
-    (t : ℕ) (turns : List Turn) → Alone b t turns (5 * sharedIn (frameIn b) b .depth)
-    → (n : ℕ) × (1 ≤ n) × (n ≤ 5 * sharedIn (frameIn b) b .depth) × EndsAt (LastAccess b t) n (takeSteps b t turns)
+    (t : ℕ) (xs : List Between) → Alone b t xs (5 * sharedIn (frameIn b) b .depth)
+    → (n : ℕ) × (1 ≤ n) × (n ≤ 5 * sharedIn (frameIn b) b .depth) × EndsAt (LastAccess b t) n (takeSteps b t xs)
