@@ -10,7 +10,7 @@ use crate::Refusal;
 /// assert_eq!(Answer::Took { key: 5, tag: 9 }.words(), [3, 5, 9]);
 /// assert_eq!(Answer::Refused(Refusal::Thread).words(), [5, 3, 0]);
 /// assert_eq!(Answer::from_words([4, 0, 0]), Some(Answer::Empty));
-/// assert_eq!(Answer::from_words([6, 0, 0]), None);
+/// assert_eq!(Answer::from_words([7, 0, 0]), None);
 /// ```
 #[derive(Clone, Copy, Debug, PartialEq, Eq, Hash)]
 pub enum Answer {
@@ -32,6 +32,9 @@ pub enum Answer {
     Empty,
     /// The turn was refused and nothing was done; the thread keeps its place.
     Refused(Refusal),
+    /// The put, take or list ended without effect: the thread lacks the permission that it needs. The
+    /// turn made no access, a put's cell is free again, and the thread is idle.
+    Withdrawn,
 }
 
 impl Answer {
@@ -44,6 +47,7 @@ impl Answer {
             Answer::Took { key, tag } => [3, key, tag],
             Answer::Empty => [4, 0, 0],
             Answer::Refused(refusal) => [5, refusal.number(), 0],
+            Answer::Withdrawn => [6, 0, 0],
         }
     }
 
@@ -56,12 +60,13 @@ impl Answer {
             [3, key, tag] => Some(Answer::Took { key, tag }),
             [4, 0, 0] => Some(Answer::Empty),
             [5, number, 0] => Refusal::from_number(number).map(Answer::Refused),
+            [6, 0, 0] => Some(Answer::Withdrawn),
             _ => None,
         }
     }
 
-    /// Whether the turn made an access. An idle and a refused one made none.
+    /// Whether the turn made an access. An idle, a refused and a withdrawn one made none.
     pub fn is_access(self) -> bool {
-        !matches!(self, Answer::Idle | Answer::Refused(_))
+        !matches!(self, Answer::Idle | Answer::Refused(_) | Answer::Withdrawn)
     }
 }

@@ -33,6 +33,13 @@ mod exported {
 
         pub fn mound_list(region: *mut u8, region_len: usize, thread: u32) -> u32;
 
+        pub fn mound_permit(
+            region: *mut u8,
+            region_len: usize,
+            thread: u32,
+            permission: u32,
+        ) -> u32;
+
         pub fn mound_run(
             region: *mut u8,
             region_len: usize,
@@ -105,6 +112,17 @@ pub fn list(region: &mut [u8], thread: u32) -> u32 {
     unsafe { exported::mound_list(region.as_mut_ptr(), region.len(), thread) }
 }
 
+/// Sets a thread's permission, whether the thread is busy or idle: bit 0 grants puts, bit 1 takes and
+/// lists. An operation under way that has not taken effect ends as withdrawn if the thread's next turn
+/// at a place that needs the permission finds it lacking.
+///
+/// Refusals, in order: 7 (not readable), 3 (thread), 1 (a permission above 3). Cost: that of [`check`],
+/// then one word.
+pub fn permit(region: &mut [u8], thread: u32, permission: u32) -> u32 {
+    // SAFETY: as in `put`.
+    unsafe { exported::mound_permit(region.as_mut_ptr(), region.len(), thread, permission) }
+}
+
 /// Serves the turns of a schedule, two words each (thread, choice), in order until it ends or the
 /// accesses made equal the limit, and writes three words (code, key, tag) for each served turn: those
 /// of its [`Answer`](crate::Answer). Bytes past the last of these stay as they were.
@@ -113,8 +131,9 @@ pub fn list(region: &mut [u8], thread: u32) -> u32 {
 /// bits 32 to 63 the accesses made; a refused call has served and made none.
 ///
 /// Refusals, in order: 7 (not readable), 6 (schedule), 5 (length of the answer slice). A turn may be
-/// refused 3, 7 or 11; that is its answer, and the run goes on. Cost: that of [`check`], then for each
-/// turn at most one access and its answer's words, whatever the size of the region.
+/// refused 3 or 7, withdrawn, or refused 11, looked at in this order; that is its answer, and the run
+/// goes on. Cost: that of [`check`], then for each turn at most one access and its answer's words,
+/// whatever the size of the region.
 pub fn run(region: &mut [u8], schedule: &[u8], limit: u32, answers: &mut [u8]) -> u64 {
     // SAFETY: each pointer goes with the length of its own slice. The slices are lent for the call,
     // region and answers exclusively, the schedule to be read; the library keeps no pointer.

@@ -7,7 +7,8 @@
 //!
 //! An item is a key with a tag. The least item leaves first: the one of the smallest key, and of
 //! equal keys the one of the smaller tag. Wholly equal items may be held beside each other. A take
-//! removes one item; a list removes several at once, the least of all first among them.
+//! removes one item; a list removes several at once, the least of all first among them. Each needs the
+//! thread's permission until it takes effect: what lacks it before that is withdrawn.
 //!
 //! ```
 //! use mound::{Answer, Permission, Refusal, Region, Shape, Turn};

@@ -15,7 +15,8 @@ use std::fmt;
 #[derive(Clone, Copy, Debug, PartialEq, Eq, Hash)]
 #[non_exhaustive]
 pub enum Refusal {
-    /// 1: the shape is outside its ranges, or the permissions are not one of 0 to 3 a thread.
+    /// 1: the shape is outside its ranges, or a permission is above 3, or the permissions are not one
+    /// a thread.
     Shape = 1,
     /// 2: the slice to lay out does not have the exact length of the shape.
     RegionLength = 2,
@@ -78,7 +79,7 @@ impl fmt::Display for Refusal {
     fn fmt(&self, f: &mut fmt::Formatter<'_>) -> fmt::Result {
         let reason = match self {
             Refusal::Shape => {
-                "the shape is outside its ranges, or the permissions are not one of 0 to 3 a thread"
+                "the shape or a permission is outside its range, or not one permission a thread"
             }
             Refusal::RegionLength => "the slice does not have the exact length of the shape",
             Refusal::Thread => "there is no such thread",

@@ -166,14 +166,52 @@ impl<'a> Region<'a> {
         Refusal::result_of(calls::list(self.bytes, thread))
     }
 
+    /// Sets the permission of a thread, counted from 1. The thread may be busy or idle; no other byte
+    /// changes.
+    ///
+    /// An operation needs its permission up to the access by which it takes effect: a put until its item
+    /// is in the queue, a take or a list until its items are removed. A turn before that access which
+    /// finds the permission lacking makes no access and answers
+    /// [`Answer::Withdrawn`](crate::Answer::Withdrawn): the thread is idle, a put's cell is free again,
+    /// and the queue holds what it held. If the permission is back before the thread's next turn, the
+    /// operation goes on. What has taken effect is finished without it: the items that were removed are
+    /// answered, and nodes are put in order.
+    ///
+    /// Cost: that of [`Region::check`], then one word is written.
+    ///
+    /// ```
+    /// use mound::{Answer, Permission, Refusal, Region, Shape, Turn};
+    ///
+    /// let shape = Shape { depth: 1, cells: 1, threads: 2, threshold: 1 };
+    /// let mut bytes = vec![0; shape.byte_len()?];
+    /// let mut region = Region::layout(&mut bytes, shape, &[Permission::PUT_AND_TAKE; 2])?;
+    /// region.put(1, 5, 9)?;
+    /// assert_eq!(region.put(2, 6, 9), Err(Refusal::NoFreeCell));
+    ///
+    /// region.permit(1, Permission::TAKE)?;
+    /// let run = region.run([Turn { thread: 1, choice: 0 }; 2], u32::MAX)?;
+    /// assert!(run.answers().eq([Answer::Withdrawn, Answer::Idle]));
+    /// assert_eq!(region.put(1, 5, 9), Err(Refusal::Permission));
+    /// region.put(2, 6, 9)?;
+    /// # Ok::<(), Refusal>(())
+    /// ```
+    ///
+    /// # Errors
+    ///
+    /// [`Refusal::Thread`], with no byte changed, where there is no such thread.
+    pub fn permit(&mut self, thread: u32, permission: Permission) -> Result<(), Refusal> {
+        Refusal::result_of(calls::permit(self.bytes, thread, permission.value().into()))
+    }
+
     /// Serves turns in order until they end or the accesses made equal the limit; [`u32::MAX`] is no
     /// limit. The turns may be a slice, an array or any iterator.
     ///
-    /// A turn of a thread that has nothing begun answers idle. A turn may be refused by itself, with
-    /// no byte changed, and the run goes on: [`Refusal::Thread`] where there is no such thread,
-    /// [`Refusal::Unreadable`] where its step names what does not exist, which in a region that was
-    /// laid out no step does, [`Refusal::CounterSpent`] where its update meets a counter that cannot
-    /// grow.
+    /// A turn of a thread that has nothing begun answers idle. One whose operation lacks its permission
+    /// before it takes effect is withdrawn; see [`Region::permit`]. A turn may be refused by itself,
+    /// with no byte changed: [`Refusal::Thread`] where there is no such thread, [`Refusal::Unreadable`]
+    /// where its step names what does not exist, which in a region that was laid out no step does,
+    /// [`Refusal::CounterSpent`] where its update meets a counter that cannot grow. The run goes on
+    /// after each of these.
     ///
     /// Cost: that of [`Region::check`], then for each turn at most one access and its answer, whatever
     /// the size of the region. Memory for schedule and answers is allocated, 20 bytes a turn; see

@@ -23,7 +23,7 @@ impl Turn {
 /// What a run served.
 #[derive(Clone, Copy, Debug, Default, PartialEq, Eq, Hash)]
 pub struct Served {
-    /// Turns served, idle and refused ones among them.
+    /// Turns served, idle, withdrawn and refused ones among them.
     pub turns: u32,
     /// Accesses that these turns made.
     pub accesses: u32,

@@ -1,9 +1,9 @@
 //! The places of a take, lines 21 to 31 of Listing 1, and those of a list, which change request 1 adds.
 
-use super::fields::{After, Field, Place, ROOT};
+use super::fields::{After, Field, Place, MAY_TAKE, ROOT};
 use super::memory::{Cell, Node, NodeCopy, Update};
 use super::record::Copied;
-use super::turn::{existing, Outcome, Turn};
+use super::turn::{existing, Outcome, Stop, Turn};
 use crate::{Answer, Refusal};
 
 impl Turn<'_, '_> {
@@ -11,6 +11,7 @@ impl Turn<'_, '_> {
     /// that holds something is updated at the next place.
     pub(super) fn read_root(&mut self, again: After, next: Place) -> Outcome {
         let copy = self.memory.read(ROOT)?;
+        self.needs(MAY_TAKE)?;
         if !copy.node.dirty && copy.node.first_cell == 0 {
             self.thread.go_idle();
             return Ok(Answer::Empty);
@@ -61,11 +62,12 @@ impl Turn<'_, '_> {
 
     /// CAS of the root to a list that starts at this cell, dirty. Only a success names the copied
     /// head, so a copy without one is refused only where the comparison holds.
-    fn cut_root(&mut self, old: Node, first_cell: u32) -> Result<bool, Refusal> {
+    fn cut_root(&mut self, old: Node, first_cell: u32) -> Result<bool, Stop> {
         if old.first_cell == 0 && self.memory.equals(ROOT, old)? {
-            return Err(Refusal::Unreadable);
+            return Err(Refusal::Unreadable.into());
         }
-        self.memory.cas(&Update { at: ROOT, old, first_cell, dirty: true })
+        self.needs(MAY_TAKE)?;
+        Ok(self.memory.cas(&Update { at: ROOT, old, first_cell, dirty: true })?)
     }
 
     fn mend_root(&mut self, after: After) -> Outcome {

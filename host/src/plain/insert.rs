@@ -1,14 +1,31 @@
 //! The places of a put, lines 2 to 20 of Listing 1.
 
-use super::fields::{Field, Place, ROOT};
+use super::fields::{Field, Place, MAY_PUT, ROOT};
 use super::memory::{Node, Update};
 use super::record::Copied;
 use super::turn::{ancestor, existing, Outcome, Turn};
 use crate::{Answer, Refusal};
 
+/// The binary search of line 18: the levels between which it goes on, or the ancestor that it has
+/// found at the last one.
+struct Search {
+    lo: u32,
+    hi: u32,
+    found: Option<u32>,
+}
+
+impl Search {
+    /// The search for an ancestor of this leaf, between these levels.
+    fn of(leaf: u32, lo: u32, hi: u32) -> Result<Search, Refusal> {
+        let found = if lo < hi { None } else { Some(ancestor(leaf, hi)?) };
+        Ok(Search { lo, hi, found })
+    }
+}
+
 impl Turn<'_, '_> {
     /// I1, line 15: READ depth.
     pub(super) fn read_depth(&mut self) -> Outcome {
+        self.needs(MAY_PUT)?;
         self.thread.set(Field::D, self.memory.read_depth());
         self.thread.set(Field::Tries, 0);
         self.moved_to(Place::I2)
@@ -20,11 +37,12 @@ impl Turn<'_, '_> {
         let first_leaf = 1 << (d - 1);
         let leaf = first_leaf + choice % first_leaf;
         let copy = self.memory.read(leaf)?;
+        self.needs(MAY_PUT)?;
         self.thread.set(Field::Leaf, leaf);
         self.thread.set_copy(Copied::First, copy);
         if copy.val() >= self.thread.item() {
             // Never refused: the search starts at the leaf's own level.
-            return self.search_on(leaf, 1, d);
+            return self.search_on(Search::of(leaf, 1, d)?);
         }
         let tries = self.thread.get(Field::Tries) + 1;
         self.thread.set(Field::Tries, tries);
@@ -37,42 +55,42 @@ impl Turn<'_, '_> {
         })
     }
 
-    /// I3, the binary search of line 18: READ the leaf's ancestor halfway between lo and hi.
+    /// I3, line 18: READ the leaf's ancestor halfway between lo and hi.
     pub(super) fn search(&mut self) -> Outcome {
         let leaf = self.thread.get(Field::Leaf);
         let lo = self.thread.get(Field::Lo);
         let hi = self.thread.get(Field::Hi);
         if lo >= hi {
-            return Err(Refusal::Unreadable);
+            return Err(Refusal::Unreadable.into());
         }
         let middle = (lo + hi) / 2;
         let copy = self.memory.read(ancestor(leaf, middle)?)?;
         let found = copy.val() >= self.thread.item();
         let (lo, hi) = if found { (lo, middle) } else { (middle + 1, hi) };
-        let answer = self.search_on(leaf, lo, hi)?;
+        let search = Search::of(leaf, lo, hi)?;
+        self.needs(MAY_PUT)?;
         self.thread.set_copy(Copied::First, copy);
-        Ok(answer)
+        self.search_on(search)
     }
 
-    /// Search: to I3 while levels are left between lo and hi, else to I5 with the ancestor found.
-    fn search_on(&mut self, leaf: u32, lo: u32, hi: u32) -> Outcome {
-        let place = if lo < hi {
-            Place::I3
-        } else {
-            self.thread.set(Field::Node, ancestor(leaf, hi)?);
-            Place::I5
-        };
+    /// To I3 while levels are left between lo and hi, else to I5 with the ancestor found.
+    fn search_on(&mut self, Search { lo, hi, found }: Search) -> Outcome {
         self.thread.set(Field::Lo, lo);
         self.thread.set(Field::Hi, hi);
-        self.moved_to(place)
+        let Some(node) = found else {
+            return self.moved_to(Place::I3);
+        };
+        self.thread.set(Field::Node, node);
+        self.moved_to(Place::I5)
     }
 
     /// I4, line 19: CAS depth from d to d + 1.
     pub(super) fn grow(&mut self) -> Outcome {
         let d = existing(self.thread.get(Field::D))?;
         if d >= self.shape.depth {
-            return Err(Refusal::Unreadable);
+            return Err(Refusal::Unreadable.into());
         }
+        self.needs(MAY_PUT)?;
         self.memory.cas_depth(d, d + 1);
         self.moved_to(Place::I1)
     }
@@ -81,6 +99,7 @@ impl Turn<'_, '_> {
     pub(super) fn read_node(&mut self) -> Outcome {
         let node = self.thread.get(Field::Node);
         let copy = self.memory.read(node)?;
+        self.needs(MAY_PUT)?;
         self.thread.set_copy(Copied::First, copy);
         self.moved_to(if copy.val() < self.thread.item() {
             Place::I1
@@ -94,6 +113,7 @@ impl Turn<'_, '_> {
     /// I6, line 8: CAS the root, with the own cell as its new head.
     pub(super) fn push_on_root(&mut self) -> Outcome {
         let push = self.push_on(ROOT)?;
+        self.needs(MAY_PUT)?;
         let pushed = self.memory.cas(&push)?;
         self.end_push(pushed, push)
     }
@@ -102,6 +122,7 @@ impl Turn<'_, '_> {
     pub(super) fn read_parent(&mut self) -> Outcome {
         let parent = self.thread.get(Field::Node) / 2;
         let copy = self.memory.read(parent)?;
+        self.needs(MAY_PUT)?;
         self.thread.set_copy(Copied::Second, copy);
         self.moved_to(if copy.val() > self.thread.item() { Place::I1 } else { Place::I8 })
     }
@@ -110,8 +131,10 @@ impl Turn<'_, '_> {
     pub(super) fn push_under_parent(&mut self) -> Outcome {
         let node = self.thread.get(Field::Node);
         let push = self.push_on(node)?;
-        let parent = self.thread.copy(Copied::Second).node;
-        let pushed = self.memory.dcss(&push, node / 2, parent)?;
+        let parent = existing(node / 2)?;
+        self.needs(MAY_PUT)?;
+        let copied_parent = self.thread.copy(Copied::Second).node;
+        let pushed = self.memory.dcss(&push, parent, copied_parent)?;
         self.end_push(pushed, push)
     }
 

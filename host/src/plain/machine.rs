@@ -1,11 +1,13 @@
 //! The machine: a readable region in which operations begin and turns are served.
 
-use super::fields::{Field, Place, GREATEST_KEY, GREATEST_TAG, MAY_PUT, MAY_TAKE};
+use super::fields::{
+    Field, Place, GREATEST_KEY, GREATEST_PERMISSION, GREATEST_TAG, MAY_PUT, MAY_TAKE,
+};
 use super::memory::Memory;
 use super::parts::{Parts, ThreadWords};
 use super::readable::check;
 use super::record::Record;
-use super::turn::{Outcome, Turn};
+use super::turn::Turn;
 use crate::{Answer, Refusal, Shape};
 
 /// A queue in a region that was found readable, and that every call leaves readable.
@@ -74,16 +76,32 @@ impl<'a> Machine<'a> {
         Ok(())
     }
 
+    /// Sets a thread's permission, busy or not.
+    ///
+    /// # Errors
+    ///
+    /// In this order, and with no byte changed: [`Refusal::Thread`], [`Refusal::Shape`] for a permission
+    /// above 3.
+    pub fn permit(&mut self, thread: u32, permission: u32) -> Result<(), Refusal> {
+        let mut record = record_of(self.threads, thread)?;
+        if permission > GREATEST_PERMISSION {
+            return Err(Refusal::Shape);
+        }
+        record.set(Field::Permission, permission);
+        Ok(())
+    }
+
     /// Serves a turn of a thread: the access of its place and the local work up to the next. The
     /// choice picks the leaf at I2.
     ///
     /// It is refused, in this order and with no byte changed: 3 for the thread; 7 where the access
-    /// or the local work names what does not exist; 11 where an update meets a spent counter.
+    /// or the local work names what does not exist; 11 where an update meets a spent counter. Between
+    /// 7 and 11, a turn whose operation has not decided and lacks its permission is withdrawn.
     pub fn turn(&mut self, thread: u32, choice: u32) -> Answer {
         self.serve(thread, choice).unwrap_or_else(Answer::Refused)
     }
 
-    fn serve(&mut self, thread: u32, choice: u32) -> Outcome {
+    fn serve(&mut self, thread: u32, choice: u32) -> Result<Answer, Refusal> {
         let thread = record_of(self.threads, thread)?;
         Turn { shape: self.shape, memory: &mut self.memory, thread }.serve(choice)
     }

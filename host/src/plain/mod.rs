@@ -68,6 +68,15 @@ pub fn list(region: &mut [u8], thread: u32) -> Result<(), Refusal> {
     Machine::open(region)?.list(thread)
 }
 
+/// Sets a thread's permission.
+///
+/// # Errors
+///
+/// [`Refusal::Unreadable`] first, then those of [`Machine::permit`]; no byte is changed.
+pub fn permit(region: &mut [u8], thread: u32, permission: u32) -> Result<(), Refusal> {
+    Machine::open(region)?.permit(thread, permission)
+}
+
 /// Serves one turn, as a run of one would: a region that is not readable is refused 7 before the
 /// thread is looked at, and otherwise the answer is that of [`Machine::turn`].
 pub fn turn(region: &mut [u8], thread: u32, choice: u32) -> Answer {

@@ -62,9 +62,14 @@ impl Record<'_> {
         copies[copied as usize] = [first_cell, dirty, counter, key, tag, next];
     }
 
+    /// Whether the thread's list grants this.
+    pub fn has(&self, permission: u32) -> bool {
+        self.get(Field::Permission) & permission != 0
+    }
+
     /// Whether an operation may begin: the thread's list grants it and the thread is idle.
     pub fn may_begin(&self, needed: u32) -> Result<(), Refusal> {
-        if self.get(Field::Permission) & needed == 0 {
+        if !self.has(needed) {
             return Err(Refusal::Permission);
         }
         match self.place() {

@@ -1,12 +1,26 @@
 //! One turn: the dispatch by place, and what the places share.
 
-use super::fields::{After, Place};
+use super::fields::{After, Field, Place, MAY_PUT};
 use super::memory::Memory;
 use super::record::Record;
 use crate::{Answer, Refusal, Shape};
 
-/// A turn's answer, or why it is refused; nothing has been written then.
-pub(super) type Outcome = Result<Answer, Refusal>;
+/// What a place answers, or why it makes no access; nothing has been written then.
+pub(super) type Outcome = Result<Answer, Stop>;
+
+/// Why a place makes no access.
+pub(super) enum Stop {
+    /// The turn is refused.
+    Refused(Refusal),
+    /// The thread lacks this permission, change request 5.
+    Lacks(u32),
+}
+
+impl From<Refusal> for Stop {
+    fn from(refusal: Refusal) -> Stop {
+        Stop::Refused(refusal)
+    }
+}
 
 /// A turn of one thread: the shared memory and the thread's own record.
 pub(super) struct Turn<'t, 'a> {
@@ -16,8 +30,16 @@ pub(super) struct Turn<'t, 'a> {
 }
 
 impl Turn<'_, '_> {
-    /// Serves the turn at the place where the thread stands.
-    pub fn serve(&mut self, choice: u32) -> Outcome {
+    /// Serves the turn at the place where the thread stands, or withdraws its operation.
+    pub fn serve(&mut self, choice: u32) -> Result<Answer, Refusal> {
+        match self.serve_place(choice) {
+            Ok(answer) => Ok(answer),
+            Err(Stop::Refused(refusal)) => Err(refusal),
+            Err(Stop::Lacks(permission)) => self.withdraw(permission),
+        }
+    }
+
+    fn serve_place(&mut self, choice: u32) -> Outcome {
         match self.thread.place() {
             Place::Idle => Ok(Answer::Idle),
             Place::I1 => self.read_depth(),
@@ -40,6 +62,27 @@ impl Turn<'_, '_> {
             Place::P18 => self.detach_root(),
             Place::P19 => self.hand_out(),
         }
+    }
+
+    /// Whether the thread still has the permission of its operation. The places of a put and those of a
+    /// take or a list before it decides look at this once all that they name is there, and before a
+    /// counter.
+    pub fn needs(&self, permission: u32) -> Result<(), Stop> {
+        if self.thread.has(permission) {
+            Ok(())
+        } else {
+            Err(Stop::Lacks(permission))
+        }
+    }
+
+    /// The operation ends without effect, for lack of this permission: a put's own cell is freed, and the
+    /// thread goes idle.
+    fn withdraw(&mut self, lacking: u32) -> Result<Answer, Refusal> {
+        if lacking == MAY_PUT {
+            self.memory.free_cell(existing(self.thread.get(Field::OwnCell))?);
+        }
+        self.thread.go_idle();
+        Ok(Answer::Withdrawn)
     }
 
     /// The thread goes on at that place.

@@ -102,6 +102,10 @@ impl Queue {
         plain::list(&mut self.bytes, thread)
     }
 
+    pub fn permit(&mut self, thread: u32, permission: u32) -> Result<(), Refusal> {
+        plain::permit(&mut self.bytes, thread, permission)
+    }
+
     pub fn begin(&mut self, thread: u32, call: Call) -> Result<(), Refusal> {
         match call {
             Call::Put((key, tag)) => self.put(thread, key, tag),
@@ -258,6 +262,39 @@ impl Queue {
 
     pub fn all_clean(&self) -> bool {
         self.dirty_nodes().next().is_none()
+    }
+
+    /// Whether the thread stands at one of the places that need this permission, request 5: I1 to I8 put;
+    /// E1, E2, 17 and 18 take.
+    pub fn needs(&self, thread: u32, permission: u32) -> bool {
+        match self.place(thread) {
+            place::I1..=place::I8 => permission == 1,
+            place::E1 | place::E2 | place::P17 | place::P18 => permission == 2,
+            _ => false,
+        }
+    }
+
+    /// Whether it lacks the permission that it needs there.
+    pub fn lacks_permission(&self, thread: u32) -> bool {
+        let permission = self.field(thread, PERMISSION);
+        [1, 2].into_iter().any(|needed| self.needs(thread, needed) && permission & needed == 0)
+    }
+
+    /// The queue after a withdrawn turn of the thread, word by word: a put's own cell is wiped and comes
+    /// first of the free ones, and of the record the permission alone is left. None where a put has no
+    /// own cell.
+    pub fn withdrawn(&self, thread: u32) -> Option<Queue> {
+        let mut queue = self.clone();
+        if self.needs(thread, 1) {
+            let own_cell = self.field(thread, OWN_CELL);
+            if own_cell == 0 {
+                return None;
+            }
+            queue.set_words(self.cell_at(own_cell), [0, 0, self.word(FIRST_FREE_CELL)]);
+            queue.set_word(FIRST_FREE_CELL, own_cell);
+        }
+        (PERMISSION + 1..THREAD).for_each(|field| queue.set_field(thread, field, 0));
+        Some(queue)
     }
 
     /// The threads that may begin a take: idle, and with the permission.

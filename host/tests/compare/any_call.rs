@@ -4,7 +4,7 @@ use mound::Shape;
 
 use crate::both::{self, Ran};
 use crate::random::Random;
-use crate::tally::Outcome::{self, Check, Layout, List, Put, Take};
+use crate::tally::Outcome::{self, Check, Layout, List, Permit, Put, Take};
 use crate::tally::Tally;
 
 /// What beginnings answer in readable regions: begun, or refused.
@@ -25,23 +25,24 @@ pub const BEGINNINGS: [Outcome; 14] = [
     List(9),
 ];
 
+/// What setting a permission answers there.
+pub const PERMITS: [Outcome; 3] = [Permit(0), Permit(1), Permit(3)];
+
 /// Makes any call on a region that was laid out by that shape, so that no layout is accepted by
 /// another.
 pub fn any(random: &mut Random, region: &mut [u8], shape: Shape, tally: &mut Tally) {
     match random.among(0..=19) {
         0 => tally.add(Layout(refused_layout(random, region, shape))),
         1 => tally.add(Check(if both::is_readable(region) { 0 } else { 7 })),
-        2..=12 => tally.add(begin(random, region, shape.threads)),
+        2..=11 => tally.add(begin(random, region, shape.threads)),
+        12 => tally.add(permit(random, region, shape.threads)),
         _ => tally.add_run(&run(random, region, shape.threads)),
     }
 }
 
 /// Begins a put, a take or a list.
 pub fn begin(random: &mut Random, region: &mut [u8], threads: u32) -> Outcome {
-    let thread = match random.among(0..=9) {
-        0 => random.one_of(&[0, threads + 1, 65, u32::MAX]),
-        _ => random.among(1..=threads),
-    };
+    let thread = any_thread(random, threads);
     match random.among(0..=8) {
         0 => return List(both::list(random, region, thread)),
         1 | 2 => return Take(both::take(random, region, thread)),
@@ -58,6 +59,25 @@ pub fn begin(random: &mut Random, region: &mut [u8], threads: u32) -> Outcome {
         _ => random.among_or_extreme(0..=65_535),
     };
     Put(both::put(random, region, thread, key, tag))
+}
+
+/// Sets a permission, half of the time both bits of it, so that operations go on.
+pub fn permit(random: &mut Random, region: &mut [u8], threads: u32) -> Outcome {
+    let thread = any_thread(random, threads);
+    let permission = match random.among(0..=9) {
+        0 => random.one_of(&[4, 5, 7, 255, 256, 1 << 16, 1 << 31, u32::MAX]),
+        1..=5 => 3,
+        _ => random.among(0..=2),
+    };
+    Permit(both::permit(random, region, thread, permission))
+}
+
+/// A thread, one in ten of which does not exist.
+fn any_thread(random: &mut Random, threads: u32) -> u32 {
+    match random.among(0..=9) {
+        0 => random.one_of(&[0, threads + 1, 65, u32::MAX]),
+        _ => random.among(1..=threads),
+    }
 }
 
 /// Runs a schedule. Some are no whole turns or have too little room for answers, and many limits are

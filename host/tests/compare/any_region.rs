@@ -1,5 +1,5 @@
-//! What holds of every readable region, laid out or not: it is readable after any turn and any
-//! beginning, these change no more than they should, and a run is its turns one by one.
+//! What holds of every readable region, laid out or not: it is readable after any turn, any beginning
+//! and any permit, these change no more than they should, and a run is its turns one by one.
 
 use std::collections::BTreeSet;
 
@@ -38,28 +38,28 @@ fn look_at(thread: u32, nothing_done: bool, before: &Queue, after: &Queue) {
     }
 }
 
-/// What a turn can answer at each place: the codes 0 moved, 1 idle, 2 inserted, 3 took, 4 empty, and
-/// the refusals 7 and 11.
+/// What a turn can answer at each place: the codes 0 moved, 1 idle, 2 inserted, 3 took, 4 empty,
+/// 6 withdrawn, and the refusals 7 and 11.
 const ANSWERS: [(u32, &[u32]); 20] = [
     (IDLE, &[1]),
-    (I1, &[0]),
-    (I2, &[0, 7]),
-    (I3, &[0, 7]),
-    (I4, &[0, 7]),
-    (I5, &[0, 7]),
-    (I6, &[0, 2, 7, 11]),
-    (I7, &[0, 7]),
-    (I8, &[0, 2, 7, 11]),
-    (E1, &[0, 4]),
-    (E2, &[0, 7, 11]),
+    (I1, &[0, 6, 7]),
+    (I2, &[0, 6, 7]),
+    (I3, &[0, 6, 7]),
+    (I4, &[0, 6, 7]),
+    (I5, &[0, 6, 7]),
+    (I6, &[0, 2, 6, 7, 11]),
+    (I7, &[0, 6, 7]),
+    (I8, &[0, 2, 6, 7, 11]),
+    (E1, &[0, 4, 6]),
+    (E2, &[0, 6, 7, 11]),
     (M1, &[0, 7]),
     (M2, &[0, 3, 7]),
     (M3, &[0, 7]),
     (M4, &[0, 7]),
     (M5, &[0, 7, 11]),
     (M6, &[0, 3, 7, 11]),
-    (P17, &[0, 4]),
-    (P18, &[0, 7, 11]),
+    (P17, &[0, 4, 6]),
+    (P18, &[0, 6, 7, 11]),
     (P19, &[3, 7]),
 ];
 
@@ -79,7 +79,8 @@ fn is_readable_after_any_turn() {
         for &(thread, choice) in &turns {
             let before = by_turns.clone();
             let answer = by_turns.turn(thread, choice);
-            look_at(thread, !answer.is_access(), &before, &by_turns);
+            let nothing_done = matches!(answer, Answer::Idle | Answer::Refused(_));
+            look_at(thread, nothing_done, &before, &by_turns);
             let number = match answer {
                 Answer::Refused(refusal) => refusal.number(),
                 _ => answer.words()[0],
@@ -96,7 +97,7 @@ fn is_readable_after_any_turn() {
 }
 
 #[test]
-fn is_readable_after_any_beginning() {
+fn is_readable_after_any_beginning_or_permit() {
     let random = &mut Random::new(51);
     for _ in 0..60_000 {
         let mut queue = any_region(random);
@@ -104,10 +105,14 @@ fn is_readable_after_any_beginning() {
         let (key, tag) =
             (random.among_or_extreme(0..=u32::MAX), random.among_or_extreme(0..=65_536));
         let before = queue.clone();
-        let number = match random.among(0..=2) {
+        let number = match random.among(0..=3) {
             0 => both::put(random, &mut queue.bytes, thread, key, tag),
             1 => both::take(random, &mut queue.bytes, thread),
-            _ => both::list(random, &mut queue.bytes, thread),
+            2 => both::list(random, &mut queue.bytes, thread),
+            _ => {
+                let permission = random.among_or_extreme(0..=4);
+                both::permit(random, &mut queue.bytes, thread, permission)
+            }
         };
         look_at(thread, number != 0, &before, &queue);
     }

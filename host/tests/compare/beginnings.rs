@@ -1,13 +1,13 @@
-//! Put, take and list: laid-out regions, damaged ones, readable ones of every kind.
+//! Put, take, list and permit: laid-out regions, damaged ones, readable ones of every kind.
 
-use crate::any_call::{self, BEGINNINGS};
+use crate::any_call::{self, BEGINNINGS, PERMITS};
 use crate::both;
 use crate::common::beginnings::with_every_set_of_reasons;
 use crate::damaged::{telling_values, SHAPES};
 use crate::fields::{place, Words, FIRST_FREE_CELL, PERMISSION, PLACE, WAITING};
 use crate::queue::Queue;
 use crate::random::Random;
-use crate::tally::Outcome::{List, Put, Take};
+use crate::tally::Outcome::{List, Permit, Put, Take};
 use crate::tally::Tally;
 
 #[test]
@@ -42,8 +42,9 @@ fn any_readable_region() {
             region.words[FIRST_FREE_CELL] = random.among(1..=shape.cells);
         }
         tally.add(any_call::begin(random, &mut region.bytes(), threads));
+        tally.add(any_call::permit(random, &mut region.bytes(), threads));
     }
-    tally.has_just(&BEGINNINGS, 50);
+    tally.has_just(&[&BEGINNINGS[..], &PERMITS].concat(), 50);
 }
 
 /// Regions with one word set to another value, one word after the other.
@@ -57,13 +58,15 @@ fn damaged_regions() {
         for region in [laid_out, no_free_cell, Words::any_readable(random, shape)] {
             for at in 0..region.words.len() {
                 for value in telling_values(&region, at.max(4)) {
-                    let mut damaged = region.with(at, value).bytes();
-                    tally.add(any_call::begin(random, &mut damaged, shape.threads));
+                    let damaged = region.with(at, value).bytes();
+                    tally.add(any_call::begin(random, &mut damaged.clone(), shape.threads));
+                    tally.add(any_call::permit(random, &mut damaged.clone(), shape.threads));
                 }
             }
         }
     }
-    tally.has_just(&[&BEGINNINGS[..], &[Put(7), Take(7), List(7)]].concat(), 50);
+    let unreadable = [Put(7), Take(7), List(7), Permit(7)];
+    tally.has_just(&[&BEGINNINGS[..], &PERMITS, &unreadable].concat(), 50);
 }
 
 #[test]
@@ -76,6 +79,7 @@ fn regions_of_another_length() {
             region.resize(length, 0);
             let outcome = any_call::begin(random, &mut region, shape.threads);
             assert!(matches!(outcome, Put(7) | Take(7) | List(7)), "{outcome:?} of {length} bytes");
+            assert_eq!(any_call::permit(random, &mut region, shape.threads), Permit(7));
         }
     }
 }

@@ -92,6 +92,18 @@ pub fn list(random: &mut Random, region: &mut [u8], thread: u32) -> u32 {
     begin(random, region, thread, "list", calls::list, plain::list)
 }
 
+/// Sets a permission.
+pub fn permit(random: &mut Random, region: &mut [u8], thread: u32, permission: u32) -> u32 {
+    let before = region.to_vec();
+    change(
+        random,
+        [region],
+        || format!("permit of {permission} to thread {thread} in {:?}", Start(&before)),
+        |[region]| calls::permit(region, thread, permission),
+        |[region]| number_of(plain::permit(region, thread, permission)),
+    )
+}
+
 /// Begins an operation that is told its thread alone.
 fn begin(
     random: &mut Random,

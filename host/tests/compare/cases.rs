@@ -1,5 +1,5 @@
 //! The cases of document 01, from A to M, and those of request 3. Those of request 1 are in `lists.rs`,
-//! those of request 2 in `items.rs`.
+//! those of request 2 in `items.rs`, those of request 5 in `permits.rs`.
 
 use mound::Answer::{self, Empty, Idle, Inserted, Moved, Took};
 use mound::{Served, Shape};
@@ -20,7 +20,7 @@ pub struct Case {
 
 impl Case {
     /// An empty queue.
-    fn laid_out(shape: Shape, permissions: &[u8]) -> Case {
+    pub fn laid_out(shape: Shape, permissions: &[u8]) -> Case {
         let mut random = Random::new(1);
         let mut bytes = random.bytes(shape.byte_len().expect("a shape in range"));
         assert_eq!(both::layout(&mut random, &mut bytes, shape, permissions), 0);
@@ -68,7 +68,11 @@ impl Case {
         both::list(&mut self.random, &mut self.queue.bytes, thread)
     }
 
-    fn run(&mut self, turns: &[(u32, u32)], limit: u32) -> Ran {
+    pub fn permit(&mut self, thread: u32, permission: u32) -> u32 {
+        both::permit(&mut self.random, &mut self.queue.bytes, thread, permission)
+    }
+
+    pub fn run(&mut self, turns: &[(u32, u32)], limit: u32) -> Ran {
         run_turns(&mut self.random, &mut self.queue, turns, limit)
     }
 

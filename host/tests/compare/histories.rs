@@ -4,18 +4,18 @@ use std::ops::RangeInclusive;
 
 use mound::Shape;
 
-use crate::any_call::{self, BEGINNINGS};
+use crate::any_call::{self, BEGINNINGS, PERMITS};
 use crate::any_region::any_region;
 use crate::both;
 use crate::damaged::telling_values;
 use crate::fields::Words;
 use crate::queue::Queue;
 use crate::random::Random;
-use crate::tally::Outcome::{self, Check, Layout, List, Put, RefusedTurn, Run, Take, Turn};
+use crate::tally::Outcome::{self, Check, Layout, List, Permit, Put, RefusedTurn, Run, Take, Turn};
 use crate::tally::Tally;
 
 /// What comes up beside beginnings in regions that were laid out.
-const CALLS_AND_TURNS: [Outcome; 12] = [
+const CALLS_AND_TURNS: [Outcome; 13] = [
     Layout(1),
     Layout(2),
     Check(0),
@@ -27,12 +27,13 @@ const CALLS_AND_TURNS: [Outcome; 12] = [
     Turn(2),
     Turn(3),
     Turn(4),
+    Turn(6),
     RefusedTurn(3),
 ];
 
-/// Just beginnings, the other calls and turns, and these came up, each so often at least.
+/// Just beginnings, permits, the other calls and turns, and these came up, each so often at least.
 fn has_just_these_beside_the_usual(tally: &Tally, others: &[Outcome], least: u32) {
-    tally.has_just(&[&BEGINNINGS[..], &CALLS_AND_TURNS, others].concat(), least);
+    tally.has_just(&[&BEGINNINGS[..], &PERMITS, &CALLS_AND_TURNS, others].concat(), least);
 }
 
 /// An empty queue of a few threads, most of which may put and take.
@@ -113,11 +114,13 @@ fn of_damaged_regions() {
             }
         }
     }
-    let refused = [Put(7), Take(7), List(7), Check(7), Run(7), RefusedTurn(7), RefusedTurn(11)];
-    has_just_these_beside_the_usual(&tally, &refused, 100);
+    let calls = [Put(7), Take(7), List(7), Permit(7), Check(7), Run(7)];
+    let turns = [RefusedTurn(7), RefusedTurn(11)];
+    has_just_these_beside_the_usual(&tally, &[&calls[..], &turns].concat(), 100);
 }
 
-/// All threads are busy again before each run of as many turns as a run may have.
+/// All threads are busy again before each run of as many turns as a run may have, and some of them
+/// have got another permission by then.
 #[test]
 #[cfg_attr(debug_assertions, ignore = "slow without --release")]
 fn of_the_largest_shape() {
@@ -133,6 +136,9 @@ fn of_the_largest_shape() {
             for _ in 0..2 * threads {
                 tally.add(any_call::begin(random, &mut queue.bytes, threads));
             }
+            for _ in 0..threads / 4 {
+                tally.add(any_call::permit(random, &mut queue.bytes, threads));
+            }
             let turns = random.one_of(&[4096, 4096, 4096, 4097]);
             let schedule = any_call::schedule(random, threads, turns);
             let limit = random.one_of(&[u32::MAX, u32::MAX, 4096, 100]);
@@ -140,9 +146,9 @@ fn of_the_largest_shape() {
             tally.add_run(&ran);
         }
     }
-    let puts = [Put(0), Put(3), Put(4), Put(9)];
-    let takes = [Take(0), Take(3), Take(9), List(0), List(3), List(9)];
-    let runs = [Run(0), Run(6), Turn(0), Turn(1), Turn(2), Turn(3), Turn(4)];
+    let with_a_free_cell: Vec<Outcome> =
+        BEGINNINGS.into_iter().filter(|&outcome| outcome != Put(10)).collect();
+    let runs = [Run(0), Run(6), Turn(0), Turn(1), Turn(2), Turn(3), Turn(4), Turn(6)];
     let refused = [RefusedTurn(3), RefusedTurn(11)];
-    tally.has_just(&[&puts[..], &takes, &runs, &refused].concat(), 20);
+    tally.has_just(&[&with_a_free_cell[..], &PERMITS, &runs, &refused].concat(), 20);
 }

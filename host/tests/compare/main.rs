@@ -19,6 +19,7 @@ mod items;
 mod layout;
 mod length;
 mod lists;
+mod permits;
 mod readable;
 mod runs;
 mod take_cost;

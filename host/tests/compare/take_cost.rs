@@ -111,7 +111,7 @@ fn figure(level: u32, depth: u32) -> u32 {
 fn a_take_alone_makes_the_accesses_of_its_figure() {
     let random = &mut Random::new(120);
     let mut came_up = BTreeMap::<(u32, u32), u32>::new();
-    for _ in 0..150 {
+    for _ in 0..200 {
         let mut queue = laid_out(random);
         for calls_before in 0..PUTS + TAKES {
             go_on(random, &mut queue, calls_before);

@@ -13,6 +13,7 @@ pub enum Outcome {
     Put(u32),
     Take(u32),
     List(u32),
+    Permit(u32),
     Check(u32),
     Run(u32),
     /// A turn that was not refused, by its answer's code.

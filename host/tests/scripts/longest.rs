@@ -22,7 +22,8 @@ fn script_of(length: usize, line: &str) -> String {
 
 #[test]
 fn a_script_of_60_000_bytes_is_read_whole() {
-    for line in ["turn 1 0 0\n", "take 1 0 0\n", "list 1 0 0\n", "put 9 9 9\n"] {
+    let lines = ["turn 1 0 0\n", "take 1 0 0\n", "list 1 0 0\n", "put 9 9 9\n", "permit 1 3 0\n"];
+    for line in lines {
         let script = script_of(MOST, line);
         let output = program::printed(script.as_bytes());
         assert_eq!(output, plain::printed(script.as_bytes()));

@@ -28,6 +28,10 @@ fn script(random: &mut Random) -> String {
             }
             2 => format!("take {thread} 0 0\n"),
             3 => format!("list {thread} 0 0\n"),
+            4 => {
+                let permission = random.one_of(&[0, 1, 2, 3, 3, 3, 3, 4, u32::MAX]);
+                format!("permit {thread} {permission} 0\n")
+            }
             _ => format!("turn {thread} {} 0\n", random.among_or_extreme(0..=u32::MAX)),
         };
         script += &line;

@@ -37,6 +37,7 @@ enum Call {
     Put(u32, u32),
     Take,
     List,
+    Permit(u32),
     Turn(u32),
 }
 
@@ -75,6 +76,7 @@ fn parsed(line: &[u8]) -> Option<(u32, Call)> {
         (b"put", &[thread, key, tag]) => Some((thread, Call::Put(key, tag))),
         (b"take", &[thread, 0, 0]) => Some((thread, Call::Take)),
         (b"list", &[thread, 0, 0]) => Some((thread, Call::List)),
+        (b"permit", &[thread, permission, 0]) => Some((thread, Call::Permit(permission))),
         (b"turn", &[thread, choice, 0]) => Some((thread, Call::Turn(choice))),
         _ => None,
     }
@@ -91,13 +93,14 @@ fn laid_out(shape: Shape, permission: u32) -> Result<Vec<u8>, Refusal> {
 }
 
 fn outcome(region: &mut [u8], thread: u32, call: Call) -> String {
-    let begun = match call {
-        Call::Put(key, tag) => plain::put(region, thread, key, tag),
-        Call::Take => plain::take(region, thread),
-        Call::List => plain::list(region, thread),
+    let (result, done) = match call {
+        Call::Put(key, tag) => (plain::put(region, thread, key, tag), "begun"),
+        Call::Take => (plain::take(region, thread), "begun"),
+        Call::List => (plain::list(region, thread), "begun"),
+        Call::Permit(permission) => (plain::permit(region, thread, permission), "set"),
         Call::Turn(choice) => return answered(plain::turn(region, thread, choice)),
     };
-    begun.map_or_else(refused, |()| String::from("begun 0 0\n"))
+    result.map_or_else(refused, |()| format!("{done} 0 0\n"))
 }
 
 fn answered(answer: Answer) -> String {
@@ -108,6 +111,7 @@ fn answered(answer: Answer) -> String {
         Answer::Took { key, tag } => format!("took {key} {tag}\n"),
         Answer::Empty => String::from("empty 0 0\n"),
         Answer::Refused(refusal) => refused(refusal),
+        Answer::Withdrawn => String::from("withdrawn 0 0\n"),
     }
 }
 

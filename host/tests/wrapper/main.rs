@@ -2,6 +2,7 @@
 
 use mound::{Permission, Shape};
 
+mod permits;
 mod regions;
 mod runs;
 

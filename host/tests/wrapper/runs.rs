@@ -89,13 +89,13 @@ fn a_run_is_used_again() -> Result<(), Refusal> {
 fn every_answer_has_words_of_its_own() {
     let refused = (1..=11).filter_map(Refusal::from_number).map(Answer::Refused);
     let took = [(0, 0), (5, 9), (u32::MAX, u32::MAX)].map(|(key, tag)| Answer::Took { key, tag });
-    let others = [Answer::Moved, Answer::Idle, Answer::Inserted, Answer::Empty];
+    let others = [Answer::Moved, Answer::Idle, Answer::Inserted, Answer::Empty, Answer::Withdrawn];
     for answer in refused.chain(took).chain(others) {
         assert_eq!(Answer::from_words(answer.words()), Some(answer));
     }
-    let unused = [0, 1, 2, 4].into_iter().flat_map(|code| [[code, 1, 0], [code, 0, 1]]);
+    let unused = [0, 1, 2, 4, 6].into_iter().flat_map(|code| [[code, 1, 0], [code, 0, 1]]);
     let no_refusal = [[5, 0, 0], [5, 12, 0], [5, u32::MAX, 0], [5, 3, 1]];
-    for words in unused.chain(no_refusal).chain([[6, 0, 0], [u32::MAX; 3]]) {
+    for words in unused.chain(no_refusal).chain([[7, 0, 0], [u32::MAX; 3]]) {
         assert_eq!(Answer::from_words(words), None, "{words:?}");
     }
 }
