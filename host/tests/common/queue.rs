@@ -293,15 +293,27 @@ impl Queue {
             queue.set_words(self.cell_at(own_cell), [0, 0, self.word(FIRST_FREE_CELL)]);
             queue.set_word(FIRST_FREE_CELL, own_cell);
         }
-        (PERMISSION + 1..THREAD).for_each(|field| queue.set_field(thread, field, 0));
+        queue.go_idle(thread);
         Some(queue)
+    }
+
+    /// Zeroes the thread's record but for the permission.
+    pub fn go_idle(&mut self, thread: u32) {
+        (PERMISSION + 1..THREAD).for_each(|field| self.set_field(thread, field, 0));
     }
 
     /// The threads that may begin a take: idle, and with the permission.
     pub fn may_take(&self) -> impl Iterator<Item = u32> + '_ {
-        let permitted = |thread| self.field(thread, PERMISSION) & 2 != 0;
-        (1..=self.shape().threads)
-            .filter(move |&thread| permitted(thread) && self.place(thread) == place::IDLE)
+        self.idle().filter(|&thread| self.field(thread, PERMISSION) & 2 != 0)
+    }
+
+    /// The idle threads with an empty permission list.
+    pub fn idle_without_list(&self) -> impl Iterator<Item = u32> + '_ {
+        self.idle().filter(|&thread| self.field(thread, PERMISSION) == 0)
+    }
+
+    fn idle(&self) -> impl Iterator<Item = u32> + '_ {
+        (1..=self.shape().threads).filter(|&thread| self.place(thread) == place::IDLE)
     }
 
     /// The figure of a take begun now.

@@ -16,10 +16,12 @@ struct History {
     ledger: Ledger,
     keys: RangeInclusive<u32>,
     rise: u32,
+    /// How many turns were withdrawn.
+    withdrawn: u32,
 }
 
 impl History {
-    /// An empty queue, its last thread with an empty permission list.
+    /// An empty queue, its last thread with an empty permission list, which it keeps.
     fn start(random: &mut Random) -> History {
         let shape = random.crowded_shape(2..=16);
         let mut permissions: Vec<u8> =
@@ -28,12 +30,14 @@ impl History {
         let queue = Queue::laid_out(shape, &permissions);
         let ledger = Ledger::of(&queue, Order::Deciding);
         let keys = 0..=random.one_of(&[0, 3, 20, 4_294_000_000]);
-        History { queue, ledger, keys, rise: random.one_of(&[0, 0, 1, 5]) }
+        History { queue, ledger, keys, rise: random.one_of(&[0, 0, 1, 5]), withdrawn: 0 }
     }
 
-    /// A call of some thread, or turns of it, or both. Some calls are refused for one of its states.
+    /// A call of some thread, or turns of it, or both. Some calls are refused for one of its states. Now
+    /// and then that thread, or another, gets another permission.
     fn go_on(&mut self, random: &mut Random) {
-        let thread = random.among(1..=self.queue.shape().threads);
+        let threads = self.queue.shape().threads;
+        let thread = random.among(1..=threads);
         if random.among(0..=3) == 0 {
             let item = (random.among(self.keys.clone()), random.among_or_extreme(0..=65_535));
             self.keys = self.keys.start() + self.rise..=self.keys.end() + self.rise;
@@ -43,6 +47,13 @@ impl History {
                 _ => Call::Put(item),
             };
             self.begin(thread, call);
+        }
+        if random.among(0..=19) == 0 {
+            let any = random.among(0..=threads);
+            let to = random.one_of(&[any, thread, thread, thread]);
+            if to != threads {
+                self.permit(to, random.one_of(&[0, 1, 2, 3, 3, 3, 3, 3, 3, 4]));
+            }
         }
         for _ in 0..random.one_of(&[0, 1, 1, 1, 2, 5, 20]) {
             self.turn(thread, random.among(0..=u32::MAX));
@@ -57,40 +68,56 @@ impl History {
         assert_eq!(agreed, Ok(()), "{call:?} of thread {thread}");
     }
 
+    fn permit(&mut self, thread: u32, permission: u32) {
+        let before = self.queue.clone();
+        let result = self.queue.permit(thread, permission);
+        let played = self.ledger.permitted(thread, permission, result, (&before, &self.queue));
+        let agreed = played.and_then(|()| self.ledger.look_at(&self.queue));
+        assert_eq!(agreed, Ok(()), "permit of {permission} to thread {thread}");
+    }
+
     fn turn(&mut self, thread: u32, choice: u32) {
         let before = self.queue.clone();
         let answer = self.queue.turn(thread, choice);
         let played = self.ledger.turned(thread, answer, (&before, &self.queue));
         let agreed = played.and_then(|()| self.ledger.look_at(&self.queue));
         assert_eq!(agreed, Ok(()), "turn of thread {thread} with choice {choice}: {answer:?}");
+        self.withdrawn += u32::from(answer == Answer::Withdrawn);
     }
 }
 
 #[test]
 fn agree_with_the_bag() {
     let random = &mut Random::new(70);
+    let mut withdrawn = 0;
     for _ in 0..300 {
         let mut history = History::start(random);
         for _ in 0..1000 {
             history.go_on(random);
         }
+        withdrawn += history.withdrawn;
     }
+    assert!(withdrawn >= 500, "only {withdrawn} turns were withdrawn");
 }
 
+/// A thread that was laid out so, and each other one that lists nothing at the moment.
 #[test]
-fn a_thread_that_lists_nothing_changes_nothing() {
+fn an_idle_thread_that_lists_nothing_changes_nothing() {
     let random = &mut Random::new(71);
     for _ in 0..100 {
         let mut history = History::start(random);
-        let lists_nothing = history.queue.shape().threads;
         for _ in 0..100 {
             history.go_on(random);
             let mut queue = history.queue.clone();
-            assert_eq!(queue.put(lists_nothing, 1, 2), Err(Refusal::Permission));
-            assert_eq!(queue.take(lists_nothing), Err(Refusal::Permission));
-            assert_eq!(queue.list(lists_nothing), Err(Refusal::Permission));
-            assert_eq!(queue.turn(lists_nothing, random.among(0..=u32::MAX)), Answer::Idle);
-            assert!(queue == history.queue);
+            let idle_without_list: Vec<u32> = queue.idle_without_list().collect();
+            assert_eq!(idle_without_list.last(), Some(&queue.shape().threads));
+            for thread in idle_without_list {
+                assert_eq!(queue.put(thread, 1, 2), Err(Refusal::Permission));
+                assert_eq!(queue.take(thread), Err(Refusal::Permission));
+                assert_eq!(queue.list(thread), Err(Refusal::Permission));
+                assert_eq!(queue.turn(thread, random.among(0..=u32::MAX)), Answer::Idle);
+                assert!(queue == history.queue);
+            }
         }
     }
 }

@@ -1,5 +1,6 @@
-//! Demand 3 as a test, with request 1's lists and request 2's order: the plain bag of items, told the
-//! calls and the turns of a queue. Also the account of cells, and what a take costs, request 3.
+//! Demand 3 as a test, with request 1's lists, request 2's order and request 5's permissions: the plain
+//! bag of items, told the calls and the turns of a queue. Also the account of cells, and what a take
+//! costs, request 3.
 
 use std::{mem, slice};
 
@@ -18,8 +19,20 @@ pub enum Disagreement {
     RefusedTurn(Refusal),
     /// A refused call or an idle turn changed the region.
     ChangedInVain,
-    /// A thread that lists nothing changed the region.
+    /// An idle thread that lists nothing changed the region.
     EmptyListActed,
+    /// A permission was set, or refused, otherwise than it should have been.
+    Permit { got: Result<(), Refusal>, due: Result<(), Refusal> },
+    /// A permit changed something else than that permission.
+    PermitChangedMore,
+    /// A thread's permission is not what was last set.
+    OtherPermission { thread: u32 },
+    /// An operation took effect without its permission just before.
+    DecidedWithoutPermission,
+    /// A turn went on without the permission that its place needs.
+    NotWithdrawn,
+    /// A turn was withdrawn that has its permission, or whose place needs none.
+    WithdrawnInVain,
     /// An answer or a deciding access that does not belong to the thread's operation.
     NoSuchOperation,
     /// 'Empty' while the bag holds something.
@@ -92,13 +105,17 @@ pub struct Ledger {
     /// The items in the bag, sorted by key, then by tag.
     bag: Vec<Item>,
     operations: Vec<Operation>,
+    /// Each thread's permission, as it was last set.
+    permissions: Vec<u32>,
 }
 
 impl Ledger {
     /// The ledger of a queue at rest.
     pub fn of(queue: &Queue, order: Order) -> Ledger {
-        let operations = vec![Operation::None; queue.shape().threads as usize];
-        Ledger { order, bag: queue.items(), operations }
+        let threads = queue.shape().threads;
+        let operations = vec![Operation::None; threads as usize];
+        let permissions = (1..=threads).map(|thread| queue.field(thread, PERMISSION)).collect();
+        Ledger { order, bag: queue.items(), operations, permissions }
     }
 
     /// Whether the thread is between a beginning and its end.
@@ -129,6 +146,34 @@ impl Ledger {
         Ok(())
     }
 
+    /// Plays a permit, given its result and the queue before and after it.
+    pub fn permitted(
+        &mut self,
+        thread: u32,
+        permission: u32,
+        got: Result<(), Refusal>,
+        (before, after): (&Queue, &Queue),
+    ) -> Result<(), Disagreement> {
+        let due = match (thread, permission) {
+            _ if !(1..=before.shape().threads).contains(&thread) => Err(Refusal::Thread),
+            (_, 0..=3) => Ok(()),
+            _ => Err(Refusal::Shape),
+        };
+        if got != due {
+            return Err(Disagreement::Permit { got, due });
+        }
+        let mut changed = before.clone();
+        if got.is_ok() {
+            changed.set_field(thread, PERMISSION, permission);
+            self.permissions[thread as usize - 1] = permission;
+        }
+        if *after == changed {
+            Ok(())
+        } else {
+            Err(Disagreement::PermitChangedMore)
+        }
+    }
+
     /// Plays a turn, given its answer and the queue before and after it.
     pub fn turned(
         &mut self,
@@ -138,6 +183,7 @@ impl Ledger {
     ) -> Result<(), Disagreement> {
         self.look_at_changes(thread, answer == Answer::Idle, (before, after))?;
         let removed = removed(thread, (before, after));
+        self.look_at_permission(thread, answer, removed.is_some(), before)?;
         let operation = mem::replace(&mut self.operations[thread as usize - 1], Operation::None);
         self.operations[thread as usize - 1] = self.played(operation, answer, removed)?;
         Ok(())
@@ -155,6 +201,9 @@ impl Ledger {
             (Operation::None, Answer::Idle, None) => Ok(Operation::None),
             (Operation::None, ..) => Err(Disagreement::NoSuchOperation),
             (operation, Answer::Moved, None) => Ok(operation),
+            (Operation::Put(_) | Operation::Take | Operation::List, Answer::Withdrawn, None) => {
+                Ok(Operation::None)
+            }
             (Operation::Put(item), Answer::Inserted, None) => {
                 let at = self.bag.partition_point(|&held| held < item);
                 self.bag.insert(at, item);
@@ -208,7 +257,7 @@ impl Ledger {
         let needed = if is_put { 1 } else { 2 };
         let held: usize = self.operations.iter().map(|operation| operation.held().len()).sum();
         let cells_used = queue.tree().count() + held;
-        if queue.field(thread, PERMISSION) & needed == 0 {
+        if self.permissions[thread as usize - 1] & needed == 0 {
             Err(Refusal::Permission)
         } else if self.is_busy(thread) {
             Err(Refusal::Busy)
@@ -216,6 +265,33 @@ impl Ledger {
             Err(Refusal::NoFreeCell)
         } else {
             Ok(())
+        }
+    }
+
+    /// What takes effect has its permission just before. A turn of an operation that has not taken effect
+    /// is withdrawn exactly where it lacks it; while it mends, which helps others, it needs none.
+    fn look_at_permission(
+        &self,
+        thread: u32,
+        answer: Answer,
+        removed: bool,
+        before: &Queue,
+    ) -> Result<(), Disagreement> {
+        let needed = match self.operations[thread as usize - 1] {
+            Operation::Put(_) => Some(1),
+            Operation::Take | Operation::List => Some(2),
+            Operation::None | Operation::Owes(_) => None,
+        };
+        let permission = self.permissions[thread as usize - 1];
+        let lacks = needed.is_some_and(|needed| permission & needed == 0);
+        let mends = (place::M1..=place::M6).contains(&before.place(thread));
+        if lacks && (removed || matches!(answer, Answer::Inserted | Answer::Empty)) {
+            return Err(Disagreement::DecidedWithoutPermission);
+        }
+        match (answer == Answer::Withdrawn, lacks && !mends) {
+            (true, false) => Err(Disagreement::WithdrawnInVain),
+            (false, true) => Err(Disagreement::NotWithdrawn),
+            _ => Ok(()),
         }
     }
 
@@ -227,7 +303,7 @@ impl Ledger {
     ) -> Result<(), Disagreement> {
         if before == after {
             Ok(())
-        } else if before.field(thread, PERMISSION) == 0 {
+        } else if self.permissions[thread as usize - 1] == 0 && !self.is_busy(thread) {
             Err(Disagreement::EmptyListActed)
         } else if in_vain {
             Err(Disagreement::ChangedInVain)
@@ -237,15 +313,18 @@ impl Ledger {
     }
 
     /// What holds at every moment: the tree holds what the bag holds, unless the bag is behind by its
-    /// order; each thread is idle or not, and holds cells, as its operation has it; each cell is in the
-    /// tree, held or free, once, and the free ones are wiped; and where nothing is under way, all nodes
-    /// are clean.
+    /// order; each thread has the permission that was set, is idle or not, and holds cells, as its
+    /// operation has it; each cell is in the tree, held or free, once, and the free ones are wiped; and
+    /// where nothing is under way, all nodes are clean.
     pub fn look_at(&self, queue: &Queue) -> Result<(), Disagreement> {
         if self.order == Order::Deciding && self.bag != queue.items() {
             return Err(Disagreement::OtherTree);
         }
         let mut cells: Vec<u32> = queue.tree().chain(queue.free()).collect();
         for (thread, operation) in (1..).zip(&self.operations) {
+            if queue.field(thread, PERMISSION) != self.permissions[thread as usize - 1] {
+                return Err(Disagreement::OtherPermission { thread });
+            }
             if (queue.place(thread) == place::IDLE) != (*operation == Operation::None) {
                 return Err(Disagreement::OtherIdleness { thread });
             }

@@ -1,12 +1,10 @@
-//! Document 01's mistakes with good looks, that of comparing keys alone, and those of lists, made from
-//! outside the machine: each is an edit of the bytes around a call, after which the machine does what a
-//! mistaken one would do.
+//! Document 01's mistakes with good looks, that of comparing keys alone, and those of lists and of
+//! permissions, made from outside the machine: each is an edit of the bytes around a call, after which the
+//! machine does what a mistaken one would do.
 
 use mound::{Answer, Refusal};
 
-use crate::fields::{
-    place, Field, Words, AFTER, FIRST_FREE_CELL, OWN_CELL, PERMISSION, PLACE, THREAD,
-};
+use crate::fields::{place, Field, Words, AFTER, FIRST_FREE_CELL, OWN_CELL, PERMISSION, PLACE};
 use crate::ledger::Order;
 use crate::queue::{Call, Queue};
 
@@ -28,6 +26,8 @@ pub enum Mistake {
     KeysAlone { at: &'static [u32] },
     /// A mistake in request 1's places.
     OfList(ListMistake),
+    /// A mistake in request 5's rule.
+    OfPermission(PermissionMistake),
 }
 
 #[derive(Clone, Copy, Debug, PartialEq)]
@@ -48,6 +48,30 @@ pub enum ListMistake {
     SecondLeftOut,
     /// Whoever answers took goes idle.
     IdleByAnswer,
+}
+
+#[derive(Clone, Copy, Debug, PartialEq)]
+pub enum PermissionMistake {
+    /// The permission is looked at when an operation begins, and at no turn.
+    OnceBegunGoesOn,
+    /// It is looked at only by the updates that decide, at I6, I8, E2 and 18.
+    LookedAtByUpdatesAlone,
+    /// A thread that may do anything goes on with whatever it does.
+    AnyPermissionWillDo,
+    /// The access is made before the permission is looked at.
+    LookedAtAfterTheAccess,
+    /// Mending and hand-outs look at it, too.
+    LookedAtEverywhere,
+    /// A withdrawn put's cell is not freed.
+    CellKept,
+    /// It is freed with its item in it.
+    CellNotWiped,
+    /// A withdrawn thread stays where it stands.
+    PlaceKept,
+    /// A permit to a busy thread is refused.
+    BusyRefused,
+    /// A permit ends the operation that it leaves without permission.
+    WithdrawnByThePermit,
 }
 
 /// The machine, with a mistake or without.
@@ -74,6 +98,24 @@ impl Machine {
         result
     }
 
+    pub fn permit(self, queue: &mut Queue, thread: u32, permission: u32) -> Result<(), Refusal> {
+        let is_busy = queue.place(thread) != place::IDLE;
+        match self.mistake {
+            Some(Mistake::OfPermission(PermissionMistake::BusyRefused)) if is_busy => {
+                return Err(Refusal::Busy);
+            }
+            Some(Mistake::OfPermission(PermissionMistake::WithdrawnByThePermit)) => {
+                queue.permit(thread, permission)?;
+                if queue.lacks_permission(thread) {
+                    *queue = queue.withdrawn(thread).expect("a put has a cell");
+                }
+                return Ok(());
+            }
+            _ => {}
+        }
+        queue.permit(thread, permission)
+    }
+
     pub fn turn(self, queue: &mut Queue, thread: u32, choice: u32) -> Answer {
         match self.mistake {
             Some(Mistake::CounterNotCompared) => {
@@ -91,6 +133,9 @@ impl Machine {
             }
             Some(Mistake::OfList(mistake)) => {
                 return turn_of_a_mistaken_list(mistake, queue, thread, choice);
+            }
+            Some(Mistake::OfPermission(mistake)) => {
+                return turn_by_a_mistaken_permission(mistake, queue, thread, choice);
             }
             _ => {}
         }
@@ -135,10 +180,67 @@ fn turn_of_a_mistaken_list(
             queue.set_word(FIRST_FREE_CELL, queue.field(thread, OWN_CELL));
         }
         (ListMistake::IdleByAnswer, place::P19, _) => {
-            (PERMISSION + 1..THREAD).for_each(|field| queue.set_field(thread, field, 0));
+            queue.go_idle(thread);
         }
         _ => {}
     }
+    answer
+}
+
+fn turn_by_a_mistaken_permission(
+    mistake: PermissionMistake,
+    queue: &mut Queue,
+    thread: u32,
+    choice: u32,
+) -> Answer {
+    use PermissionMistake::*;
+    let before = queue.clone();
+    let (place, permission) = (queue.place(thread), queue.field(thread, PERMISSION));
+    let lacks = queue.lacks_permission(thread);
+    let decides = [place::I6, place::I8, place::E2, place::P18].contains(&place);
+    match mistake {
+        OnceBegunGoesOn => return turn_with_all_permissions(queue, thread, choice),
+        LookedAtByUpdatesAlone if !decides => {
+            return turn_with_all_permissions(queue, thread, choice);
+        }
+        AnyPermissionWillDo if permission != 0 => {
+            return turn_with_all_permissions(queue, thread, choice);
+        }
+        LookedAtAfterTheAccess if lacks => {
+            turn_with_all_permissions(queue, thread, choice);
+            *queue = queue.withdrawn(thread).expect("a put has a cell");
+            return Answer::Withdrawn;
+        }
+        LookedAtEverywhere if place >= place::M1 && permission & 2 == 0 => {
+            queue.go_idle(thread);
+            return Answer::Withdrawn;
+        }
+        _ => {}
+    }
+
+    let answer = queue.turn(thread, choice);
+    let own_cell = before.field(thread, OWN_CELL);
+    match (mistake, answer, own_cell) {
+        (CellKept, Answer::Withdrawn, 1..) => {
+            queue.set_words(queue.cell_at(own_cell), before.cell(own_cell));
+            queue.set_word(FIRST_FREE_CELL, before.word(FIRST_FREE_CELL));
+        }
+        (CellNotWiped, Answer::Withdrawn, 1..) => {
+            let ([key, tag, _], [_, _, next]) = (before.cell(own_cell), queue.cell(own_cell));
+            queue.set_words(queue.cell_at(own_cell), [key, tag, next]);
+        }
+        (PlaceKept, Answer::Withdrawn, _) => queue.set_field(thread, PLACE, place),
+        _ => {}
+    }
+    answer
+}
+
+/// A turn by a thread that is taken to have both permissions.
+fn turn_with_all_permissions(queue: &mut Queue, thread: u32, choice: u32) -> Answer {
+    let permission = queue.field(thread, PERMISSION);
+    queue.set_field(thread, PERMISSION, 3);
+    let answer = queue.turn(thread, choice);
+    queue.set_field(thread, PERMISSION, permission);
     answer
 }
 

@@ -1,10 +1,10 @@
 //! Each mistake is found: the search finds a disagreement with the bag, on a workload on which
 //! the machine without the mistake has none.
 
-use mound::Shape;
+use mound::{Refusal, Shape};
 
-use super::mistaken::{ListMistake, Machine, Mistake};
-use super::search::{explore, Counterexample, Step, Workload};
+use super::mistaken::{ListMistake, Machine, Mistake, PermissionMistake};
+use super::search::{explore, Counterexample, Permit, Step, Workload};
 use crate::fields::place::{I2, I3, I5, I7, M4, M5};
 use crate::ledger::Disagreement;
 use crate::queue::{Call, Item, SMALL};
@@ -16,6 +16,7 @@ fn workload(depth: u32, calls: [&[Call]; 2]) -> Workload {
         permissions: vec![3, 3],
         held: vec![(5, 0)],
         calls: calls.map(<[Call]>::to_vec).to_vec(),
+        permits: vec![],
     }
 }
 
@@ -182,4 +183,95 @@ fn a_list_that_leaves_an_item_out() {
 fn a_list_that_is_idle_with_its_first_item() {
     let found = find_of_list(ListMistake::IdleByAnswer, &IN_THE_ROOT, &[]);
     assert_eq!(found, Disagreement::OtherIdleness { thread: 1 });
+}
+
+/// A mistake of permissions, in this call of thread 1, whose permission becomes this one at some moment
+/// and comes back later.
+fn find_of_permission(mistake: PermissionMistake, call: Call, permission: u32) -> Disagreement {
+    let permits = [permission, 3].map(|permission| Permit { thread: 1, permission }).to_vec();
+    let workload = Workload { permits, ..workload(2, [&[call], &[]]) };
+    find(Mistake::OfPermission(mistake), &workload).disagreement
+}
+
+const PUT: Call = Call::Put((3, 1));
+
+#[test]
+fn an_operation_that_goes_on_once_begun() {
+    for (call, other) in [(PUT, 2), (Call::Take, 1), (Call::List, 1)] {
+        let found = find_of_permission(PermissionMistake::OnceBegunGoesOn, call, other);
+        assert_eq!(found, Disagreement::NotWithdrawn);
+    }
+}
+
+/// 'Empty' is a READ, and decides.
+#[test]
+fn a_permission_looked_at_by_updates_alone() {
+    let mistake = Mistake::OfPermission(PermissionMistake::LookedAtByUpdatesAlone);
+    for call in [Call::Take, Call::List] {
+        let permits = vec![Permit { thread: 1, permission: 1 }];
+        let workload = Workload { held: vec![], permits, ..workload(2, [&[call], &[]]) };
+        assert_eq!(find(mistake, &workload).disagreement, Disagreement::DecidedWithoutPermission);
+    }
+    let found = find_of_permission(PermissionMistake::LookedAtByUpdatesAlone, PUT, 2);
+    assert_eq!(found, Disagreement::NotWithdrawn);
+}
+
+#[test]
+fn a_permission_of_the_other_kind_that_will_do() {
+    for (call, other) in [(PUT, 2), (Call::Take, 1), (Call::List, 1)] {
+        let found = find_of_permission(PermissionMistake::AnyPermissionWillDo, call, other);
+        assert_eq!(found, Disagreement::NotWithdrawn);
+    }
+}
+
+/// The item is gone, or there, and the bag was not told.
+#[test]
+fn an_access_before_the_permission_is_looked_at() {
+    for call in [Call::Take, Call::List] {
+        let found = find_of_permission(PermissionMistake::LookedAtAfterTheAccess, call, 0);
+        assert_eq!(found, Disagreement::OtherTree);
+    }
+}
+
+/// What has decided is finished whatever the permission.
+#[test]
+fn a_permission_looked_at_everywhere() {
+    for call in [Call::Take, Call::List] {
+        let found = find_of_permission(PermissionMistake::LookedAtEverywhere, call, 1);
+        assert_eq!(found, Disagreement::WithdrawnInVain);
+    }
+}
+
+#[test]
+fn a_withdrawn_put_that_keeps_its_cell() {
+    let found = find_of_permission(PermissionMistake::CellKept, PUT, 0);
+    assert_eq!(found, Disagreement::OtherCells);
+}
+
+#[test]
+fn a_withdrawn_put_that_leaves_its_item_in_the_free_cell() {
+    let found = find_of_permission(PermissionMistake::CellNotWiped, PUT, 0);
+    assert_eq!(found, Disagreement::FreeCellNotWiped);
+}
+
+#[test]
+fn a_withdrawn_thread_that_is_not_idle() {
+    for call in [PUT, Call::Take, Call::List] {
+        let found = find_of_permission(PermissionMistake::PlaceKept, call, 0);
+        assert_eq!(found, Disagreement::OtherIdleness { thread: 1 });
+    }
+}
+
+#[test]
+fn a_permit_that_a_busy_thread_refuses() {
+    let found = find_of_permission(PermissionMistake::BusyRefused, PUT, 0);
+    let got = Err(Refusal::Busy);
+    assert_eq!(found, Disagreement::Permit { got, due: Ok(()) });
+}
+
+/// Given back before the next turn, the operation would have gone on.
+#[test]
+fn a_permit_that_withdraws_by_itself() {
+    let found = find_of_permission(PermissionMistake::WithdrawnByThePermit, PUT, 0);
+    assert_eq!(found, Disagreement::PermitChangedMore);
 }

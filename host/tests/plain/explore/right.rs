@@ -5,7 +5,7 @@ use std::collections::BTreeSet;
 use mound::Shape;
 
 use super::mistaken::Machine;
-use super::search::{explore, Explored, Workload};
+use super::search::{explore, Explored, Permit, Workload};
 use crate::fields::place::{
     E1, E2, I1, I2, I3, I4, I5, I6, I7, I8, IDLE, M1, M2, M3, M4, M5, M6, P17, P18, P19,
 };
@@ -61,7 +61,7 @@ fn workloads(shape: Shape, held: usize, key: u32, longest: u32) -> impl Iterator
         };
         let calls = (1..).zip(&chosen).map(calls_by).collect();
         let permissions = vec![3; shape.threads as usize];
-        Workload { shape, permissions, held: HELD[..held].to_vec(), calls }
+        Workload { shape, permissions, held: HELD[..held].to_vec(), calls, permits: vec![] }
     })
 }
 
@@ -106,26 +106,73 @@ fn two_threads_with_two_calls_at_depth_3() -> impl Iterator<Item = Workload> {
     (0..=4).flat_map(|held| workloads(shape(3, 2, 1), held, 6, 2))
 }
 
-fn has_four_calls_and_lists(workload: &Workload) -> bool {
-    workload.calls.iter().flatten().count() == 4 && has_lists(workload)
+fn calls_in(workload: &Workload) -> usize {
+    workload.calls.iter().flatten().count()
 }
 
-/// Explores each workload. The turns go every way that the papers let them go, but for those that
-/// these workloads do not lead to, and no other.
-fn agree_going_every_way_but(not_gone: &[(u32, u32)], workloads: impl Iterator<Item = Workload>) {
+fn has_four_calls_and_lists(workload: &Workload) -> bool {
+    calls_in(workload) == 4 && has_lists(workload)
+}
+
+/// The permissions of a thread are taken away, at any moment, and given back at any later one; or one of
+/// them is left, and then the other one instead.
+const TAKEN_AWAY: [[u32; 2]; 2] = [[0, 3], [1, 2]];
+
+/// The workload with each of these beside it, for each of its threads.
+fn with_permits(workload: Workload) -> impl Iterator<Item = Workload> {
+    let beside = (1..=workload.shape.threads)
+        .flat_map(|thread| TAKEN_AWAY.map(|permissions| (thread, permissions)));
+    beside.map(move |(thread, permissions)| Workload {
+        permits: permissions.map(|permission| Permit { thread, permission }).to_vec(),
+        ..workload.clone()
+    })
+}
+
+/// The workload with the permissions of all threads taken away, one after the other, and given back.
+fn with_permits_for_all(workload: Workload) -> Workload {
+    let threads = workload.shape.threads;
+    let permit_all = |permission| (1..=threads).map(move |thread| Permit { thread, permission });
+    Workload { permits: [0, 3].into_iter().flat_map(permit_all).collect(), ..workload }
+}
+
+/// Explores each workload.
+fn explore_all(workloads: impl Iterator<Item = Workload>) -> Explored {
     let mut all = Explored::default();
-    for workload in workloads.flat_map(variants) {
+    for workload in workloads {
         match explore(&workload, Machine { mistake: None }) {
-            Ok(explored) => {
-                all.states += explored.states;
-                all.moves.extend(explored.moves);
-            }
+            Ok(explored) => all.add(explored),
             Err(counterexample) => panic!("{workload:?}: {counterexample:?}"),
         }
     }
     println!("{} states", all.states);
+    all
+}
+
+/// The turns went every way that the papers let them go, but for these, and no other.
+fn went_every_way_but(not_gone: &[(u32, u32)], explored: &Explored) {
     let ways = WAYS.iter().flat_map(|&(from, to)| to.iter().map(move |&to| (from, to)));
-    assert_eq!(all.moves, ways.filter(|way| !not_gone.contains(way)).collect::<BTreeSet<_>>());
+    let due: BTreeSet<(u32, u32)> = ways.filter(|way| !not_gone.contains(way)).collect();
+    assert_eq!(explored.moves, due);
+}
+
+/// Explores each workload. The turns go every way that the papers let them go, but for those that
+/// these workloads do not lead to, and no other; none is withdrawn.
+fn agree_going_every_way_but(not_gone: &[(u32, u32)], workloads: impl Iterator<Item = Workload>) {
+    let explored = explore_all(workloads.flat_map(variants));
+    went_every_way_but(not_gone, &explored);
+    assert_eq!(explored.withdrawn_at, BTreeSet::new());
+}
+
+/// Explores each workload, in which permissions are taken away. The turns go as above, and at each place
+/// that needs a permission some are withdrawn.
+fn agree_with_permits_going_every_way_but(
+    not_gone: &[(u32, u32)],
+    workloads: impl Iterator<Item = Workload>,
+) {
+    let explored = explore_all(workloads);
+    went_every_way_but(not_gone, &explored);
+    let needing = [I1, I2, I3, I4, I5, I6, I7, I8, E1, E2, P17, P18];
+    assert_eq!(explored.withdrawn_at, BTreeSet::from(needing));
 }
 
 #[test]
@@ -178,4 +225,43 @@ fn two_threads_at_depth_2_with_three_calls_each() {
 fn three_threads_at_depth_3_with_more_items() {
     let workloads = (2..=4).flat_map(|held| workloads(shape(3, 3, 1), held, 7, 1));
     agree_going_every_way_but(&[(I2, I2)], workloads);
+}
+
+#[test]
+#[cfg_attr(debug_assertions, ignore = "slow without --release")]
+fn two_threads_at_depth_2_with_permits() {
+    let workloads = (0..=2).flat_map(|held| workloads(shape(2, 2, 1), held, 7, 2));
+    let workloads = workloads.filter(|workload| calls_in(workload) <= 3).flat_map(with_permits);
+    agree_with_permits_going_every_way_but(&[(I2, I2), (I3, I3)], workloads);
+}
+
+#[test]
+#[cfg_attr(debug_assertions, ignore = "slow without --release")]
+fn two_threads_at_depth_2_with_permits_for_both() {
+    let workloads = (0..=2).flat_map(|held| workloads(shape(2, 2, 1), held, 7, 1));
+    let not_gone = [(I2, I2), (I3, I3)];
+    agree_with_permits_going_every_way_but(&not_gone, workloads.map(with_permits_for_all));
+}
+
+#[test]
+#[cfg_attr(debug_assertions, ignore = "slow without --release")]
+fn two_threads_at_depth_3_with_permits() {
+    let workloads = (0..=4).flat_map(|held| workloads(shape(3, 2, 1), held, 6, 1));
+    let not_gone = [(I2, I1), (I2, I2)];
+    agree_with_permits_going_every_way_but(&not_gone, workloads.flat_map(with_permits));
+}
+
+#[test]
+#[ignore = "about forty seconds"]
+fn two_threads_at_depth_2_with_two_calls_each_and_permits() {
+    let at_threshold = |h| (0..=2).flat_map(move |held| workloads(shape(2, 2, h), held, 7, 2));
+    let workloads = (1..=2).flat_map(at_threshold).flat_map(with_permits);
+    agree_with_permits_going_every_way_but(&[(I3, I3)], workloads);
+}
+
+#[test]
+#[ignore = "more than a minute"]
+fn three_threads_at_depth_2_with_permits() {
+    let workloads = (0..=2).flat_map(|held| workloads(shape(2, 3, 1), held, 7, 1));
+    agree_with_permits_going_every_way_but(&[(I2, I2), (I3, I3)], workloads.flat_map(with_permits));
 }
