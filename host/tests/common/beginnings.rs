@@ -1,4 +1,4 @@
-//! Beginnings with every set of reasons to refuse them.
+//! Beginnings, and permits beside them, with every set of reasons to refuse them.
 
 use mound::{Refusal, Shape};
 
@@ -15,10 +15,12 @@ const OF_PUT: [Refusal; 6] = [
 ];
 const OF_TAKE: [Refusal; 4] =
     [Refusal::Unreadable, Refusal::Thread, Refusal::Permission, Refusal::Busy];
+/// Those of them that refuse a permit, of whatever permission.
+const OF_PERMIT: [Refusal; 2] = [Refusal::Unreadable, Refusal::Thread];
 
 const SHAPE: Shape = Shape { depth: 3, cells: 3, threads: 2, threshold: 2 };
 
-/// A region and arguments, with the results that a put is due and a take or a list.
+/// A region and arguments, with the results that a put is due, a take or a list, and a permit.
 pub struct Beginning {
     pub region: Vec<u8>,
     pub thread: u32,
@@ -26,6 +28,17 @@ pub struct Beginning {
     pub tag: u32,
     pub put: Result<(), Refusal>,
     pub take: Result<(), Refusal>,
+    permit: Result<(), Refusal>,
+}
+
+impl Beginning {
+    /// Permissions, and the results that permits of them are due: of all reasons, a permission above 3 is
+    /// the last.
+    pub fn permits(&self) -> [(u32, Result<(), Refusal>); 6] {
+        let in_range = |permission| if permission <= 3 { Ok(()) } else { Err(Refusal::Shape) };
+        [0, 2, 3, 4, 1 << 16, u32::MAX]
+            .map(|permission| (permission, self.permit.and(in_range(permission))))
+    }
 }
 
 /// A beginning for each set of a put's reasons, in two variants: the arguments and words out of
@@ -64,5 +77,6 @@ fn beginning(set: u32, by_much: bool) -> Beginning {
         tag,
         put: first(&OF_PUT),
         take: first(&OF_TAKE),
+        permit: first(&OF_PERMIT),
     }
 }

@@ -22,6 +22,11 @@ fn the_first_reason_in_order_refuses() {
             let number = begin(random, &mut beginning.region.clone(), thread);
             assert_eq!(number, both::number_of(beginning.take));
         }
+        for (permission, due) in beginning.permits() {
+            let mut region = beginning.region.clone();
+            let number = both::permit(random, &mut region, thread, permission);
+            assert_eq!(number, both::number_of(due));
+        }
     }
 }
 

@@ -1,4 +1,5 @@
-//! Beginning a put, a take or a list: the refusals in order, and each word afterwards.
+//! Beginning a put, a take or a list, and setting a permission: the refusals in order, and each word
+//! afterwards.
 
 use crate::common::beginnings::with_every_set_of_reasons;
 use crate::fields::{place, Words, FIRST_FREE_CELL, KEY, OWN_CELL, PERMISSION, PLACE, TAG};
@@ -8,13 +9,18 @@ use crate::random::Random;
 #[test]
 fn the_first_reason_in_order_refuses() {
     for beginning in with_every_set_of_reasons() {
-        let before = Queue { bytes: beginning.region };
+        let before = Queue { bytes: beginning.region.clone() };
         let put = Call::Put((beginning.key, beginning.tag));
         let [take, list] = [Call::Take, Call::List].map(|call| (call, beginning.take));
         for (call, due) in [(put, beginning.put), take, list] {
             let mut after = before.clone();
             assert_eq!(after.begin(beginning.thread, call), due);
             assert_eq!(after == before, due.is_err());
+        }
+        for (permission, due) in beginning.permits() {
+            let mut after = before.clone();
+            assert_eq!(after.permit(beginning.thread, permission), due);
+            assert!(after == before || due.is_ok());
         }
     }
 }
@@ -73,5 +79,21 @@ fn a_take_or_a_list_sets_the_place_alone() {
         due.set_field(1, PLACE, place);
         assert_eq!(queue.begin(1, call), Ok(()));
         assert!(queue == due);
+    }
+}
+
+#[test]
+fn a_permit_sets_the_permission_alone() {
+    let random = &mut Random::new(82);
+    for _ in 0..5000 {
+        let shape = random.shape(5);
+        let mut queue = Queue { bytes: Words::any_readable(random, shape).bytes() };
+        let thread = random.among(1..=shape.threads);
+        for permission in 0..=3 {
+            let mut due = queue.clone();
+            due.set_field(thread, PERMISSION, permission);
+            assert_eq!(queue.permit(thread, permission), Ok(()));
+            assert!(queue == due);
+        }
     }
 }

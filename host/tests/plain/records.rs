@@ -1,10 +1,11 @@
 //! What turns leave in the thread's record and in shared memory, word by word: a field keeps what
 //! was last put in it until the thread goes idle.
 
-use mound::Answer::{Idle, Inserted, Moved, Took};
+use mound::Answer::{Idle, Inserted, Moved, Took, Withdrawn};
+use mound::Shape;
 
 use crate::fields::{
-    place, AFTER, COPIES, FIRST_FREE_CELL, NODE, OWN_CELL, PLACE, RESULT_KEY, WAITING,
+    place, AFTER, COPIES, FIRST_FREE_CELL, NODE, OWN_CELL, PLACE, RESULT_KEY, THREAD, WAITING,
 };
 use crate::queue::{Queue, SMALL};
 
@@ -88,6 +89,40 @@ fn two_takes_that_mend_turn_by_turn() {
     assert_eq!(places_of(&mut queue, 1, 1), [M2]);
     assert_eq!(queue.turn(1, 0), Took { key: 5, tag: 6 });
     assert_eq!([queue.place(1), queue.place(2)], [place::IDLE; 2]);
+}
+
+/// A put that is withdrawn at I8, its last turn: what it has copied is gone, and its cell is free again.
+#[test]
+fn a_withdrawn_put_word_by_word() {
+    let mut queue = Queue::open_to_all(SMALL).holding(&[(5, 6)]);
+    assert_eq!(queue.put(2, 7, 8), Ok(()));
+    assert_eq!(queue.turns(&[2; 8]), [Moved; 8]);
+    assert_eq!((queue.place(2), queue.word(FIRST_FREE_CELL)), (place::I8, 0));
+    let nodes = [1, 2, 3].map(|node| queue.node(node));
+
+    assert_eq!(queue.permit(2, 2), Ok(()));
+    assert_eq!(queue.turn(2, 0), Withdrawn);
+    let mut idle = [0; 4 * THREAD];
+    idle[0] = 2;
+    assert_eq!(queue.record(2), idle);
+    assert_eq!((queue.cell(2), queue.word(FIRST_FREE_CELL)), ([0, 0, 0], 2));
+    assert_eq!([1, 2, 3].map(|node| queue.node(node)), nodes);
+    assert_eq!(queue.cell(1), [5, 6, 0]);
+    assert_eq!(queue.turn(2, 0), Idle);
+}
+
+/// Freed cells stand in the order in which they are withdrawn, the last one first.
+#[test]
+fn cells_of_withdrawn_puts_come_first() {
+    let shape = Shape { depth: 3, cells: 4, threads: 3, threshold: 1 };
+    let mut queue = Queue::open_to_all(shape);
+    for thread in 1..=3 {
+        assert_eq!(queue.put(thread, 5, 0), Ok(()));
+        assert_eq!(queue.permit(thread, 0), Ok(()));
+    }
+    assert!(queue.free().eq([4]));
+    assert_eq!(queue.turns(&[2, 1, 3]), [Withdrawn; 3]);
+    assert!(queue.free().eq([3, 1, 2, 4]));
 }
 
 /// Items of key 5 with tags 2 and 9 in the root's list, cells 2 and 1, and no node below it.

@@ -1,5 +1,5 @@
 //! Turns that are refused: 3 for the thread, 7 for what does not exist, 11 for a spent counter. Each
-//! leaves every byte.
+//! leaves every byte. Between 7 and 11, turns that lack their permission are withdrawn.
 
 use mound::{plain, Answer, Refusal};
 
@@ -25,6 +25,24 @@ fn refused(queue: &Queue) -> Refusal {
     refusal
 }
 
+/// The same of a turn that is refused 7, which it is whatever the thread's permission.
+fn refused_7(queue: &Queue) {
+    for permission in 0..=3 {
+        let mut queue = queue.clone();
+        assert_eq!(queue.permit(1, permission), Ok(()));
+        assert_eq!(refused(&queue), Refusal::Unreadable);
+    }
+}
+
+/// Serves a turn of thread 1 without its permission, which is withdrawn.
+fn withdrawn(queue: &Queue) {
+    let mut queue = queue.clone();
+    assert_eq!(queue.permit(1, 0), Ok(()));
+    let due = queue.withdrawn(1).expect("it has a cell, or needs none");
+    assert_eq!(queue.turn(1, 0), Answer::Withdrawn);
+    assert!(queue == due);
+}
+
 #[test]
 fn a_thread_that_does_not_exist() {
     for thread in [0, 3, 64, u32::MAX] {
@@ -47,29 +65,48 @@ fn a_region_that_is_not_readable() {
 
 #[test]
 fn a_node_a_cell_or_a_level_that_does_not_exist() {
-    let at = |place, fields: &[(usize, u32)]| refused(&queue_with_thread_at(place, fields));
-    let refusals = [
-        at(I2, &[(D, 0)]),
-        at(I4, &[(D, 0)]),
-        at(I4, &[(D, 3)]),
-        at(I5, &[(NODE, 0)]),
-        at(I6, &[(NODE, 1), (OWN_CELL, 0)]),
-        at(I7, &[(NODE, 0)]),
-        at(I7, &[(NODE, 1)]),
-        at(I8, &[(NODE, 2), (OWN_CELL, 0)]),
-        at(I8, &[(NODE, 0)]),
-        at(I8, &[(NODE, 1)]),
-        at(M1, &[(NODE, 0)]),
-        at(M6, &[(NODE, 0)]),
-        at(M3, &[(NODE, 0)]),
-        at(M3, &[(NODE, 4)]),
-        at(M4, &[(NODE, 0)]),
-        at(M4, &[(NODE, 7)]),
-        at(M5, &[(NODE, 0)]),
-        at(M5, &[(NODE, 4)]),
-        at(P19, &[(OWN_CELL, 0)]),
+    let at = |place, fields: &[(usize, u32)]| refused_7(&queue_with_thread_at(place, fields));
+    at(I2, &[(D, 0)]);
+    at(I4, &[(D, 0)]);
+    at(I4, &[(D, 3)]);
+    at(I5, &[(NODE, 0)]);
+    at(I6, &[(NODE, 1), (OWN_CELL, 0)]);
+    at(I7, &[(NODE, 0)]);
+    at(I7, &[(NODE, 1)]);
+    at(I8, &[(NODE, 2), (OWN_CELL, 0)]);
+    at(I8, &[(NODE, 0)]);
+    at(I8, &[(NODE, 1)]);
+    at(M1, &[(NODE, 0)]);
+    at(M6, &[(NODE, 0)]);
+    at(M3, &[(NODE, 0)]);
+    at(M3, &[(NODE, 4)]);
+    at(M4, &[(NODE, 0)]);
+    at(M4, &[(NODE, 7)]);
+    at(M5, &[(NODE, 0)]);
+    at(M5, &[(NODE, 4)]);
+    at(P19, &[(OWN_CELL, 0)]);
+}
+
+/// A put that names all it needs is withdrawn, or refused 7 for want of a cell to free.
+#[test]
+fn a_withdrawn_put_without_an_own_cell() {
+    let ready: [&[(usize, u32)]; 8] = [
+        &[(PLACE, I1)],
+        &[(PLACE, I2), (D, 3)],
+        &[(PLACE, I3), (LEAF, 4), (LO, 1), (HI, 3)],
+        &[(PLACE, I4), (D, 2)],
+        &[(PLACE, I5), (NODE, 2)],
+        &[(PLACE, I6)],
+        &[(PLACE, I7), (NODE, 2)],
+        &[(PLACE, I8), (NODE, 2)],
     ];
-    assert_eq!(refusals, [Refusal::Unreadable; 19]);
+    for fields in ready {
+        let mut queue = queue_with_thread_at(I1, fields);
+        withdrawn(&queue);
+        queue.set_field(1, OWN_CELL, 0);
+        assert_eq!(queue.permit(1, 2), Ok(()));
+        assert_eq!(refused(&queue), Refusal::Unreadable);
+    }
 }
 
 /// E2 and 18 name the copied cell only where their comparison holds.
@@ -82,7 +119,7 @@ fn a_copied_head_that_does_not_exist() {
             let mut queue = Queue::with_thread_at(place, &[], [None; 3]);
             queue.set_word(queue.node_at(1) + 2, counter);
             queue.match_copies(1);
-            assert_eq!(refused(&queue), Refusal::Unreadable);
+            refused_7(&queue);
         }
     }
 }
@@ -95,7 +132,7 @@ fn a_mended_node_that_does_not_exist() {
     };
     assert_eq!(at(&[]).moved([PLACE, D, NODE, RESULT_KEY]), [E1, 3, 0, 8]);
     assert_eq!(at(&[(AFTER, 1)]).turn(1, 0), Answer::Took { key: 8, tag: 0 });
-    assert_eq!(refused(&at(&[(COPIES[0] + 1, 1)])), Refusal::Unreadable);
+    refused_7(&at(&[(COPIES[0] + 1, 1)]));
 }
 
 #[test]
@@ -105,11 +142,12 @@ fn a_search_that_leaves_the_path_to_its_leaf() {
     };
     // Nothing left to search; no leaf; no level 0; a level below the leaf.
     for (leaf, lo, hi) in [(4, 2, 2), (4, 3, 1), (4, 0, 0), (0, 1, 3), (4, 0, 1), (1, 2, 3)] {
-        assert_eq!(refused(&searching(leaf, lo, hi, 6)), Refusal::Unreadable);
+        refused_7(&searching(leaf, lo, hi, 6));
     }
     // Node 2 is read either way. One way ends there, the other at level 3, below the leaf.
     assert_eq!(searching(2, 2, 3, 6).moved([PLACE]), [I5]);
-    assert_eq!(refused(&searching(2, 2, 3, 7)), Refusal::Unreadable);
+    withdrawn(&searching(2, 2, 3, 6));
+    refused_7(&searching(2, 2, 3, 7));
     // With level 3 to be searched on, the way down is not yet refused.
     assert_eq!(searching(2, 0, 3, 7).moved([PLACE]), [I3]);
 }
@@ -164,6 +202,14 @@ fn a_spent_counter_in_a_node_that_would_change() {
         for &node in changed {
             let spent = with_counter(&queue, node, u32::MAX, u32::MAX);
             assert_eq!(refused(&spent), Refusal::CounterSpent);
+            // Without its permission the turn is withdrawn before it; mending needs none.
+            if [M5, M6].contains(&queue.place(1)) {
+                let mut spent = spent;
+                assert_eq!(spent.permit(1, 0), Ok(()));
+                assert_eq!(refused(&spent), Refusal::CounterSpent);
+            } else {
+                withdrawn(&spent);
+            }
             // The last step of a counter is not refused.
             let mut last = with_counter(&queue, node, u32::MAX - 1, u32::MAX - 1);
             assert!(last.turn(1, 0).is_access());
