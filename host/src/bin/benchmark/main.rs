@@ -14,9 +14,13 @@ use work::{Work, PAIRS};
 const SMALL: Shape = Shape { depth: 4, cells: 8, threads: 4, threshold: 2 };
 const LARGE: Shape = Shape { threshold: 2, ..Shape::LARGEST };
 
+/// A shape with a cell for each of the most threads.
+const CROWDED: Shape = Shape { depth: 7, cells: 64, threads: 64, threshold: 2 };
+
 const TURNS: &str = "
-A turn in a run. The share is that of the turns that make an access; the others are idle. Puts
-that find no leaf are always given the same one, which holds a lesser item, and go on for ever.";
+A turn in a run. The share is that of the turns that make an access; the others are idle, or
+withdrawn. Puts that find no leaf are always given the same one, which holds a lesser item, and go on
+for ever. With single permissions those who put may not take and those who take may not put.";
 
 const PAIRS_OF_CALLS: &str = "
 A put and a take by one thread, T 4, half of the cells in use: four calls, each run with just the
@@ -30,6 +34,10 @@ each run with just the turns that it takes.";
 const CHECKS: &str = "
 A check at the largest shape, D 12, C 2,048, T 64, of 20,547 words: a yes, and refusals by the first
 word out of range. The share is that of the library's time for a yes.";
+
+const PERMITS: &str = "
+A permit to the last thread: a check of the region and one word. The share is that of a permit in
+relation to a check, both by the library.";
 
 const GROWTH: &str = "
 How cost grows with D, T 4: a check looks at the whole region, a turn at one place of it. The turn
@@ -48,6 +56,7 @@ fn main() {
     pairs();
     lists();
     checks();
+    permits();
     growth();
 }
 
@@ -56,18 +65,23 @@ fn turns() {
     println!("{TURNS}");
     println!("{:<42}{:>6}{:>7}{:>9}{:>9}{:>8}", "", "turns", "share", "library", "plain", "ratio");
     let crossing = Work::crossing_operations;
+    let single = Work::crossing_by_single_permissions;
     let endless = |shape| Work::endless_puts(shape, 4096);
     // The turns until all operations are answered.
     let [small, large] = [SMALL, LARGE].map(|shape| crossing(shape, 4096).accesses);
     row("D 4 T 4: puts that find no leaf", 4096, endless(SMALL));
     row("D 4 T 4: 2 puts and 2 takes, then idle", 4096, crossing(SMALL, 4096));
     row("D 4 T 4: 2 puts and 2 takes", small, crossing(SMALL, small));
+    row("D 4 T 4: the same, single permissions", small, single(SMALL, small));
     row("D 4 T 4: 2 puts and 2 takes", 1, crossing(SMALL, small).one_turn_a_run());
     let list = Work::turns_of_a_list(of_depth(10), 256);
     row("D 10 T 4: a list of 256 items", list.turns, list);
     row("D 12 T 64: puts that find no leaf", 4096, endless(LARGE));
     row("D 12 T 64: 32 puts and 32 takes", large, crossing(LARGE, large));
+    row("D 12 T 64: the same, single permissions", large, single(LARGE, large));
     row("D 12 T 64: 32 puts and 32 takes", 1, crossing(LARGE, 64).one_turn_a_run());
+    let withdrawn = Work::withdrawn_operations(CROWDED);
+    row("D 7 T 64: 32 puts and 32 takes, withdrawn", withdrawn.turns, withdrawn);
 }
 
 fn row(name: &str, turns: u32, work: Work) {
@@ -155,6 +169,25 @@ fn check_row(name: &str, words_before: usize, work: &Work, yes: &Work) {
     let Times { library, plain, ratio } = measure(work, work.calls.len() as u32);
     let share = share(work, yes);
     println!("{name:<42}{words_before:>12}{library:>9.1}{plain:>9.1}{ratio:>8.2}{share:>8.4}");
+}
+
+/// Permits beside checks.
+fn permits() {
+    println!("{PERMITS}");
+    println!(
+        "{:>4}{:>4}{:>9}{:>10}{:>10}{:>8}{:>8}",
+        "D", "T", "bytes", "library", "plain", "ratio", "share"
+    );
+    for shape in [SMALL, LARGE] {
+        let work = Work::permits(shape, 20);
+        let Times { library, plain, ratio } = measure(&work, 20);
+        let share = share(&work, &Work::checks(shape, 20));
+        let Shape { depth, threads, .. } = shape;
+        println!(
+            "{depth:>4}{threads:>4}{:>9}{library:>10.1}{plain:>10.1}{ratio:>8.2}{share:>8.2}",
+            work.start.len()
+        );
+    }
 }
 
 /// A check and a turn by the greatest depth.

@@ -23,6 +23,10 @@ pub enum Call {
     List {
         thread: u32,
     },
+    Permit {
+        thread: u32,
+        permission: u32,
+    },
     /// A run of these turns of the work's schedule, without a limit.
     Run(Range<usize>),
     Check,
@@ -33,6 +37,7 @@ pub trait Queue {
     fn put(region: &mut [u8], thread: u32, item: Item);
     fn take(region: &mut [u8], thread: u32);
     fn list(region: &mut [u8], thread: u32);
+    fn permit(region: &mut [u8], thread: u32, permission: u32);
     fn run(region: &mut [u8], schedule: &[u8], answers: &mut [u8]);
     fn check(region: &[u8]);
 }
@@ -51,6 +56,10 @@ impl Queue for Library {
 
     fn list(region: &mut [u8], thread: u32) {
         black_box(calls::list(region, thread));
+    }
+
+    fn permit(region: &mut [u8], thread: u32, permission: u32) {
+        black_box(calls::permit(region, thread, permission));
     }
 
     fn run(region: &mut [u8], schedule: &[u8], answers: &mut [u8]) {
@@ -78,6 +87,10 @@ impl Queue for Plain {
         _ = black_box(plain::list(region, thread));
     }
 
+    fn permit(region: &mut [u8], thread: u32, permission: u32) {
+        _ = black_box(plain::permit(region, thread, permission));
+    }
+
     fn run(region: &mut [u8], schedule: &[u8], answers: &mut [u8]) {
         _ = black_box(plain::run(region, schedule, u32::MAX, answers));
     }
@@ -94,6 +107,7 @@ pub fn play<Q: Queue>(work: &Work, region: &mut [u8], answers: &mut [u8]) {
             Call::Put { thread, item } => Q::put(region, *thread, *item),
             Call::Take { thread } => Q::take(region, *thread),
             Call::List { thread } => Q::list(region, *thread),
+            Call::Permit { thread, permission } => Q::permit(region, *thread, *permission),
             Call::Run(turns) => {
                 Q::run(region, &work.schedule[8 * turns.start..8 * turns.end], answers)
             }

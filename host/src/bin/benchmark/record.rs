@@ -34,6 +34,11 @@ impl Random {
     }
 }
 
+/// What a thread may do.
+pub const PUT: u32 = 1;
+pub const TAKE: u32 = 2;
+pub const PUT_AND_TAKE: u32 = 3;
+
 /// A region, and the calls made on it so far.
 pub struct Recorder {
     region: Vec<u8>,
@@ -75,7 +80,8 @@ impl Recorder {
 
     fn laid_out(shape: Shape) -> Recorder {
         let mut region = vec![0; shape.byte_len().expect("a shape in range")];
-        plain::layout(&mut region, shape, &vec![3; shape.threads as usize]).expect("its length");
+        let permissions = vec![PUT_AND_TAKE as u8; shape.threads as usize];
+        plain::layout(&mut region, shape, &permissions).expect("its length");
         Recorder { region, shape, random: Random::new(), work: Work::default() }
     }
 
@@ -98,6 +104,21 @@ impl Recorder {
                 let item = self.random.next_item();
                 self.put(thread, item);
             }
+        }
+    }
+
+    /// Leaves each thread the permission that it needs for this alone: takes with every second thread,
+    /// from thread 1 on, and puts with each other one.
+    pub fn permit_takes_and_puts(&mut self) {
+        for thread in 1..=self.shape.threads {
+            self.permit(thread, if thread % 2 == 1 { TAKE } else { PUT });
+        }
+    }
+
+    /// Takes the permissions of all threads away.
+    pub fn permit_nothing(&mut self) {
+        for thread in 1..=self.shape.threads {
+            self.permit(thread, 0);
         }
     }
 
@@ -177,6 +198,11 @@ impl Recorder {
     fn take(&mut self, thread: u32) {
         plain::take(&mut self.region, thread).expect("it is idle");
         self.work.calls.push(Call::Take { thread });
+    }
+
+    pub fn permit(&mut self, thread: u32, permission: u32) {
+        plain::permit(&mut self.region, thread, permission).expect("a permission");
+        self.work.calls.push(Call::Permit { thread, permission });
     }
 
     /// Makes one run of turns, until the last is told.

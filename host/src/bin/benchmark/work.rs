@@ -3,7 +3,7 @@
 use mound::Shape;
 
 use crate::play::Call;
-use crate::record::Recorder;
+use crate::record::{Recorder, PUT, PUT_AND_TAKE};
 
 /// Puts and takes of a work of pairs.
 pub const PAIRS: u32 = 32;
@@ -26,10 +26,32 @@ impl Work {
     /// the cells in use. Each turn is that of a thread drawn from those that are not answered, or from
     /// all when none is left.
     pub fn crossing_operations(shape: Shape, turns: u32) -> Work {
+        Work::takes_and_puts(shape, |_| {}, |recorder| recorder.run_crossing(turns))
+    }
+
+    /// The same, each thread with the one permission that it needs.
+    pub fn crossing_by_single_permissions(shape: Shape, turns: u32) -> Work {
+        let permit = Recorder::permit_takes_and_puts;
+        Work::takes_and_puts(shape, permit, |recorder| recorder.run_crossing(turns))
+    }
+
+    /// A turn of each thread, in which its take or its put is withdrawn.
+    pub fn withdrawn_operations(shape: Shape) -> Work {
+        let permit = Recorder::permit_nothing;
+        Work::takes_and_puts(shape, permit, |recorder| recorder.run_in_turn(shape.threads))
+    }
+
+    /// A run, with takes and puts begun before it and permissions set.
+    fn takes_and_puts(
+        shape: Shape,
+        permit: impl Fn(&mut Recorder),
+        run: impl Fn(&mut Recorder),
+    ) -> Work {
         let mut recorder = Recorder::holding(shape, shape.cells / 2);
         recorder.begin_takes_and_puts();
+        permit(&mut recorder);
         let mut recorder = recorder.started();
-        recorder.run_crossing(turns);
+        run(&mut recorder);
         recorder.work()
     }
 
@@ -75,6 +97,15 @@ impl Work {
         let mut recorder = Recorder::with_list_at_root(shape, items);
         for _ in 0..items {
             recorder.take_and_run();
+        }
+        recorder.work()
+    }
+
+    /// This many permits to the last thread of a region that is laid out, put alone and both in turn.
+    pub fn permits(shape: Shape, permits: u32) -> Work {
+        let mut recorder = Recorder::holding(shape, 0);
+        for permit in 0..permits {
+            recorder.permit(shape.threads, if permit % 2 == 0 { PUT } else { PUT_AND_TAKE });
         }
         recorder.work()
     }
