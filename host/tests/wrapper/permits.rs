@@ -27,8 +27,9 @@ fn holding(bytes: &mut Vec<u8>) -> Result<Region<'_>, Refusal> {
 
 const TOOK: Answer = Answer::Took { key: 5, tag: 9 };
 
-/// A take and a list.
-const TAKING: [fn(&mut Region, u32) -> Result<(), Refusal>; 2] =
+/// The beginning of a take or of a list.
+type Begin = fn(&mut Region, u32) -> Result<(), Refusal>;
+const TAKING: [Begin; 2] =
     [|region, thread| region.take(thread), |region, thread| region.list(thread)];
 
 #[test]

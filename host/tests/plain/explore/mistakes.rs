@@ -195,12 +195,16 @@ fn find_of_permission(mistake: PermissionMistake, call: Call, permission: u32) -
 
 const PUT: Call = Call::Put((3, 1));
 
+/// Each operation with the permission of the other kind alone.
+fn goes_on(mistake: PermissionMistake) {
+    for (call, other) in [(PUT, 2), (Call::Take, 1), (Call::List, 1)] {
+        assert_eq!(find_of_permission(mistake, call, other), Disagreement::NotWithdrawn);
+    }
+}
+
 #[test]
 fn an_operation_that_goes_on_once_begun() {
-    for (call, other) in [(PUT, 2), (Call::Take, 1), (Call::List, 1)] {
-        let found = find_of_permission(PermissionMistake::OnceBegunGoesOn, call, other);
-        assert_eq!(found, Disagreement::NotWithdrawn);
-    }
+    goes_on(PermissionMistake::OnceBegunGoesOn);
 }
 
 /// 'Empty' is a READ, and decides.
@@ -218,10 +222,7 @@ fn a_permission_looked_at_by_updates_alone() {
 
 #[test]
 fn a_permission_of_the_other_kind_that_will_do() {
-    for (call, other) in [(PUT, 2), (Call::Take, 1), (Call::List, 1)] {
-        let found = find_of_permission(PermissionMistake::AnyPermissionWillDo, call, other);
-        assert_eq!(found, Disagreement::NotWithdrawn);
-    }
+    goes_on(PermissionMistake::AnyPermissionWillDo);
 }
 
 /// The item is gone, or there, and the bag was not told.
