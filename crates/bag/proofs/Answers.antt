@@ -29,7 +29,7 @@ use Rattle.extract.specs.Extract.{afterRootRead, casRoot, handOut, handedOut, l
 use Rattle.moundify.specs.Moundify.{returning, mendReadNode, mendReadDepth, mendReadLeft, mendReadRight, exchangeWith, mendSwap, mendClean, returned, returnAnswer}
 use Rattle.readable.proofs.Laws.{Good}
 use Rattle.preserved.proofs.PlansGood.{or-left, or-right}
-use Rattle.permission.specs.Withdraw.{isPutPlace, isUnreadable, lacksPermission, permitted, withdrawal}
+use Rattle.permission.specs.Withdraw.{isUnreadable, lacksPermission, permitted, withdrawal}
 use Rattle.run.specs.Run.{Turn}
 use Rattle.machine.specs.Inner.{isWithdrawn}
 use Rattle.machine.proofs.PlaceEffects.{plan-fits}

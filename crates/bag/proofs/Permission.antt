@@ -1,38 +1,36 @@
 -- What request 5 says of each call and each turn: a deciding access has its permission, a withdrawn turn frees its put's cell, and a thread that
 -- is idle with an empty list changes nothing. Assumes nothing.
-use Prim.Native.Nat.{ℕ, zero, suc, _*_, _≤_}
+use Prim.Native.Nat.{ℕ, zero, suc, _≤_}
 use native.Mathlib.Omega.{arith}
-use mathlib.Core.Path.{_≡_, refl, sym, ap, subst, _∙_}
-use mathlib.Core.Bool.{Bool, true, false, not, _&&_, _||_, true≢false}
-use mathlib.Core.List.{List, []}
+use mathlib.Core.Path.{_≡_, refl, sym, ap, _∙_}
+use mathlib.Core.Bool.{Bool, true, false, not, _||_, true≢false}
+use mathlib.Core.List.{List}
 use borrow.Author.Tests.{eqb-true, eqb-false, ne-eqb, not-false}
 use lib.Dec.{eqb}
 use Rattle.region.specs.Answer.{badThread, done, unreadable}
-use Rattle.region.specs.Pick.{pick, upd}
+use Rattle.region.specs.Pick.{pick}
 use Rattle.region.specs.Place.{placeNumber}
-use Rattle.region.specs.Record.{zeroItem}
-use Rattle.region.specs.Shape.{between, nodeCount}
-use Rattle.region.specs.Shared.{Shared, cellIn, nodeIn, sharedIn, threadIn}
+use Rattle.region.specs.Shape.{between}
+use Rattle.region.specs.Shared.{sharedIn, threadIn}
 use Rattle.region.specs.Thread.{goneIdle, idleThread, isIdle}
 use Rattle.region.specs.declared.answer.Answer.{Answer}
 use Rattle.region.specs.declared.answer.Answer.the-variants.{Moved, Idle, Inserted, Took, Empty, Refused, Withdrawn}
 use Rattle.region.specs.declared.frame.Frame.{Frame}
 use Rattle.region.specs.declared.place.Place.{Place}
-use Rattle.region.specs.declared.place.Place.the-variants.{Idle as AtRest, InsertAtRoot, InsertBelow, ReadRoot, RemoveHead, MendReadNode, ListReadRoot, RemoveList}
+use Rattle.region.specs.declared.place.Place.the-variants.{InsertAtRoot, InsertBelow, ReadRoot, RemoveHead, MendReadNode, ListReadRoot, RemoveList}
 use Rattle.region.specs.declared.record.Cell.{Cell}
 use Rattle.region.specs.declared.record.Item.{Item}
 use Rattle.region.specs.declared.thread.Thread.{Thread}
 use Rattle.region.proofs.Picks.{pick-good, upd-same}
 use Rattle.access.specs.Effect.{effectShared}
 use Rattle.access.specs.Plan.{changesNothing, plan, refused}
-use Rattle.access.specs.declared.effect.Effect.{Effect}
 use Rattle.access.specs.declared.effect.Effect.the-variants.{Nothing, Free}
 use Rattle.access.specs.declared.plan.Plan.{Plan}
 use Rattle.readable.specs.Readable.{frameIn}
 use Rattle.readable.proofs.Laws.{Good}
 use Rattle.permission.specs.Grants.{mayPut, mayTake}
 use Rattle.permission.specs.Withdraw.{isPutPlace, isTakePlace, isUnreadable, lacksPermission, permitted, withdrawal}
-use Rattle.permission.proofs.Laws.{put-lacks, take-lacks}
+use Rattle.permission.proofs.Laws.{no-put, no-take, put-lacks, take-lacks}
 use Rattle.begin.specs.Begin.{putBytesIn, putRefusalIn, takeBytesIn, takeRefusalIn}
 use Rattle.begin.proofs.Laws.{is-idle}
 use Rattle.run.specs.Run.{Turn}
@@ -261,25 +259,17 @@ module _ (f : Frame) (b : List ℕ) (t : ℕ) (idle : isIdle (threadIn f b t) �
   barred-turn c =
       pick-good (λ p. carriedOut f b t p ≡ b) (between 1 t (f .shape .threads)) (λ h. rw (is-idle (threadIn f b t) idle) refl) (λ h. refl)
 
-  no-put : mayPut (threadIn f b t) ≡ false
-  unfolding mayPut
-  no-put = rw empty refl
-
-  no-take : mayTake (threadIn f b t) ≡ false
-  unfolding mayTake
-  no-take = rw empty refl
-
   -- its calls are refused
   pub barred-put : (i : Item) → putBytesIn f b t i ≡ b
   unfolding putBytesIn
   barred-put i =
       pick-good (λ x. x ≡ b) (eqb (putRefusalIn f b t i) done)
-      (λ k. absurd (true≢false (sym (put-passed f b t i (eqb-true (putRefusalIn f b t i) done k) .permitted) ∙ no-put)))
+      (λ k. absurd (true≢false (sym (put-passed f b t i (eqb-true (putRefusalIn f b t i) done k) .permitted) ∙ no-put (threadIn f b t) empty)))
       (λ k. refl)
 
   pub barred-take : (p : Place) → takeBytesIn f b t p ≡ b
   unfolding takeBytesIn
   barred-take p =
       pick-good (λ x. x ≡ b) (eqb (takeRefusalIn f b t) done)
-      (λ k. absurd (true≢false (sym (take-passed f b t (eqb-true (takeRefusalIn f b t) done k) .permitted) ∙ no-take)))
+      (λ k. absurd (true≢false (sym (take-passed f b t (eqb-true (takeRefusalIn f b t) done k) .permitted) ∙ no-take (threadIn f b t) empty)))
       (λ k. refl)

@@ -1,14 +1,13 @@
 -- A take alone on a laid-out region costs its figure, and so at most 5 × d accesses. The idle and refused turns of others leave it alone;
 -- and the root's head stands in no other list, so that E2, which frees its cell, leaves every value from which the figure is computed.
 -- Assumes nothing.
-use Prim.Native.Nat.{ℕ, suc, _+_, _-_, _≤_, _<_}
+use Prim.Native.Nat.{ℕ, _+_, _-_, _≤_, _<_}
 use native.Mathlib.Decide.{ℕ-discrete}
 use native.Mathlib.Omega.{arith}
 use mathlib.Core.Path.{_≡_, refl, sym, ap, subst, _∙_}
 use mathlib.Core.Bool.{Bool, true, false}
-use mathlib.Core.List.{List, [], _∷_}
-use borrow.Author.Tests.{eq-eqb, eqb-true, eqb-false}
-use lib.Dec.{eqb}
+use mathlib.Core.List.{List, _∷_}
+use borrow.Author.Tests.{eq-eqb}
 use lib.ListN.{length}
 use Rattle.region.specs.Answer.{done}
 use Rattle.region.specs.Pick.{pick}
@@ -16,8 +15,7 @@ use Rattle.region.specs.Record.{emptyNode}
 use Rattle.region.specs.Shape.{between, nodeCount}
 use Rattle.region.specs.Shared.{Shared, loadEntry, nodeIn, sharedIn, threadIn}
 use Rattle.region.specs.Thread.{atPlace, withPermission}
-use Rattle.region.specs.declared.answer.Answer.{Answer}
-use Rattle.region.specs.declared.answer.Answer.the-variants.{Moved, Idle, Inserted, Took, Empty, Refused}
+use Rattle.region.specs.declared.answer.Answer.the-variants.{Empty}
 use Rattle.region.specs.declared.frame.Frame.{Frame}
 use Rattle.region.specs.declared.place.Place.the-variants.{ReadRoot}
 use Rattle.region.proofs.Picks.{upd-same, upd-other}
@@ -25,7 +23,6 @@ use Rattle.region.proofs.Shapes.{between-least, between-most}
 use Rattle.region.proofs.Views.{shared-setThread, threads-setThread}
 use Rattle.access.specs.Effect.{effectShared}
 use Rattle.access.specs.Order.{val, valueOf}
-use Rattle.access.specs.Plan.{changesNothing}
 use Rattle.access.specs.Read.{readNode, updated}
 use Rattle.access.proofs.ReadLaws.{updated-first}
 use Rattle.readable.specs.Readable.{frameIn, readable}
@@ -33,7 +30,6 @@ use Rattle.readable.proofs.Laws.{Good, good}
 use Rattle.readable.proofs.Stores.{thread-fit}
 use Rattle.begin.specs.Begin.{acceptedTake, one-item, takeBytes, takeRefusal}
 use Rattle.begin.proofs.Laws.{take-refusal-in}
-use Rattle.machine.specs.Turn.{turnAnswer, turnBytes}
 use Rattle.cost.specs.Cost.{levelsDown, restLevel, takeCost, withoutHead}
 use Rattle.cost.proofs.Laws.{cost-ceiling, cost-counted, cost-empty, cost-full, levels-same, rest-most}
 use Rattle.preserved.proofs.Proved.{TakePassed, accepted-take-keeps, take-least, take-most, take-passed, taker-good}
@@ -41,7 +37,7 @@ use Rattle.mound.specs.Tree.{listFrom}
 use Rattle.mound.proofs.Chains.{list-behind, next-apart}
 use Rattle.mound.proofs.Effects.{Mound, PopAllowed, in-tree, pop-others, root-there}
 use Rattle.mound.proofs.Held.{few-cells, node-chain}
-use Rattle.bag.specs.Alone.{AllClean, Between, EndsAt, NoOtherMoves, NoneSpent, PermissionKept, Step, last, moved-then, stepsOf, takeSteps}
+use Rattle.bag.specs.Alone.{AllClean, Between, EndsAt, NoOtherMoves, NoneSpent, PermissionKept, Step, last, moved-then, stepsOf}
 use Rattle.bag.specs.TakeCost.{LastAccess, TakesCost, TakesEnd, listOf, rootHead}
 use Rattle.bag.proofs.Alone.{Rests, empty-ends, end, popped, root-rests}
 

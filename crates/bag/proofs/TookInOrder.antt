@@ -8,12 +8,11 @@ use mathlib.Core.Bool.{Bool, true, false}
 use mathlib.Core.List.{List, [], _∷_, _++_, append-assoc}
 use borrow.Author.Tests.{eqb-true}
 use lib.Dec.{eqb}
-use Rattle.region.specs.Answer.{done}
 use Rattle.region.specs.Pick.{pick, upd}
 use Rattle.region.specs.declared.answer.Answer.{Answer}
 use Rattle.region.specs.declared.answer.Answer.the-variants.{Moved, Idle, Inserted, Took, Empty, Refused, Withdrawn}
 use Rattle.region.specs.declared.record.Item.{Item}
-use Rattle.region.proofs.Picks.{pick-good, upd-same}
+use Rattle.region.proofs.Picks.{upd-same}
 use Rattle.access.specs.declared.effect.Effect.{Effect}
 use Rattle.access.specs.declared.effect.Effect.the-variants.{Nothing, Grow, Push, Pop, Exchange, Clean, Detach, Free}
 use Rattle.mound.specs.Ledger.{Ledger, Operation, Undecided, UndecidedTake, a-put, a-take, none, one-item, owing, putting, listing, stillOwing, taking, whole-list, Follows, still, put-begins, take-begins, list-begins, put-decides, take-decides, list-decides, empty-decides, take-answers, ends-withdrawn, ends-withdrawn}

@@ -2,7 +2,7 @@
 use mathlib.Core.Path.{refl}
 use Rattle.computes.proofs.Computes.{computes}
 use Rattle.cases.specs.Row.{Holds, AllHold}
-use Rattle.cases.specs.Request5.{put-withdrawn, take-withdrawn, take-decided, list-decided, given-back, between-refusals, permit-refused, casesOfRequest5}
+use Rattle.cases.specs.Request5.{put-withdrawn, take-withdrawn, take-decided, given-back, between-refusals, permit-refused, casesOfRequest5}
 
 put-withdrawn-holds : Holds put-withdrawn
 unfolding computes
@@ -15,10 +15,6 @@ take-withdrawn-holds = (refl, refl)
 take-decided-holds : Holds take-decided
 unfolding computes
 take-decided-holds = (refl, refl)
-
-list-decided-holds : Holds list-decided
-unfolding computes
-list-decided-holds = (refl, refl)
 
 given-back-holds : Holds given-back
 unfolding computes
@@ -33,4 +29,4 @@ unfolding computes
 permit-refused-holds = (refl, refl)
 
 pub casesOfRequest5-hold : AllHold casesOfRequest5
-casesOfRequest5-hold = (put-withdrawn-holds, (take-withdrawn-holds, (take-decided-holds, (list-decided-holds, (given-back-holds, (between-refusals-holds, (permit-refused-holds, tt)))))))
+casesOfRequest5-hold = (put-withdrawn-holds, (take-withdrawn-holds, (take-decided-holds, (given-back-holds, (between-refusals-holds, (permit-refused-holds, tt))))))

@@ -5,7 +5,7 @@ use mathlib.Core.List.{List, [], _∷_, _++_}
 use lib.ListN.{replicate}
 use Rattle.region.specs.Answer.{done, badShape, badThread, unreadable, notPermitted, counterSpent}
 use Rattle.region.specs.declared.answer.Answer.the-variants.{Moved, Idle, Inserted, Took, Refused, Withdrawn}
-use Rattle.cases.specs.Row.{Does, puts, takes, lists, permits, turns, shows, writes, Says, answered, shown, Row, item, both, callsRow, serves, turnsTo, inserting}
+use Rattle.cases.specs.Row.{Does, puts, takes, permits, shows, writes, Says, answered, shown, Row, item, both, callsRow, turnsTo, inserting}
 
 abbrev row : List (Does × Says) → Row
 row cs = callsRow both cs 1
@@ -54,21 +54,6 @@ take-decided =
     ++ (takes 1, answered notPermitted)
     ∷ turnsTo 1 1 Idle)
 
--- the same of a list: thread 1 is past 18, and thread 2 mends the root that it found dirty at 17. Thread 2 mends on, M1, M2 and M6, and is
--- withdrawn at 17; thread 1 finds the root clean, M1 and M2, and hands out.
-abbrev pub list-decided : Row
-list-decided =
-    row
-    (inserting (item 5) 4
-    ++ (lists 1, answered done)
-    ∷ (lists 2, answered done)
-    ∷ (turns (1 ∷ 1 ∷ 2 ∷ []), serves (replicate 3 Moved))
-    ∷ (permits 1 0, answered done)
-    ∷ (permits 2 0, answered done)
-    ∷ turnsTo 2 4 Withdrawn
-    ++ turnsTo 1 3 (Took (item 5))
-    ++ turnsTo 1 1 Idle)
-
 -- only the turn looks at it: a permission that is back before the next turn was never missed
 abbrev pub given-back : Row
 given-back =
@@ -110,7 +95,6 @@ casesOfRequest5 =
     put-withdrawn
     ∷ take-withdrawn
     ∷ take-decided
-    ∷ list-decided
     ∷ given-back
     ∷ between-refusals
     ∷ permit-refused

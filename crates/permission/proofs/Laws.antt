@@ -1,5 +1,5 @@
--- Where a permission lacks, by the place: no place is both a put's and a take's. On a readable region the call is the one under its frame. Assumes
--- nothing.
+-- The empty list grants nothing. Where a permission lacks, by the place: no place is both a put's and a take's. On a readable region the call
+-- is the one under its frame. Assumes nothing.
 use Prim.Native.Nat.{ℕ}
 use native.Mathlib.Omega.{arith}
 use mathlib.Core.Path.{_≡_, refl, sym, ap, _∙_}
@@ -17,6 +17,16 @@ use Rattle.readable.specs.Readable.{frameIn, readable}
 use Rattle.permission.specs.Grants.{mayPut, mayTake}
 use Rattle.permission.specs.Permit.{permitBytes, permitBytesIn, permitRefusal, permitRefusalIn}
 use Rattle.permission.specs.Withdraw.{isPutPlace, isTakePlace, lacksPermission}
+
+-- "0 is the empty list and grants nothing"
+module _ (t : Thread) (e : t .permission ≡ 0) where
+  pub no-put : mayPut t ≡ false
+  unfolding mayPut
+  no-put = rw e refl
+
+  pub no-take : mayTake t ≡ false
+  unfolding mayTake
+  no-take = rw e refl
 
 never-both : (p : Place) → isPutPlace p ≡ true → isTakePlace p ≡ false
 unfolding isPutPlace isTakePlace
