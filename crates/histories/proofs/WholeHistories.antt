@@ -1,6 +1,7 @@
--- Two whole histories, computed from the definitions: what the bag is told comes in the order of the deciding accesses and not of the answers.
+-- Three whole histories, computed from the definitions: what the bag is told comes in the order of the deciding accesses and not of the answers.
 -- Case J of document 01: "root 5; both take, turns 1,1,2,2,2,2,2,1,1: thread 2 gets empty first, then thread 1 took 5." And a list of two items
--- beside a take: once 18 has emptied the root the take finds nothing, and then the list hands out both. Assumes nothing.
+-- beside a take: once 18 has emptied the root the take finds nothing, and then the list hands out both. And a put that is withdrawn: the take
+-- behind it finds nothing. Assumes nothing.
 use Prim.Native.Nat.{ℕ, _*_}
 use mathlib.Core.Path.{_≡_, refl}
 use mathlib.Core.List.{List, [], _∷_, _++_}
@@ -9,9 +10,9 @@ use Rattle.region.specs.declared.record.Item.{Item}
 use Rattle.layout.specs.Layout.{layoutBytes}
 use Rattle.cases.specs.Row.{schedule}
 use Rattle.computes.proofs.Computes.{computes}
-use Rattle.mound.specs.Told.{Told, nothing, beginsPut, beginsTake, beginsList, decidesPut, decidesTake, decidesList, decidesEmpty, answersTook}
+use Rattle.mound.specs.Told.{Told, nothing, beginsPut, beginsTake, beginsList, decidesPut, decidesTake, decidesList, decidesEmpty, answersTook, withdraws}
 use Rattle.mound.specs.Tree.{itemsOf, listFrom}
-use Rattle.bag.specs.Calls.{Call, put, take, list, run, after, refusalOf}
+use Rattle.bag.specs.Calls.{Call, put, take, list, permit, run, after, refusalOf}
 use Rattle.bag.specs.History.{Moment, servedOn, turnMoments, servedMoments, callMoments, history}
 use Rattle.bag.specs.Told.{tells}
 
@@ -42,6 +43,7 @@ some (decidesTake t i) = decidesTake t i ∷ []
 some (decidesList t is) = decidesList t is ∷ []
 some (decidesEmpty t) = decidesEmpty t ∷ []
 some (answersTook t i) = answersTook t i ∷ []
+some (withdraws t) = withdraws t ∷ []
 
 pub told : List Moment → List Told
 unfolding some
@@ -74,3 +76,12 @@ pub case-list : told (history laid list-calls)
     ∷ decidesEmpty 2 ∷ answersTook 1 five ∷ answersTook 1 seven ∷ []
 unfolding told laid list-calls five seven computes after refusalOf servedOn turnMoments servedMoments callMoments history listFrom itemsOf
 case-list = refl
+
+-- a put whose permission goes after its first turn
+pub withdrawn-calls : List Call
+unfolding five
+withdrawn-calls = put 1 five ∷ runs (1 ∷ []) ∷ permit 1 2 ∷ runs (1 ∷ []) ∷ take 1 ∷ runs (1 ∷ []) ∷ []
+
+pub case-withdrawn : told (history laid withdrawn-calls) ≡ beginsPut 1 five ∷ withdraws 1 ∷ beginsTake 1 ∷ decidesEmpty 1 ∷ []
+unfolding told laid withdrawn-calls five computes after refusalOf servedOn turnMoments servedMoments callMoments history
+case-withdrawn = refl
