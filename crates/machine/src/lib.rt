@@ -2,7 +2,7 @@
 ghost use mathlib.Core.Path.{_≡_};
 ghost use lib.ListN.{length};
 ghost use Rattle.region.specs.Inner.{Within};
-ghost use Rattle.machine.specs.Inner.{Placed, isWithdrawn};
+ghost use Rattle.machine.specs.Inner.{Placed, Stands, isWithdrawn};
 ghost use Rattle.machine.specs.Turn.{Turned, TurnedOn};
 use region::Answer;
 use region::BAD_THREAD;
@@ -25,18 +25,11 @@ fn is_withdrawn(answer: Answer) -> bool
     }
 }
 
-// A turn of thread n at the place where it stands. One that is to be withdrawn changes no byte yet. The record is loaded here for its place
-// alone; each place loads it for itself.
-fn turn_at_place(f: Frame, b: &mut [u8], n: u32, choice: u32) -> Answer
-    requires { ⌜ Within f (length (now b)) ⌝ }
+// A turn of thread n at the place where it stands. One that is to be withdrawn changes no byte yet. Each place loads the record for itself.
+fn turn_at(f: Frame, b: &mut [u8], n: u32, choice: u32, place: Place) -> Answer
+    requires { ⌜ Stands f (now b) n place ⌝ }
     ensures { λ r. ⌜ Placed f (now (b .entry)) (now (b .exit)) n choice r ⌝ }
 {
-    let shape = f.shape;
-    if !region::is_between(1, n, shape.threads) {
-        return Answer::Refused(BAD_THREAD);
-    }
-    let here = f.load_thread(b, n);
-    let place = here.place;
     match place {
         Place::Idle => Answer::Idle,
         Place::ReadDepth => turns::turn_read_depth(f, b, n),
@@ -66,9 +59,15 @@ pub fn turn(f: Frame, b: &mut [u8], n: u32, choice: u32) -> Answer
     requires { ⌜ Within f (length (now b)) ⌝ }
     ensures { λ r. ⌜ Turned f (now (b .entry)) (now (b .exit)) n choice r ⌝ }
 {
-    let answer = turn_at_place(f, b, n, choice);
+    let shape = f.shape;
+    if !region::is_between(1, n, shape.threads) {
+        return Answer::Refused(BAD_THREAD);
+    }
+    let here = f.load_thread(b, n);
+    let place = here.place;
+    let answer = turn_at(f, b, n, choice, place);
     if is_withdrawn(answer) {
-        return turns::withdraw(f, b, n);
+        return turns::withdraw(f, b, n, place);
     }
     answer
 }

@@ -1,14 +1,15 @@
 -- The ways out of the functions, over plain variables: storing a plan's record, and the end of a turn at any place. Assumes nothing.
 use Prim.Native.Nat.{ℕ}
 use mathlib.Core.Path.{_≡_, refl, sym, ap, subst, _∙_}
-use mathlib.Core.Bool.{Bool, true, false, true≢false}
+use mathlib.Core.Bool.{Bool, true, false, not, _&&_, true≢false}
 use mathlib.Core.List.{List}
 use Rattle.region.specs.Pick.{pick}
 use Rattle.region.specs.Shared.{Shared, setThreadIn, sharedIn, threadIn}
-use Rattle.region.specs.Thread.{goneIdle, isIdle}
+use Rattle.region.specs.Thread.{atPlace, goneIdle, isIdle}
 use Rattle.region.specs.declared.answer.Answer.{Answer}
 use Rattle.region.specs.declared.answer.Answer.the-variants.{Moved, Idle, Inserted, Took, Empty, Refused, Withdrawn}
 use Rattle.region.specs.declared.frame.Frame.{Frame}
+use Rattle.region.specs.declared.place.Place.{Place}
 use Rattle.region.specs.declared.shape.Shape.{Shape}
 use Rattle.region.specs.declared.thread.Thread.{Thread}
 use Rattle.access.specs.Effect.{effectBytes}
@@ -18,7 +19,7 @@ use Rattle.access.specs.declared.effect.Effect.{Effect}
 use Rattle.access.specs.declared.effect.Effect.the-variants.{Nothing, Grow, Push, Pop, Exchange, Clean, Detach, Free}
 use Rattle.access.specs.declared.plan.Plan.{Plan}
 use Rattle.permission.specs.Withdraw.{isUnreadable, withdrawal}
-use Rattle.turns.specs.Inner.{Ended, Looked, Stored, StoredIf, goesIdle, recordBytes, withheld}
+use Rattle.turns.specs.Inner.{Ended, Looked, Stored, goesIdle, isWithheld, recordBytes}
 
 -- Storing a plan's record: none, an idle one, or another; w is the test that was made.
 module _ (f : Frame) (b : List ℕ) (n : ℕ) (p : Plan) (idle q : Bool) (eq : q ≡ changesNothing (p .answer)) where
@@ -40,57 +41,39 @@ pub changed : (k : ℕ) (f : Frame) (b b₁ b₂ : List ℕ) (n : ℕ) (p : Plan
     → b₂ ≡ effectBytes f b₁ (ofKind k (p .effect)) → Ended k f b b₂ n p r
 changed k f b b₁ b₂ n p r h e = record { answer = h .answer; bytes = e ∙ ap (λ l. effectBytes f l (ofKind k (p .effect))) (h .bytes) }
 
--- A turn that lacks its permission, and its withdrawal.
-module _ (a : Answer) (q : Bool) (eq : q ≡ isUnreadable a) where
-  pub refused-seven : q ≡ true → a ≡ withheld a
-  unfolding withheld pick
-  refused-seven e = rw (← eq, e) refl
+-- Whether a turn is withheld: q tells whether nothing changes, and only where nothing changes it may be refused 7.
+answered : (a : Answer) → changesNothing a ≡ false → isUnreadable a ≡ false
+answered Moved e = refl
+answered Idle e = refl
+answered Inserted e = refl
+answered (Took i) e = refl
+answered Empty e = refl
+answered (Refused n) e = absurd (true≢false e)
+answered Withdrawn e = refl
 
-  pub is-withheld : q ≡ false → Withdrawn ≡ withheld a
-  unfolding withheld pick
-  is-withheld e = rw (← eq, e) refl
+module _ (a : Answer) (may q : Bool) (eq : q ≡ changesNothing a) where
+  pub may-stop : q ≡ true → may ≡ true → false ≡ isWithheld may a
+  unfolding isWithheld
+  may-stop g m = rw m refl
 
-unreadable-stays : (a : Answer) → changesNothing a ≡ false → isUnreadable a ≡ false
-unreadable-stays Moved e = refl
-unreadable-stays Idle e = refl
-unreadable-stays Inserted e = refl
-unreadable-stays (Took i) e = refl
-unreadable-stays Empty e = refl
-unreadable-stays (Refused n) e = absurd (true≢false e)
-unreadable-stays Withdrawn e = refl
+  pub stop-withheld : q ≡ true → may ≡ false → (u : Bool) → u ≡ isUnreadable a → not u ≡ isWithheld may a
+  unfolding isWithheld
+  stop-withheld g m u eu = rw (m, ← eu) refl
 
--- Storing a plan's record where the permission is there; q tells whether nothing changes, w whether the record goes idle.
-module _ (f : Frame) (b : List ℕ) (n : ℕ) (p : Plan) (idle may q : Bool) (eq : q ≡ changesNothing (p .answer)) where
-  module _ (m : may ≡ true) where
-    stored-if : {b′ : List ℕ} → Stored f b b′ n p idle (p .answer) → StoredIf may f b b′ n p idle (p .answer)
-    stored-if h = record { granted = λ e. h; lacking = λ e. absurd (true≢false (sym m ∙ e)) }
+  pub change-withheld : q ≡ false → not may ≡ isWithheld may a
+  unfolding isWithheld
+  change-withheld g = rw (answered a (sym eq ∙ g)) (go may)
+    where
+      go : (m : Bool) → not m ≡ not m && true
+      go true = refl
+      go false = refl
 
-    pub none-stored-if : q ≡ true → StoredIf may f b b n p idle (p .answer)
-    none-stored-if g = stored-if (none-stored f b n p idle q eq g)
-
-    module _ (g : q ≡ false) (b′ : List ℕ) (w : Bool) (ew : w ≡ idle) where
-      pub idle-stored-if : w ≡ true → (u : Thread) → u ≡ goneIdle (p .thread) → b′ ≡ setThreadIn f b n u → StoredIf may f b b′ n p idle (p .answer)
-      idle-stored-if z u eu e = stored-if (idle-stored f b n p idle q eq g b′ w ew z u eu e)
-
-      pub record-stored-if : w ≡ false → b′ ≡ setThreadIn f b n (p .thread) → StoredIf may f b b′ n p idle (p .answer)
-      record-stored-if z e = stored-if (record-stored f b n p idle q eq g b′ w ew z e)
-
-  module _ (m : may ≡ false) where
-    pub withheld-if : q ≡ true → (r : Answer) → r ≡ withheld (p .answer) → StoredIf may f b b n p idle r
-    withheld-if g r e = record { granted = λ k. absurd (true≢false (sym k ∙ m)); lacking = λ k. (e, refl) }
-
-    pub withdrawn-if : q ≡ false → StoredIf may f b b n p idle Withdrawn
-    withdrawn-if g =
-        record {
-          granted = λ k. absurd (true≢false (sym k ∙ m));
-          lacking = λ k. (is-withheld (p .answer) false (sym (unreadable-stays (p .answer) (sym eq ∙ g))) refl, refl);
-        }
-
-pub withdraws : (f : Frame) (b b₁ b₂ : List ℕ) (n : ℕ) (x : Thread) → x ≡ threadIn f b n → (p : Plan) → p ≡ withdrawal x → (r : Answer)
-    → Stored f b b₁ n p (isIdle (p .thread)) r → b₂ ≡ effectBytes f b₁ (ofKind freeing (p .effect))
-    → Ended freeing f b b₂ n (withdrawal (threadIn f b n)) r
-withdraws f b b₁ b₂ n x ex p ep r h e =
-    subst (λ y. Ended freeing f b b₂ n y r) (ep ∙ ap withdrawal ex) (changed freeing f b b₁ b₂ n p r h e)
+-- The withdrawal.
+pub withdraws : (f : Frame) (b b₁ b₂ : List ℕ) (n : ℕ) (z : Place) (x : Thread) → x ≡ threadIn f b n → (y : Thread) → y ≡ atPlace x z
+    → (p : Plan) → p ≡ withdrawal y → (r : Answer) → Stored f b b₁ n p (isIdle (p .thread)) r
+    → b₂ ≡ effectBytes f b₁ (ofKind freeing (p .effect)) → Ended freeing f b b₂ n (withdrawal (atPlace (threadIn f b n) z)) r
+withdraws f b b₁ b₂ n z x ex y ey p ep r h e =
+    subst (λ q. Ended freeing f b b₂ n q r) (ep ∙ ap withdrawal (ey ∙ ap (λ t. atPlace t z) ex)) (changed freeing f b b₁ b₂ n p r h e)
 
 -- The end of a turn: D is the plan that the place decides, by the shape, shared memory and the thread's record, and in two of the laws
 -- by a number, the choice or the waiting levels.
@@ -123,31 +106,29 @@ module _ (D : Shape → Shared → Thread → Plan) (f : Frame) (b b₁ : List �
   pub reads : Stored f b b₁ n p (answersOperation (p .answer)) r → Ended reading f b b₁ n plan r
   reads h = changes reading h b₁ (no-effect f b₁ (p .effect))
 
--- The same at a place that looks at the permission, which `may` says to be there or not; w is the test that was made.
+-- The same at a place that looks at the permission, of which `may` says whether a thread has it; q is the test that was made.
 module _ (D : Shape → Shared → Thread → Plan) (may : Thread → Bool) (f : Frame) (b : List ℕ) (n : ℕ) (x : Thread) (p : Plan)
-    (r : Answer) (ex : x ≡ threadIn f b n) (ep : p ≡ D (f .shape) (sharedIn f b) x) (w : Bool) (ew : w ≡ may x) where
-  asked : w ≡ may (threadIn f b n)
-  asked = ew ∙ ap may ex
+    (ex : x ≡ threadIn f b n) (ep : p ≡ D (f .shape) (sharedIn f b) x) (w : Bool) (ew : w ≡ may x) (q : Bool)
+    (eq : q ≡ isWithheld w (p .answer)) where
+  abbrev LookedAt : ℕ → List ℕ → Answer → Type 0
+  LookedAt k b′ r = Looked (may (threadIn f b n)) k f b b′ n (D (f .shape) (sharedIn f b) (threadIn f b n)) r
 
-  module _ (k : ℕ) (b₁ : List ℕ) (h : StoredIf w f b b₁ n p (goesIdle k p) r) where
-    lacking : may (threadIn f b n) ≡ false → (r ≡ withheld (D (f .shape) (sharedIn f b) (threadIn f b n) .answer)) × (b₁ ≡ b)
-    lacking e = let l = h .lacking (asked ∙ e) in (l .0 ∙ ap (λ y. withheld (y .answer)) (decided D f b b n x p r ex ep), l .1)
+  asked : q ≡ isWithheld (may (threadIn f b n)) (D (f .shape) (sharedIn f b) (threadIn f b n) .answer)
+  asked = eq ∙ ap (λ v. isWithheld v (p .answer)) (ew ∙ ap may ex) ∙ ap (λ y. isWithheld (may (threadIn f b n)) (y .answer)) (ep ∙ ap (D (f .shape) (sharedIn f b)) ex)
 
-    pub changes-granted : w ≡ true → (b₂ : List ℕ) → b₂ ≡ effectBytes f b₁ (ofKind k (p .effect))
-        → Looked (may (threadIn f b n)) k f b b₂ n (D (f .shape) (sharedIn f b) (threadIn f b n)) r
-    changes-granted g b₂ e₂ =
-        record {
-          granted = λ e. changes D f b b₁ n x p r ex ep k (h .granted g) b₂ e₂;
-          lacking = λ e. absurd (true≢false (sym g ∙ asked ∙ e));
-        }
+  pub lacks : q ≡ true → (k : ℕ) → LookedAt k b Withdrawn
+  lacks g k = record { ended = λ e. absurd (true≢false (sym g ∙ asked ∙ e)); withheld = λ e. (refl, refl) }
 
-    pub lacks : w ≡ false → Looked (may (threadIn f b n)) k f b b₁ n (D (f .shape) (sharedIn f b) (threadIn f b n)) r
-    lacks g = record { granted = λ e. absurd (true≢false (sym e ∙ sym asked ∙ g)); lacking = lacking }
+  module _ (g : q ≡ false) (b₁ : List ℕ) (r : Answer) where
+    went-on : {k : ℕ} {b′ : List ℕ} → Ended k f b b′ n (D (f .shape) (sharedIn f b) (threadIn f b n)) r → LookedAt k b′ r
+    went-on h = record { ended = λ e. h; withheld = λ e. absurd (true≢false (sym e ∙ sym asked ∙ g)) }
 
-  pub reads-looked : (b₁ : List ℕ) → StoredIf w f b b₁ n p (answersOperation (p .answer)) r
-      → Looked (may (threadIn f b n)) reading f b b₁ n (D (f .shape) (sharedIn f b) (threadIn f b n)) r
-  reads-looked b₁ h =
-      record { granted = λ e. reads D f b b₁ n x p r ex ep (h .granted (asked ∙ e)); lacking = lacking reading b₁ h }
+    pub changes-looked : (k : ℕ) → Stored f b b₁ n p (goesIdle k p) r → (b₂ : List ℕ) → b₂ ≡ effectBytes f b₁ (ofKind k (p .effect))
+        → LookedAt k b₂ r
+    changes-looked k h b₂ e₂ = went-on (changes D f b b₁ n x p r ex ep k h b₂ e₂)
+
+    pub reads-looked : Stored f b b₁ n p (answersOperation (p .answer)) r → LookedAt reading b₁ r
+    reads-looked h = went-on (reads D f b b₁ n x p r ex ep h)
 
 module _ (D : Shape → Shared → Thread → ℕ → Plan) (f : Frame) (b b₁ : List ℕ) (n w : ℕ) (x : Thread) (p : Plan)
     (r : Answer) (ex : x ≡ threadIn f b n) (ep : p ≡ D (f .shape) (sharedIn f b) x w) where
@@ -160,7 +141,11 @@ module _ (D : Shape → Shared → Thread → ℕ → Plan) (f : Frame) (b b₁ 
 
 -- At such a place whose plan hangs on a number.
 module _ (D : Shape → Shared → Thread → ℕ → Plan) (may : Thread → Bool) (f : Frame) (b : List ℕ) (n v : ℕ) (x : Thread) (p : Plan)
-    (r : Answer) (ex : x ≡ threadIn f b n) (ep : p ≡ D (f .shape) (sharedIn f b) x v) (w : Bool) (ew : w ≡ may x) where
-  pub reads-looked-by : (b₁ : List ℕ) → StoredIf w f b b₁ n p (answersOperation (p .answer)) r
+    (ex : x ≡ threadIn f b n) (ep : p ≡ D (f .shape) (sharedIn f b) x v) (w : Bool) (ew : w ≡ may x) (q : Bool)
+    (eq : q ≡ isWithheld w (p .answer)) where
+  pub lacks-by : q ≡ true → (k : ℕ) → Looked (may (threadIn f b n)) k f b b n (D (f .shape) (sharedIn f b) (threadIn f b n) v) Withdrawn
+  lacks-by = lacks (λ s m t. D s m t v) may f b n x p ex ep w ew q eq
+
+  pub reads-looked-by : q ≡ false → (b₁ : List ℕ) (r : Answer) → Stored f b b₁ n p (answersOperation (p .answer)) r
       → Looked (may (threadIn f b n)) reading f b b₁ n (D (f .shape) (sharedIn f b) (threadIn f b n) v) r
-  reads-looked-by = reads-looked (λ s m t. D s m t v) may f b n x p r ex ep w ew
+  reads-looked-by = reads-looked (λ s m t. D s m t v) may f b n x p ex ep w ew q eq

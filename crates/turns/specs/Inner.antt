@@ -1,7 +1,7 @@
 -- What only the contracts of inner functions and the proofs need. A reader of the result may skip this file.
 use Prim.Native.Nat.{ℕ}
 use mathlib.Core.Path.{_≡_}
-use mathlib.Core.Bool.{Bool, true, false}
+use mathlib.Core.Bool.{Bool, true, false, not, _&&_}
 use mathlib.Core.List.{List}
 use lib.Dec.{eqb}
 use Rattle.region.specs.Pick.{pick}
@@ -45,17 +45,12 @@ pub record Ended (k : ℕ) (f : Frame) (b b′ : List ℕ) (n : ℕ) (p : Plan) 
   pub answer : r ≡ p .answer
   pub bytes : b′ ≡ effectBytes f (recordBytes f b n p (goesIdle k p)) (ofKind k (p .effect))
 
--- the answer of a turn that lacks its permission, a being that of its place
-unfoldable pub withheld : Answer → Answer
-withheld a = pick (isUnreadable a) a Withdrawn
+-- whether a turn is to be withdrawn, a being the answer of its place: its permission is not there, and it is not refused 7
+unfoldable pub isWithheld : Bool → Answer → Bool
+isWithheld may a = not may && not (isUnreadable a)
 
--- storing the record where `may` says that the permission is there
-pub record StoredIf (may : Bool) (f : Frame) (b b′ : List ℕ) (n : ℕ) (p : Plan) (idle : Bool) (r : Answer) : Type 0 where
-  pub granted : may ≡ true → Stored f b b′ n p idle r
-  pub lacking : may ≡ false → (r ≡ withheld (p .answer)) × (b′ ≡ b)
-
--- what a turn answers and leaves at a place that decides plan p, where `may` says whether the permission is there; the withdrawal is not
+-- what a turn answers and leaves at a place that decides plan p, where `may` says whether the permission is there; a withdrawal is not
 -- carried out yet
 pub record Looked (may : Bool) (k : ℕ) (f : Frame) (b b′ : List ℕ) (n : ℕ) (p : Plan) (r : Answer) : Type 0 where
-  pub granted : may ≡ true → Ended k f b b′ n p r
-  pub lacking : may ≡ false → (r ≡ withheld (p .answer)) × (b′ ≡ b)
+  pub ended : isWithheld may (p .answer) ≡ false → Ended k f b b′ n p r
+  pub withheld : isWithheld may (p .answer) ≡ true → (r ≡ Withdrawn) × (b′ ≡ b)

@@ -1,12 +1,13 @@
 // A whole turn at each place: the thread's record is loaded, the place decides a plan, the record is stored and
-// the plan's effect carried out. Where the permission lacks that a put's or a take's place looks at, nothing is stored, and the answer
-// withdrawn asks for `withdraw`, which is thus called at one place. The record is stored first, while the fields that the turn left alone are known to be in their
+// the plan's effect carried out. The record is stored first, while the fields that the turn left alone are known to be in their
 // places. Each place has a function of its own, so that its compiled code reads and writes the fields that it needs and no others.
+// A put's or a take's place that lacks its permission answers withdrawn and changes no byte: `withdraw` is then called, at one place for
+// all of them.
 ghost use mathlib.Core.Path.{_≡_};
 ghost use lib.ListN.{length};
 ghost use Rattle.region.specs.Inner.{Within};
 ghost use Rattle.region.specs.Shared.{sharedIn, threadIn};
-ghost use Rattle.region.specs.Thread.{isIdle};
+ghost use Rattle.region.specs.Thread.{atPlace, isIdle};
 ghost use Rattle.access.specs.Inner.{cleaning, detaching, exchanging, freeing, growing, popping, pushing, reading};
 ghost use Rattle.access.specs.Plan.{answersOperation, changesNothing};
 ghost use Rattle.extract.specs.Extract.{handOut, listReadRoot, readRoot, removeHead, removeList};
@@ -14,10 +15,11 @@ ghost use Rattle.insert.specs.Insert.{growDepth, insertAtRoot, insertBelow, rea
 ghost use Rattle.moundify.specs.Moundify.{mendClean, mendReadDepth, mendReadLeft, mendReadNode, mendReadRight, mendSwap};
 ghost use Rattle.permission.specs.Grants.{mayPut, mayTake};
 ghost use Rattle.permission.specs.Withdraw.{withdrawal};
-ghost use Rattle.turns.specs.Inner.{Ended, Looked, Stored, StoredIf, withheld};
+ghost use Rattle.turns.specs.Inner.{Ended, Looked, Stored, isWithheld};
 use access::Plan;
 use region::Answer;
 use region::Frame;
+use region::Place;
 
 // Whether a turn with this answer leaves every byte as it is.
 fn changes_nothing(answer: Answer) -> bool
@@ -88,50 +90,29 @@ fn store_hand(f: Frame, b: &mut [u8], n: u32, plan: Plan) -> Answer
     answer
 }
 
-// The answer of a turn that lacks its permission, given that of its place: refused 7 all the same, else withdrawn.
-fn withheld(answer: Answer) -> Answer
-    ensures { λ r. ⌜ r ≡ withheld answer ⌝ }
-{
-    if permission::is_unreadable(answer) {
-        return answer;
-    }
-    Answer::Withdrawn
-}
-
-// As `store_record`, at a place that looks at a permission: where that lacks, nothing is stored. It is looked at last on each way, so that the
-// compiled code of a place chooses its way as it does without.
-fn store_permitted(f: Frame, b: &mut [u8], n: u32, plan: Plan, may: bool) -> Answer
-    requires { ⌜ Within f (length (now b)) ⌝ }
-    ensures { λ r. ⌜ StoredIf may f (now (b .entry)) (now (b .exit)) n plan (answersOperation (plan .answer)) r ⌝ }
+// Whether the turn is to be withdrawn: its permission is not there, and it is not refused 7. The answer is looked at first, so that the
+// compiled code of each way through a place knows it before the permission is tested.
+fn is_withheld(plan: Plan, may: bool) -> bool
+    ensures { λ r. ⌜ r ≡ isWithheld may (plan .answer) ⌝ }
 {
     let answer = plan.answer;
     if changes_nothing(answer) {
         if may {
-            return answer;
+            return false;
         }
-        return withheld(answer);
+        return !permission::is_unreadable(answer);
     }
-    let record = plan.thread;
-    if answers_operation(answer) {
-        if may {
-            f.store_thread(b, n, record.gone_idle());
-            return answer;
-        }
-        return Answer::Withdrawn;
-    }
-    if may {
-        f.store_thread(b, n, record);
-        return answer;
-    }
-    Answer::Withdrawn
+    !may
 }
 
-// Carries out the withdrawal of thread n, which a turn has answered.
-pub fn withdraw(f: Frame, b: &mut [u8], n: u32) -> Answer
+// Carries out the withdrawal of thread n, which stands at this place. The place is given and not read again, so that the compiled code of a
+// turn, which has gone by it, need not keep it until here.
+pub fn withdraw(f: Frame, b: &mut [u8], n: u32, place: Place) -> Answer
     requires { ⌜ Within f (length (now b)) ⌝ }
-    ensures { λ r. ⌜ Ended freeing f (now (b .entry)) (now (b .exit)) n (withdrawal (threadIn f (now (b .entry)) n)) r ⌝ }
+    ensures { λ r. ⌜ Ended freeing f (now (b .entry)) (now (b .exit)) n (withdrawal (atPlace (threadIn f (now (b .entry)) n) place)) r ⌝ }
 {
-    let plan = permission::withdrawal(f.load_thread(b, n));
+    let t = f.load_thread(b, n);
+    let plan = permission::withdrawal(t.at_place(place));
     let effect = plan.effect;
     let answer = store_hand(f, b, n, plan);
     access::carry_freeing(f, b, effect);
@@ -145,7 +126,10 @@ pub fn turn_read_depth(f: Frame, b: &mut [u8], n: u32) -> Answer
 {
     let t = f.load_thread(b, n);
     let plan = insert::read_depth(f, b, t);
-    store_permitted(f, b, n, plan, permission::may_put(t))
+    if is_withheld(plan, permission::may_put(t)) {
+        return Answer::Withdrawn;
+    }
+    store_record(f, b, n, plan)
 }
 
 // I2
@@ -155,7 +139,10 @@ pub fn turn_read_leaf(f: Frame, b: &mut [u8], n: u32, choice: u32) -> Answer
 {
     let t = f.load_thread(b, n);
     let plan = insert::read_leaf(f, b, t, choice);
-    store_permitted(f, b, n, plan, permission::may_put(t))
+    if is_withheld(plan, permission::may_put(t)) {
+        return Answer::Withdrawn;
+    }
+    store_record(f, b, n, plan)
 }
 
 // I3
@@ -165,7 +152,10 @@ pub fn turn_read_ancestor(f: Frame, b: &mut [u8], n: u32) -> Answer
 {
     let t = f.load_thread(b, n);
     let plan = insert::read_ancestor(f, b, t);
-    store_permitted(f, b, n, plan, permission::may_put(t))
+    if is_withheld(plan, permission::may_put(t)) {
+        return Answer::Withdrawn;
+    }
+    store_record(f, b, n, plan)
 }
 
 // I4
@@ -175,12 +165,12 @@ pub fn turn_grow_depth(f: Frame, b: &mut [u8], n: u32) -> Answer
 {
     let t = f.load_thread(b, n);
     let plan = insert::grow_depth(f, b, t);
-    let effect = plan.effect;
-    let may = permission::may_put(t);
-    let answer = store_permitted(f, b, n, plan, may);
-    if may {
-        access::carry_growth(f, b, effect);
+    if is_withheld(plan, permission::may_put(t)) {
+        return Answer::Withdrawn;
     }
+    let effect = plan.effect;
+    let answer = store_record(f, b, n, plan);
+    access::carry_growth(f, b, effect);
     answer
 }
 
@@ -191,7 +181,10 @@ pub fn turn_read_target(f: Frame, b: &mut [u8], n: u32) -> Answer
 {
     let t = f.load_thread(b, n);
     let plan = insert::read_target(f, b, t);
-    store_permitted(f, b, n, plan, permission::may_put(t))
+    if is_withheld(plan, permission::may_put(t)) {
+        return Answer::Withdrawn;
+    }
+    store_record(f, b, n, plan)
 }
 
 // I6
@@ -201,12 +194,12 @@ pub fn turn_insert_at_root(f: Frame, b: &mut [u8], n: u32) -> Answer
 {
     let t = f.load_thread(b, n);
     let plan = insert::insert_at_root(f, b, t);
-    let effect = plan.effect;
-    let may = permission::may_put(t);
-    let answer = store_permitted(f, b, n, plan, may);
-    if may {
-        access::carry_push(f, b, effect);
+    if is_withheld(plan, permission::may_put(t)) {
+        return Answer::Withdrawn;
     }
+    let effect = plan.effect;
+    let answer = store_record(f, b, n, plan);
+    access::carry_push(f, b, effect);
     answer
 }
 
@@ -217,7 +210,10 @@ pub fn turn_read_parent(f: Frame, b: &mut [u8], n: u32) -> Answer
 {
     let t = f.load_thread(b, n);
     let plan = insert::read_parent(f, b, t);
-    store_permitted(f, b, n, plan, permission::may_put(t))
+    if is_withheld(plan, permission::may_put(t)) {
+        return Answer::Withdrawn;
+    }
+    store_record(f, b, n, plan)
 }
 
 // I8
@@ -227,12 +223,12 @@ pub fn turn_insert_below(f: Frame, b: &mut [u8], n: u32) -> Answer
 {
     let t = f.load_thread(b, n);
     let plan = insert::insert_below(f, b, t);
-    let effect = plan.effect;
-    let may = permission::may_put(t);
-    let answer = store_permitted(f, b, n, plan, may);
-    if may {
-        access::carry_push(f, b, effect);
+    if is_withheld(plan, permission::may_put(t)) {
+        return Answer::Withdrawn;
     }
+    let effect = plan.effect;
+    let answer = store_record(f, b, n, plan);
+    access::carry_push(f, b, effect);
     answer
 }
 
@@ -243,7 +239,10 @@ pub fn turn_read_root(f: Frame, b: &mut [u8], n: u32) -> Answer
 {
     let t = f.load_thread(b, n);
     let plan = extract::read_root(f, b, t);
-    store_permitted(f, b, n, plan, permission::may_take(t))
+    if is_withheld(plan, permission::may_take(t)) {
+        return Answer::Withdrawn;
+    }
+    store_record(f, b, n, plan)
 }
 
 // E2
@@ -253,12 +252,12 @@ pub fn turn_remove_head(f: Frame, b: &mut [u8], n: u32) -> Answer
 {
     let t = f.load_thread(b, n);
     let plan = extract::remove_head(f, b, t);
-    let effect = plan.effect;
-    let may = permission::may_take(t);
-    let answer = store_permitted(f, b, n, plan, may);
-    if may {
-        access::carry_pop(f, b, effect);
+    if is_withheld(plan, permission::may_take(t)) {
+        return Answer::Withdrawn;
     }
+    let effect = plan.effect;
+    let answer = store_record(f, b, n, plan);
+    access::carry_pop(f, b, effect);
     answer
 }
 
@@ -329,7 +328,10 @@ pub fn turn_list_read_root(f: Frame, b: &mut [u8], n: u32) -> Answer
 {
     let t = f.load_thread(b, n);
     let plan = extract::list_read_root(f, b, t);
-    store_permitted(f, b, n, plan, permission::may_take(t))
+    if is_withheld(plan, permission::may_take(t)) {
+        return Answer::Withdrawn;
+    }
+    store_record(f, b, n, plan)
 }
 
 // 18
@@ -339,12 +341,12 @@ pub fn turn_remove_list(f: Frame, b: &mut [u8], n: u32) -> Answer
 {
     let t = f.load_thread(b, n);
     let plan = extract::remove_list(f, b, t);
-    let effect = plan.effect;
-    let may = permission::may_take(t);
-    let answer = store_permitted(f, b, n, plan, may);
-    if may {
-        access::carry_detaching(f, b, effect);
+    if is_withheld(plan, permission::may_take(t)) {
+        return Answer::Withdrawn;
     }
+    let effect = plan.effect;
+    let answer = store_record(f, b, n, plan);
+    access::carry_detaching(f, b, effect);
     answer
 }
 

@@ -3,7 +3,7 @@ use borrow.Author.Needs.{needs}
 use Rattle.insert.specs.Insert.{growDepth}
 use Rattle.permission.specs.Grants.{mayPut}
 use Rattle.turns.proofs.turn_grow_depth.Statement.{statement}
-use Rattle.turns.proofs.Ways.{changes-granted, lacks}
+use Rattle.turns.proofs.Ways.{changes-looked, lacks}
 use Rattle.turns.proofs.turn_grow_depth.Tie as tie
 
 pub turn-grow-depth-spec : {M : Type 1} → statement M
@@ -14,8 +14,9 @@ turn-grow-depth-spec =
     (λ c κs. search needs)
     (λ c κs. search needs)
     (λ c κs. search needs)
+    (λ c. search needs)
+    (λ c. search (lacks (growDepth) mayPut))
+    (λ c κs. search needs)
     (λ c κs. search needs)
     (λ c. search needs)
-    (λ c. search (changes-granted (growDepth) mayPut))
-    (λ c. search needs)
-    (λ c. search (lacks (growDepth) mayPut)))
+    (λ c. search (changes-looked (growDepth) mayPut)))

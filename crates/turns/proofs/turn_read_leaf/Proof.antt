@@ -3,7 +3,7 @@ use borrow.Author.Needs.{needs}
 use Rattle.insert.specs.Insert.{readLeaf}
 use Rattle.permission.specs.Grants.{mayPut}
 use Rattle.turns.proofs.turn_read_leaf.Statement.{statement}
-use Rattle.turns.proofs.Ways.{reads-looked-by}
+use Rattle.turns.proofs.Ways.{lacks-by, reads-looked-by}
 use Rattle.turns.proofs.turn_read_leaf.Tie as tie
 
 pub turn-read-leaf-spec : {M : Type 1} → statement M
@@ -13,6 +13,9 @@ turn-read-leaf-spec =
     (λ c κs. search needs)
     (λ c κs. search needs)
     (λ c κs. search needs)
+    (λ c κs. search needs)
+    (λ c. search needs)
+    (λ c. search (lacks-by (readLeaf) mayPut))
     (λ c κs. search needs)
     (λ c. search needs)
     (λ c. search (reads-looked-by (readLeaf) mayPut)))

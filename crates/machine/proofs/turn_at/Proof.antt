@@ -1,17 +1,13 @@
--- `machine::turn_at_place` meets its contract: refused without a thread, idle, or a turn at the place where the thread stands. Assumes
--- nothing.
+-- `machine::turn_at` meets its contract: idle, or a turn at the place where the thread stands. Assumes nothing.
 use borrow.Author.Needs.{needs}
-use Rattle.machine.proofs.turn_at_place.Statement.{statement}
-use Rattle.machine.proofs.Ways.{no-turn, rested, turned, turned-put, turned-take}
-use Rattle.machine.proofs.turn_at_place.Tie as tie
+use Rattle.machine.proofs.turn_at.Statement.{statement}
+use Rattle.machine.proofs.Ways.{rested, turned, turned-put, turned-take}
+use Rattle.machine.proofs.turn_at.Tie as tie
 
-pub turn-at-place-spec : {M : Type 1} → statement M
-turn-at-place-spec =
+pub turn-at-spec : {M : Type 1} → statement M
+turn-at-spec =
     tie.close
     (tie.spec
-    (λ c κs. search needs)
-    (λ c. search no-turn)
-    (λ c κs. search needs)
     (λ c. search needs)
     (λ c. search needs)
     (λ c κs. search needs)
@@ -51,7 +47,6 @@ turn-at-place-spec =
     (λ c κs. search needs)
     (λ c. search needs)
     (λ c κs. search needs)
-    (λ c. search needs)
     (λ c. search rested)
     (λ c. search needs)
     (λ c. search turned-put)
