@@ -1,5 +1,5 @@
--- What begins, decides and answers an operation, and how often an operation decides. "An operation begins with a put or take call that is
--- not refused", or with a list (request 1). "It is answered by the first turn of its thread, before that thread's next beginning, that answers
+-- What begins, decides, answers and withdraws an operation, and how often an operation decides. "An operation begins with a put or take call that
+-- is not refused", or with a list (request 1). "It is answered by the first turn of its thread, before that thread's next beginning, that answers
 -- inserted, took or empty.", and a list by later ones too. "A deciding access belongs to its thread's operation begun last."
 use Prim.Native.Nat.{ℕ, _+_, _≤_}
 use mathlib.Core.Path.{_≡_}
