@@ -24,14 +24,14 @@ use Rattle.region.specs.declared.record.Node.{Node}
 use Rattle.region.specs.declared.record.NodeCopy.{NodeCopy}
 use Rattle.region.specs.declared.shape.Shape.{Shape}
 use Rattle.region.specs.declared.thread.Thread.{Thread}
-use Rattle.region.proofs.Levels.{level-most}
+use Rattle.region.proofs.Levels.{level-most, power-doubles}
 use Rattle.region.proofs.Shapes.{and-right, between-least, between-most}
 use Rattle.access.specs.Order.{itemLe, itemLt, valueOf}
 use Rattle.access.specs.Plan.{plan, onTo, refused}
 use Rattle.access.specs.Read.{isLevel, isSpent, readNode, sameNode, updated}
 use Rattle.access.specs.declared.effect.Effect.the-variants.{Grow, Push}
 use Rattle.access.specs.declared.plan.Plan.{Plan}
-use Rattle.insert.specs.Insert.{searching, afterAncestorRead, nodeAndParentSame, failedPlace, growDepth, hasMiddle, insertAt, insertAtRoot, insertBelow, afterFailedTry, leafOf, afterLeafRead, middleLevel, nextTries, readAncestor, readDepth, readLeaf, readParent, readTarget, searchOn, targetPlace}
+use Rattle.insert.specs.Insert.{searching, afterAncestorRead, nodeAndParentSame, failedPlace, growDepth, hasMiddle, hasTriedDeepest, insertAt, insertAtRoot, insertBelow, isLeafOf, leafAfterFailedTry, afterFailedTry, leafOf, leafToRead, afterLeafRead, middleLevel, nextLeaf, nextTries, readAncestor, readDepth, readLeaf, readParent, readTarget, searchOn, targetPlace}
 
 -- I1, and the search.
 pub depth-read : (f : Frame) (b : List ℕ) (t t₁ t₂ : Thread) (d : ℕ) (r : Plan) → d ≡ word b (f .depth) → t₁ ≡ withDepth t d
@@ -66,19 +66,66 @@ pub some-level : (x l : ℕ) (q : Bool) → q ≡ between 1 x l → not q ≡ fa
 some-level x l q e n = between-least 1 x l (sym e ∙ not-false q n)
 
 -- I2.
-module _ (d choice m : ℕ) (e : m ≡ mark d) where
+module _ (d m : ℕ) (e : m ≡ mark d) where
   pub some-leaf : 0 < m
   some-leaf = rw e (pow-pos (d - 1))
 
-  pub leaf-fits : d ≤ 12 → m + choice % m < 2 ^ 32
-  leaf-fits h =
-      let p : mark d ≤ 2048 = pow-mono {i = d - 1} {j = 11} (omega arith) in
-      let q : choice % m < m = mod-lt choice some-leaf in
-      omega arith
+  few-leaves : d ≤ 12 → m ≤ 2048
+  few-leaves h = let p : mark d ≤ 2048 = pow-mono {i = d - 1} {j = 11} (omega arith) in omega arith
 
-  pub leaf-named : m + choice % m ≡ leafOf d choice
-  unfolding leafOf
-  leaf-named = ap (λ x. x + choice % x) e
+  pub last-fits : d ≤ 12 → m + (m - 1) < 2 ^ 32
+  last-fits h = omega (arith, few-leaves h)
+
+  pub last-named : 1 ≤ d → m + (m - 1) ≡ 2 ^ d - 1
+  last-named h = omega (arith, e, power-doubles d h)
+
+  module _ (choice : ℕ) where
+    pub leaf-fits : d ≤ 12 → m + choice % m < 2 ^ 32
+    leaf-fits h = omega (arith, few-leaves h, mod-lt choice some-leaf)
+
+    pub leaf-named : m + choice % m ≡ leafOf d choice
+    unfolding leafOf
+    leaf-named = ap (λ x. x + choice % x) e
+
+module _ (d leaf last : ℕ) (e : last ≡ 2 ^ d - 1) where
+  pub leaf-tested : (first : ℕ) (q : Bool) → first ≡ mark d → q ≡ between first leaf last → q ≡ isLeafOf d leaf
+  unfolding isLeafOf
+  leaf-tested first q ef eq = eq ∙ (λ i. between (ef i) leaf (e i))
+
+  pub leaf-follows : leaf < last → leaf + 1 ≡ nextLeaf d leaf
+  unfolding nextLeaf pick
+  leaf-follows h = rw (← e, lt-ltb leaf last h) refl
+
+  pub first-follows : last ≤ leaf → (first : ℕ) → first ≡ mark d → first ≡ nextLeaf d leaf
+  unfolding nextLeaf pick
+  first-follows h first ef = rw (← e, le-ltb leaf last h) ef
+
+module _ (s : Shape) (t : Thread) where
+  pub not-deepest : (t .depth ≡ s .depth → ⊥) → false ≡ hasTriedDeepest s t
+  unfolding hasTriedDeepest
+  not-deepest n = rw (ne-eqb (t .depth) (s .depth) n) refl
+
+  pub deepest-tested : t .depth ≡ s .depth → (q : Bool) → q ≡ isLeafOf (t .depth) (t .search .leaf) → q ≡ hasTriedDeepest s t
+  unfolding hasTriedDeepest
+  deepest-tested h q e = rw (eq-eqb (t .depth) (s .depth) h) e
+
+  module _ (choice : ℕ) (q : Bool) (eq : q ≡ hasTriedDeepest s t) where
+    pub leaf-word-counts : q ≡ true → t .search .leaf ≡ leafToRead s t choice
+    unfolding leafToRead pick
+    leaf-word-counts h = rw (← eq, h) refl
+
+    pub choice-counts : q ≡ false → (leaf : ℕ) → leaf ≡ leafOf (t .depth) choice → leaf ≡ leafToRead s t choice
+    unfolding leafToRead pick
+    choice-counts h leaf e = rw (← eq, h) e
+
+  module _ (leaf : ℕ) where
+    pub leaf-stays : (t .depth ≡ s .depth → ⊥) → leaf ≡ leafAfterFailedTry s t leaf
+    unfolding leafAfterFailedTry pick
+    leaf-stays n = rw (ne-eqb (t .depth) (s .depth) n) refl
+
+    pub leaf-moves : t .depth ≡ s .depth → (next : ℕ) → next ≡ nextLeaf (t .depth) leaf → next ≡ leafAfterFailedTry s t leaf
+    unfolding leafAfterFailedTry pick
+    leaf-moves h next e = rw (eq-eqb (t .depth) (s .depth) h) e
 
 module _ (s : Shape) (t : Thread) where
   pub tries-more : t .search .tries < s .threshold → t .search .tries + 1 ≡ nextTries s t
@@ -103,11 +150,11 @@ module _ (s : Shape) (t : Thread) where
     full-depth h g = rw (← en, le-ltb n (s .threshold) h, le-ltb (t .depth) (s .depth) g) refl
 
   module _ (leaf : ℕ) (q : NodeCopy) (r : Plan) where
-    pub try-failed : (n : ℕ) (t₁ t₂ : Thread) (p : Place) → n ≡ nextTries s t
-        → t₁ ≡ withSearch t (searching leaf n (t .search .lo) (t .search .hi)) → t₂ ≡ withFirst t₁ q → p ≡ failedPlace s t
+    pub try-failed : (next n : ℕ) (t₁ t₂ : Thread) (p : Place) → next ≡ leafAfterFailedTry s t leaf → n ≡ nextTries s t
+        → t₁ ≡ withSearch t (searching next n (t .search .lo) (t .search .hi)) → t₂ ≡ withFirst t₁ q → p ≡ failedPlace s t
         → r ≡ onTo t₂ p → r ≡ afterFailedTry s t leaf q
     unfolding afterFailedTry
-    try-failed n t₁ t₂ p en e₁ e₂ ep e = cc
+    try-failed next n t₁ t₂ p el en e₁ e₂ ep e = cc
 
     module _ (v : Item) (ev : v ≡ valueOf q) (b : Bool) (eb : b ≡ itemLe (t .item) v) where
       leaf-test : b ≡ itemLe (t .item) (valueOf q)
@@ -140,7 +187,7 @@ module _ (s : Shape) (m : Shared) (t : Thread) (choice : ℕ) (r : Plan) (q : Bo
   unfolding readLeaf pick
   no-leaves n e = rw (← eq, not-true q n) e
 
-  pub leaf-reached : not q ≡ false → (l : ℕ) (x : NodeCopy) → l ≡ leafOf (t .depth) choice → x ≡ readNode m l → r ≡ afterLeafRead s t l x
+  pub leaf-reached : not q ≡ false → (l : ℕ) (x : NodeCopy) → l ≡ leafToRead s t choice → x ≡ readNode m l → r ≡ afterLeafRead s t l x
       → r ≡ readLeaf s m t choice
   unfolding readLeaf pick
   leaf-reached n l x el ex e =

@@ -46,6 +46,29 @@ searchOn t =
 unfoldable pub leafOf : ℕ → ℕ → ℕ
 leafOf d choice = 2 ^ (d - 1) + choice % 2 ^ (d - 1)
 
+-- "Level j holds nodes 2^(j−1) to 2^j − 1"
+unfoldable pub isLeafOf : ℕ → ℕ → Bool
+isLeafOf d leaf = between (2 ^ (d - 1)) leaf (2 ^ d - 1)
+
+-- "The leaf word already tells whether there was such a try" (request 8), one with d at D: it then is a leaf of level D
+unfoldable pub hasTriedDeepest : Shape → Thread → Bool
+unfolding isLeafOf
+hasTriedDeepest s t = eqb (t .depth) (s .depth) && isLeafOf (t .depth) (t .search .leaf)
+
+-- "the choice counts only at the first try since the put began at which d was D" (request 8); with d below D it always counts
+unfoldable pub leafToRead : Shape → Thread → ℕ → ℕ
+unfolding leafOf hasTriedDeepest
+leafToRead s t choice = pick (hasTriedDeepest s t) (t .search .leaf) (leafOf (t .depth) choice)
+
+-- "the next leaf (after the last, the first)" of level d
+unfoldable pub nextLeaf : ℕ → ℕ → ℕ
+nextLeaf d leaf = pick (ltb leaf (2 ^ d - 1)) (leaf + 1) (2 ^ (d - 1))
+
+-- "each failed try at D puts the next leaf .. in the leaf word for the next try" (request 8); one with d below D, the leaf that it read
+unfoldable pub leafAfterFailedTry : Shape → Thread → ℕ → ℕ
+unfolding nextLeaf
+leafAfterFailedTry s t leaf = pick (eqb (t .depth) (s .depth)) (nextLeaf (t .depth) leaf) leaf
+
 -- "tries + 1", which at I2 is at most H
 unfoldable pub nextTries : Shape → Thread → ℕ
 nextTries s t = min (t .search .tries + 1) (s .threshold)
@@ -56,9 +79,11 @@ unfolding nextTries
 failedPlace s t = pick (ltb (nextTries s t) (s .threshold)) ReadLeaf (pick (ltb (t .depth) (s .depth)) GrowDepth ReadDepth)
 
 unfoldable pub afterFailedTry : Shape → Thread → ℕ → NodeCopy → Plan
-unfolding nextTries failedPlace
+unfolding leafAfterFailedTry nextTries failedPlace
 afterFailedTry s t leaf q =
-    onTo (withFirst (withSearch t (searching leaf (nextTries s t) (t .search .lo) (t .search .hi))) q) (failedPlace s t)
+    onTo
+    (withFirst (withSearch t (searching (leafAfterFailedTry s t leaf) (nextTries s t) (t .search .lo) (t .search .hi))) q)
+    (failedPlace s t)
 
 -- "If val ≥ v: lo 1, hi d, search."
 unfoldable pub afterLeafRead : Shape → Thread → ℕ → NodeCopy → Plan
@@ -71,11 +96,11 @@ afterLeafRead s t leaf q =
 
 -- I2 (lines 16 to 20); d outside 1..D is refused 7
 unfoldable pub readLeaf : Shape → Shared → Thread → ℕ → Plan
-unfolding leafOf afterLeafRead
+unfolding leafToRead afterLeafRead
 readLeaf s m t choice =
     pick
     (isLevel s (t .depth))
-    (afterLeafRead s t (leafOf (t .depth) choice) (readNode m (leafOf (t .depth) choice)))
+    (afterLeafRead s t (leafToRead s t choice) (readNode m (leafToRead s t choice)))
     (refused t unreadable)
 
 -- "val ≥ v sets hi to it, else lo to it + 1."

@@ -37,8 +37,8 @@ use Rattle.access.specs.declared.effect.Effect.the-variants.{Nothing, Grow, Pus
 use Rattle.access.specs.declared.plan.Plan.{Plan}
 use Rattle.access.proofs.OrderLaws.{item-not-less, item-refl, item-total, item-trans}
 use Rattle.access.proofs.ReadLaws.{is-clean, is-dirty, same-node}
-use Rattle.insert.specs.Insert.{searching, readDepth, searchOn, leafOf, nextTries, failedPlace, afterFailedTry, afterLeafRead, readLeaf, afterAncestorRead, middleLevel, hasMiddle, readAncestor, growDepth, targetPlace, readTarget, insertAt, insertAtRoot, readParent, nodeAndParentSame, insertBelow}
-use Rattle.insert.proofs.Laws.{node-same, parent-same}
+use Rattle.insert.specs.Insert.{searching, readDepth, searchOn, leafAfterFailedTry, leafToRead, nextTries, failedPlace, afterFailedTry, afterLeafRead, readLeaf, afterAncestorRead, middleLevel, hasMiddle, readAncestor, growDepth, targetPlace, readTarget, insertAt, insertAtRoot, readParent, nodeAndParentSame, insertBelow}
+use Rattle.insert.proofs.Laws.{LeafOf, node-same, parent-same, read-leaf}
 use Rattle.extract.specs.Extract.{afterListRemoval, afterRemoval, afterRootRead, casRoot, handOut, handedOut, listReadRoot, readRoot, removeHead, removeList}
 use Rattle.moundify.specs.Moundify.{returning, mendReadNode, afterDepthRead, mendReadDepth, mendReadLeft, marked, lessBelow, childLess, afterChildrenRead, mendReadRight, exchangeAt, nodeAndChildSame, exchangeWith, mendSwap, cleanAt, mendClean, placeAfter, returned, returnAnswer}
 use Rattle.permission.specs.Grants.{mayPut, mayTake}
@@ -228,33 +228,30 @@ module _ (s : Shape) (r : InRange s) (m : Shared) (own : ℕ → ℕ) {all : ℕ
     is-level = is-between 1 (th .depth) (s .depth) (l .0) (omega (arith, l .1, g .depth-most))
 
     module _ (choice : ℕ) where
-      leaf-most : leafOf (th .depth) choice < 2 ^ th .depth
-      unfolding leafOf
-      leaf-most = omega (arith, mod-lt choice (pow-pos (th .depth - 1)), power-doubles (th .depth) (l .0))
+      abbrev leaf : ℕ
+      leaf = leafToRead s th choice
 
-      leaf-in-tree : InTree m (leafOf (th .depth) choice)
-      unfolding leafOf
+      at-depth : LeafOf (th .depth) leaf
+      at-depth = read-leaf s th (l .0) choice
+
+      leaf-in-tree : InTree m leaf
       leaf-in-tree = (
-        omega (arith, pow-pos (th .depth - 1)),
-        omega (arith, leaf-most, pow-mono {i = th .depth} {j = m .depth} (l .1)),
+        omega (arith, at-depth .least, pow-pos (th .depth - 1)),
+        omega (arith, at-depth .most, pow-mono {i = th .depth} {j = m .depth} (l .1)),
       )
 
-      leaf-level : th .depth ≤ level (leafOf (th .depth) choice)
-      unfolding leafOf
-      leaf-level =
-          let leaf = leafOf (th .depth) choice in
-          level-at-least leaf (th .depth) (leaf-in-tree .0) (few-nodes leaf (leaf-in-tree .1)) (omega arith)
+      leaf-level : th .depth ≤ level leaf
+      leaf-level = level-at-least leaf (th .depth) (leaf-in-tree .0) (few-nodes leaf (leaf-in-tree .1)) (at-depth .least)
 
       leaf-planned : Fits (readLeaf s m th choice)
       unfolding readLeaf afterLeafRead afterFailedTry failedPlace withFirst withCopies withSearch
       leaf-planned =
-          let leaf = leafOf (th .depth) choice in
           let q = readNode m leaf in
           pick-good Fits (isLevel s (th .depth))
           (λ a. pick-good Fits (itemLe (th .item) (valueOf q))
           (λ b. search-planned (withFirst (withSearch th (searching leaf (th .search .tries) 1 (th .depth))) q) refl h
           (omega arith) (l .0) leaf-level leaf-in-tree)
-          (λ b. let u = withFirst (withSearch th (searching leaf (nextTries s th) (th .search .lo) (th .search .hi))) q in
+          (λ b. let u = withFirst (withSearch th (searching (leafAfterFailedTry s th leaf) (nextTries s th) (th .search .lo) (th .search .hi))) q in
           goes-on u (failedPlace s th) refl
           (pick-good (At s m u op) (ltb (nextTries s th) (s .threshold)) (λ k. (h, l))
           (λ k. pick-good (At s m u op) (ltb (th .depth) (s .depth)) (λ d. (h, l, ltb-true (th .depth) (s .depth) d)) (λ d. h)))))

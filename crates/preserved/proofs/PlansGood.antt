@@ -35,7 +35,8 @@ use Rattle.access.specs.declared.effect.Effect.{Effect}
 use Rattle.access.specs.declared.effect.Effect.the-variants.{Nothing, Grow, Push, Pop, Exchange, Clean, Detach, Free}
 use Rattle.access.specs.declared.plan.Plan.{Plan}
 use Rattle.access.proofs.ReadLaws.{next-counter, updated-counter, updated-dirty, updated-first}
-use Rattle.insert.specs.Insert.{searching, readDepth, searchOn, leafOf, nextTries, failedPlace, afterFailedTry, afterLeafRead, readLeaf, afterAncestorRead, middleLevel, hasMiddle, readAncestor, growDepth, targetPlace, readTarget, insertAt, insertAtRoot, readParent, insertBelow}
+use Rattle.insert.specs.Insert.{searching, readDepth, searchOn, leafAfterFailedTry, leafToRead, nextTries, failedPlace, afterFailedTry, afterLeafRead, readLeaf, afterAncestorRead, middleLevel, hasMiddle, readAncestor, growDepth, targetPlace, readTarget, insertAt, insertAtRoot, readParent, insertBelow}
+use Rattle.insert.proofs.Laws.{LeafOf, left-leaf, read-leaf}
 use Rattle.extract.specs.Extract.{afterRootRead, readRoot, listReadRoot, afterRemoval, afterListRemoval, casRoot, removeHead, removeList, handedOut, handOut}
 use Rattle.moundify.specs.Moundify.{returning, mendReadNode, afterDepthRead, mendReadDepth, mendReadLeft, marked, childLess, afterChildrenRead, mendReadRight, exchangeAt, nodeAndChildSame, exchangeWith, mendSwap, cleanAt, mendClean, placeAfter, returned, returnAnswer}
 use Rattle.permission.specs.Withdraw.{isPutPlace, withdrawal}
@@ -230,36 +231,40 @@ module _ (s : Shape) (r : InRange s) (m : Shared) (sm : SharedGood s m) where
         (λ k. refused-good s u gu unreadable))
 
     -- I2
-    leaf-few : (d c : ℕ) → isLevel s d ≡ true → leafOf d c ≤ nodeCount s
-    unfolding isLevel leafOf
-    leaf-few d c e =
-        let l = between-least 1 d (s .depth) e in
-        let u = between-most 1 d (s .depth) e in
-        omega (arith, mod-lt c (pow-pos (d - 1)), power-doubles d l, pow-mono {i = d} {j = s .depth} u)
+    module _ (at-level : isLevel s (t .depth) ≡ true) (leaf : ℕ) (h : LeafOf (t .depth) leaf) (q : NodeCopy) (hq : CopyGood (s .cells) q) where
+      some-depth : 1 ≤ t .depth
+      unfolding isLevel
+      some-depth = between-least 1 (t .depth) (s .depth) at-level
 
-    pub afterFailedTry-good : (leaf : ℕ) → leaf ≤ nodeCount s → (q : NodeCopy) → CopyGood (s .cells) q → PlanGood s (afterFailedTry s t leaf q)
-    unfolding afterFailedTry failedPlace nextTries withFirst withSearch
-    afterFailedTry-good leaf hl q hq =
-        let x = searching leaf (nextTries s t) (t .search .lo) (t .search .hi) in
-        let u = withFirst (withSearch t x) q in
-        onTo-good s u
-        (fields-first s (withSearch t x) (fields-search s t g x hl (omega arith) (g .lo) (g .hi)) q hq)
-        (failedPlace s t)
-        (pick-good (PlaceGood s u) (ltb (nextTries s t) (s .threshold)) (λ h. ltb-true (nextTries s t) (s .threshold) h)
-        (λ h. pick-good (PlaceGood s u) (ltb (t .depth) (s .depth)) (λ k. tt) (λ k. tt)))
+      leaf-few : (leaf : ℕ) → LeafOf (t .depth) leaf → leaf ≤ nodeCount s
+      leaf-few leaf h = omega (arith, h .most, pow-mono {i = t .depth} {j = s .depth} (g .depth))
 
-    pub afterLeafRead-good : (leaf : ℕ) → leaf ≤ nodeCount s → (q : NodeCopy) → CopyGood (s .cells) q → PlanGood s (afterLeafRead s t leaf q)
-    unfolding afterLeafRead
-    afterLeafRead-good leaf hl q hq =
-        pick-good (PlanGood s) (itemLe (t .item) (valueOf q))
-        (λ h. searchOn-good _ (searched-good leaf 1 (t .depth) hl (r .depth-least) (g .depth) q hq))
-        (λ h. afterFailedTry-good leaf hl q hq)
+      afterFailedTry-good : PlanGood s (afterFailedTry s t leaf q)
+      unfolding afterFailedTry failedPlace nextTries withFirst withSearch
+      afterFailedTry-good =
+          let next = leafAfterFailedTry s t leaf in
+          let x = searching next (nextTries s t) (t .search .lo) (t .search .hi) in
+          let u = withFirst (withSearch t x) q in
+          onTo-good s u
+          (fields-first s (withSearch t x)
+          (fields-search s t g x (leaf-few next (left-leaf s t some-depth leaf h)) (omega arith) (g .lo) (g .hi)) q hq)
+          (failedPlace s t)
+          (pick-good (PlaceGood s u) (ltb (nextTries s t) (s .threshold)) (λ h. ltb-true (nextTries s t) (s .threshold) h)
+          (λ h. pick-good (PlaceGood s u) (ltb (t .depth) (s .depth)) (λ k. tt) (λ k. tt)))
+
+      afterLeafRead-good : PlanGood s (afterLeafRead s t leaf q)
+      unfolding afterLeafRead
+      afterLeafRead-good =
+          pick-good (PlanGood s) (itemLe (t .item) (valueOf q))
+          (λ e. searchOn-good _ (searched-good leaf 1 (t .depth) (leaf-few leaf h) (r .depth-least) (g .depth) q hq))
+          (λ e. afterFailedTry-good)
 
     pub readLeaf-good : (c : ℕ) → PlanGood s (readLeaf s m t c)
-    unfolding readLeaf
+    unfolding readLeaf isLevel
     readLeaf-good c =
+        let leaf = leafToRead s t c in
         pick-good (PlanGood s) (isLevel s (t .depth))
-        (λ h. afterLeafRead-good (leafOf (t .depth) c) (leaf-few (t .depth) c h) _ (read-good (leafOf (t .depth) c)))
+        (λ h. afterLeafRead-good h leaf (read-leaf s t (between-least 1 (t .depth) (s .depth) h) c) _ (read-good leaf))
         (λ h. refused-good s t gt unreadable)
 
     -- I3: the middle lies below hi

@@ -4,6 +4,9 @@ use Rattle.insert.proofs.after_failed_try.Statement.{statement}
 use Rattle.insert.proofs.Ways.{try-failed}
 use Rattle.insert.proofs.after_failed_try.Tie as tie
 
+leaf-after-failed-try-requires : tie.Need-leaf-after-failed-try-requires
+leaf-after-failed-try-requires c κs = search needs
+
 next-tries-requires : tie.Need-next-tries-requires
 next-tries-requires c κs = search needs
 
@@ -26,6 +29,7 @@ pub after-failed-try-spec : {M : Type 1} → statement M
 after-failed-try-spec =
     tie.close
     (tie.spec
+    leaf-after-failed-try-requires
     next-tries-requires
     with-search-requires
     with-first-requires

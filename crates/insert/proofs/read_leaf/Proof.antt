@@ -13,14 +13,14 @@ refused-requires c κs = search needs
 returns : tie.Need-returns
 returns c = search no-leaves
 
-leaf-of-requires : tie.Need-leaf-of-requires
-leaf-of-requires c κs = (search level-some, search level-few)
+leaf-to-read-requires : tie.Need-leaf-to-read-requires
+leaf-to-read-requires c κs = (search level-some, search level-few)
 
 read-node-requires : tie.Need-read-node-requires
 read-node-requires c κs = search needs
 
 after-leaf-read-requires : tie.Need-after-leaf-read-requires
-after-leaf-read-requires c κs = search needs
+after-leaf-read-requires c κs = (search level-some, search level-few)
 
 returns-2 : tie.Need-returns-2
 returns-2 c = search leaf-reached
@@ -32,7 +32,7 @@ read-leaf-spec =
     is-level-requires
     refused-requires
     returns
-    leaf-of-requires
+    leaf-to-read-requires
     read-node-requires
     after-leaf-read-requires
     returns-2)
