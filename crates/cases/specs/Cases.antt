@@ -7,9 +7,10 @@ use Rattle.cases.specs.Request2.{casesOfRequest2}
 use Rattle.cases.specs.Request3.{casesOfRequest3}
 use Rattle.cases.specs.Request4.{casesOfRequest4}
 use Rattle.cases.specs.Request5.{casesOfRequest5}
+use Rattle.cases.specs.Request8.{casesOfRequest8}
 
 abbrev pub table : List Row
-table = casesOf01 ++ casesOfRequest1 ++ casesOfRequest2 ++ casesOfRequest3 ++ casesOfRequest4 ++ casesOfRequest5
+table = casesOf01 ++ casesOfRequest1 ++ casesOfRequest2 ++ casesOfRequest3 ++ casesOfRequest4 ++ casesOfRequest5 ++ casesOfRequest8
 
 abbrev pub CasesHold : Type 0
 CasesHold = AllHold table

@@ -27,8 +27,8 @@ pub data Does : Type 0 where
   lists : ℕ → Does
   -- a thread's permission is set
   permits : ℕ → ℕ → Does
-  -- a run of these threads' turns
-  turns : List ℕ → Does
+  -- a run of these threads' turns, each with this choice
+  choosing : ℕ → List ℕ → Does
   -- a check of a copy of the region that has these words from a word on
   checks : ℕ → List ℕ → Does
   -- the cost of a take, the present depth, and the region's words from a word on, this many
@@ -54,10 +54,17 @@ item k = tagged k 9
 abbrev pub puts : ℕ → ℕ → Does
 puts t k = putsItem t (item k)
 
--- a schedule of these threads' turns, each with choice 0
+-- the choice is 0 where it is not said
+abbrev pub turns : List ℕ → Does
+turns ts = choosing 0 ts
+
+-- a schedule of these threads' turns, each with this choice, which is one byte
+abbrev scheduleOf : ℕ → List ℕ → List ℕ
+scheduleOf c [] = []
+scheduleOf c (t ∷ ts) = t ∷ 0 ∷ 0 ∷ 0 ∷ c ∷ 0 ∷ 0 ∷ 0 ∷ scheduleOf c ts
+
 abbrev pub schedule : List ℕ → List ℕ
-schedule [] = []
-schedule (t ∷ ts) = t ∷ 0 ∷ 0 ∷ 0 ∷ 0 ∷ 0 ∷ 0 ∷ 0 ∷ schedule ts
+schedule ts = scheduleOf 0 ts
 
 -- the two parts of a list of steps with what they say
 abbrev doesOf : List (Does × Says) → List Does
@@ -85,7 +92,7 @@ outcomeOf b (putsItem t i) = leaving (putBytes b t i) (answered (putRefusal b t 
 outcomeOf b (takes t) = leaving (takeBytes b t ReadRoot) (answered (takeRefusal b t))
 outcomeOf b (lists t) = leaving (takeBytes b t ListReadRoot) (answered (takeRefusal b t))
 outcomeOf b (permits t p) = leaving (permitBytes b t p) (answered (permitRefusal b t p))
-outcomeOf b (turns ts) = ran (length ts) (runResult b (schedule ts) 1000 (replicate (12 * length ts) 0))
+outcomeOf b (choosing c ts) = ran (length ts) (runResult b (scheduleOf c ts) 1000 (replicate (12 * length ts) 0))
 outcomeOf b (checks at ws) = leaving b (answered (checkAnswer (setWords b at ws)))
 outcomeOf b costs = leaving b (answered (takeCost (sharedIn (frameIn b) b)))
 outcomeOf b depths = leaving b (answered (word b 4))
@@ -153,9 +160,13 @@ wordsOf (x ∷ xs) = answerWords x ++ wordsOf xs
 abbrev pub serves : List Answer → Says
 serves xs = served (wordsOf xs)
 
+-- n turns of thread t with this choice, the last of which answers a
+abbrev pub turnsChoosing : ℕ → ℕ → ℕ → Answer → List (Does × Says)
+turnsChoosing c t n a = (choosing c (replicate n t), serves (replicate (n - 1) Moved ++ a ∷ [])) ∷ []
+
 -- n turns of thread t, the last of which answers a
 abbrev pub turnsTo : ℕ → ℕ → Answer → List (Does × Says)
-turnsTo t n a = (turns (replicate n t), serves (replicate (n - 1) Moved ++ a ∷ [])) ∷ []
+turnsTo t n a = turnsChoosing 0 t n a
 
 -- a put by thread 1 that is inserted with its n-th access
 abbrev pub inserting : Item → ℕ → List (Does × Says)
