@@ -1,642 +1,270 @@
--- A take alone on clean nodes, place by place, from E1 to where the root's list without its head comes to rest: E1 and E2, M1 to M5 for
--- each level gone down, then M1 to M4 and M6, or M1, M2 and M6 at level d. So 5 × j + 2 accesses for a level j above d, 5 × d for level d.
--- Assumes nothing.
-use Prim.Native.Nat.{ℕ, zero, suc, _+_, _-_, _*_, _^_, _≤_, _<_, min}
+-- A thread that goes on alone, turn by turn, to an end: what others do between its turns changes neither shared memory nor its record, but for
+-- a permission. The take's figure and the put's promise both go by this. Assumes nothing.
+use Prim.Native.Nat.{ℕ, suc, _+_, _≤_, _<_}
 use native.Mathlib.Decide.{ℕ-discrete}
 use native.Mathlib.Omega.{arith}
 use mathlib.Core.Path.{_≡_, refl, sym, ap, subst, _∙_}
-use mathlib.Core.Bool.{Bool, true, false, not, _||_}
+use mathlib.Core.Bool.{Bool, true, false, not}
 use mathlib.Core.List.{List, [], _∷_}
-use borrow.Author.Tests.{eq-eqb, eqb-false, eqb-true, ne-eqb}
+use borrow.Author.Tests.{eqb-false, eqb-true}
 use lib.Dec.{eqb}
 use lib.ListN.{length}
-use lib.Pow.{pow-mono}
 use Rattle.region.specs.Answer.{counterSpent}
-use Rattle.region.specs.Level.{digits, level}
 use Rattle.region.specs.Pick.{pick, upd}
 use Rattle.region.specs.Place.{placeNumber}
-use Rattle.region.specs.Shape.{between, nodeCount}
-use Rattle.region.specs.Inner.{InRange}
+use Rattle.region.specs.Shape.{between}
 use Rattle.region.specs.Shared.{Shared, setPermissionIn, sharedIn, threadIn}
-use Rattle.region.specs.Thread.{atPlace, goneIdle, mending, withAfter, withCopies, withDepth, withFirst, withNode, withPermission, withResult, withSecond, withThird}
-use Rattle.region.specs.declared.answer.Answer.the-variants.{Moved, Took, Empty, Refused}
+use Rattle.region.specs.Thread.{withPermission}
+use Rattle.region.specs.declared.answer.Answer.the-variants.{Moved, Refused}
 use Rattle.region.specs.declared.frame.Frame.{Frame}
 use Rattle.region.specs.declared.place.Place.{Place}
-use Rattle.region.specs.declared.place.Place.the-variants.{ReadRoot, RemoveHead, MendReadNode, MendReadDepth, MendReadLeft, MendReadRight, MendSwap, MendClean}
-use Rattle.region.specs.declared.record.Cell.{Cell}
-use Rattle.region.specs.declared.record.Item.{Item}
 use Rattle.region.specs.declared.record.Node.{Node}
 use Rattle.region.specs.declared.shape.Shape.{Shape}
 use Rattle.region.specs.declared.thread.Thread.{Thread}
-use Rattle.region.proofs.Levels.{level-holds, power-doubles}
 use Rattle.region.proofs.Picks.{upd-same, upd-other}
 use Rattle.region.proofs.Views.{shared-setPermission, threads-setPermission}
-use Rattle.region.proofs.Shapes.{above, below as before, between-least, between-most, is-between, sizes}
-use Rattle.access.specs.Effect.{effectShared, freed}
-use Rattle.access.specs.Order.{val, valueOf}
-use Rattle.access.specs.Plan.{changesNothing, moved, onTo, plan, refused}
-use Rattle.access.specs.Read.{isDirty, isNode, isSpent, readNode, sameNode, updated}
-use Rattle.access.specs.declared.effect.Effect.the-variants.{Nothing, Pop, Exchange, Clean}
+use Rattle.region.proofs.Shapes.{above, below, between-least, between-most}
+use Rattle.access.specs.Effect.{effectShared}
+use Rattle.access.specs.Plan.{changesNothing, moved, plan, refused}
+use Rattle.access.specs.Read.{sameNode}
 use Rattle.access.specs.declared.plan.Plan.{Plan}
-use Rattle.access.proofs.ReadLaws.{same-itself, updated-dirty, updated-first}
+use Rattle.access.proofs.ReadLaws.{same-itself}
 use Rattle.readable.proofs.Laws.{Good}
 use Rattle.readable.proofs.Stores.{keeps-setPermission}
-use Rattle.extract.specs.Extract.{afterRootRead, readRoot, afterRemoval, casRoot, removeHead}
-use Rattle.moundify.specs.Moundify.{returning, mendReadNode, afterDepthRead, mendReadDepth, mendReadLeft, lessBelow, childLess, afterChildrenRead, mendReadRight, exchangeAt, nodeAndChildSame, exchangeWith, cleanAt, mendClean, returnAnswer}
-use Rattle.permission.specs.Grants.{mayTake}
+use Rattle.permission.specs.Grants.{mayPut, mayTake}
 use Rattle.permission.specs.Permit.{permitBytesIn}
 use Rattle.permission.specs.Withdraw.{isPutPlace, isTakePlace, lacksPermission, permitted}
-use Rattle.permission.proofs.Laws.{none-lacks, take-lacks}
+use Rattle.permission.proofs.Laws.{none-lacks, put-lacks, take-lacks}
 use Rattle.run.specs.Run.{Turn}
 use Rattle.machine.specs.Turn.{decide, decideAt, turnAnswer, turnBytes, turnPlan}
-use Rattle.cost.specs.Cost.{lesserChild, levelsDown, withoutHead}
-use Rattle.cost.proofs.Laws.{goes-down, lesser-is-child, levels-same, rests-deepest, rests-there, swaps-as-placed, tests-as-placed}
 use Rattle.preserved.proofs.Proved.{PermitPassed, permit-either, permit-least, permit-most, turn-keeps}
-use Rattle.preserved.proofs.TreeLevels.{level-child}
-use Rattle.mound.specs.Tree.{listFrom}
-use Rattle.mound.proofs.Sorted.{valueAt}
-use Rattle.bag.specs.Alone.{Between, EndsAt, NoOtherMoves, NoneSpent, PermissionKept, Step, last, moved-then, permit, stepOf, stepsOf, turn}
-use Rattle.bag.specs.History.{rootItem}
-use Rattle.bag.specs.TakeCost.{LeavesList, listOf, rootHead}
+use Rattle.bag.specs.Alone.{Alone, Between, EndsAt, NoOtherMoves, NoneSpent, PermissionKept, Step, last, moved-then, permit, stepOf, stepsOf, turn}
 use Rattle.bag.proofs.Carried.{turn-decides, turn-shared, turn-stays, turn-threads}
 
--- shared memory after E2, which frees the head's cell
-unfoldable pub popped : Shared → Shared
-popped m = freed (withoutHead m) (m .node 1 .first)
-
 -- a comparison with a copy that still holds
-same-copy : {n q : Node} → q ≡ n → sameNode n q ≡ true
+pub same-copy : {n q : Node} → q ≡ n → sameNode n q ≡ true
 same-copy {n} {q} e = ap (sameNode n) e ∙ same-itself n
 
-not-dirty : {n q : Node} → q ≡ n → n .dirty ≡ 0 → isDirty q ≡ false
-unfolding isDirty
-not-dirty {n} {q} e h = ap isDirty e ∙ rw (eq-eqb (n .dirty) 0 h) refl
-
-still-dirty : {n q : Node} → q ≡ n → n .dirty ≡ 1 → isDirty q ≡ true
-unfolding isDirty
-still-dirty {n} {q} e h = ap isDirty e ∙ rw (ne-eqb (n .dirty) 0 (λ z. omega arith)) refl
-
--- node n, the only one that may be dirty, is made clean
-clean-now : (f : ℕ → Node) (n : ℕ) (v : Node) → v .dirty ≡ 0 → ((x : ℕ) → (x ≡ n → ⊥) → f x .dirty ≡ 0) → (x : ℕ) → upd f n v x .dirty ≡ 0
-clean-now f n v e h x = go (ℕ-discrete x n)
-  where
-    go : Dec (x ≡ n) → upd f n v x .dirty ≡ 0
-    go (yes k) = ap (λ y. upd f n v y .dirty) k ∙ ap (λ y. y .dirty) (upd-same f n v) ∙ e
-    go (no k) = ap (λ y. y .dirty) (upd-other f n x v k) ∙ h x k
-
--- the same, and node c changes too
-clean-but : (f : ℕ → Node) (n c : ℕ) (v w : Node) → v .dirty ≡ 0 → ((x : ℕ) → (x ≡ n → ⊥) → f x .dirty ≡ 0)
-    → (x : ℕ) → (x ≡ c → ⊥) → upd (upd f n v) c w x .dirty ≡ 0
-clean-but f n c v w e h x nc = ap (λ y. y .dirty) (upd-other (upd f n v) c x w nc) ∙ clean-now f n v e h x
-
--- The plan of the place: at mending without a look at the permission, at E1 and E2 with the permission there.
+-- The plan of the place: at mending without a look at the permission, elsewhere with the permission there.
 module _ (s : Shape) (m : Shared) (u : Thread) (c : ℕ) where
   not-lacking : {z : Place} → u .place ≡ z → lacksPermission u ≡ false → decide s m u c ≡ decideAt s m u c z
   unfolding decide permitted pick
   not-lacking e h = rw h (ap (decideAt s m u c) e)
 
-  at-mending : {z : Place} → u .place ≡ z → between 11 (placeNumber z) 16 ≡ true → decide s m u c ≡ decideAt s m u c z
+  pub at-mending : {z : Place} → u .place ≡ z → between 11 (placeNumber z) 16 ≡ true → decide s m u c ≡ decideAt s m u c z
   unfolding isPutPlace isTakePlace
   at-mending {z} e h =
       let n = placeNumber (u .place) in
       let k : between 11 n 16 ≡ true = ap (λ y. between 11 (placeNumber y) 16) e ∙ h in
       let least = between-least 11 n 16 k in
       let most = between-most 11 n 16 k in
-      not-lacking e (none-lacks u (above 1 n 8 (omega arith)) (rw (above 9 n 10 (omega arith), before 17 n 18 (omega arith)) refl))
+      not-lacking e (none-lacks u (above 1 n 8 (omega arith)) (rw (above 9 n 10 (omega arith), below 17 n 18 (omega arith)) refl))
 
-  at-take : {z : Place} → u .place ≡ z → isTakePlace z ≡ true → mayTake u ≡ true → decide s m u c ≡ decideAt s m u c z
+  pub at-take : {z : Place} → u .place ≡ z → isTakePlace z ≡ true → mayTake u ≡ true → decide s m u c ≡ decideAt s m u c z
   at-take e h may = not-lacking e (take-lacks u (ap isTakePlace e ∙ h) ∙ ap not may)
 
-module _ (f : Frame) (t : ℕ) (t-least : 1 ≤ t) (t-most : t ≤ f .shape .threads) where
+  pub at-put : {z : Place} → u .place ≡ z → isPutPlace z ≡ true → mayPut u ≡ true → decide s m u c ≡ decideAt s m u c z
+  at-put e h may = not-lacking e (put-lacks u (ap isPutPlace e ∙ h) ∙ ap not may)
+
+-- Up to thread t's next turn no other thread's turn and no permission changes shared memory, nor t's record but for its permission.
+module _ (f : Frame) (t : ℕ) (m : Shared) (u : Thread) where
+  pub record StillSo (b : List ℕ) : Type 0 where
+    pub good : Good f b
+    pub shared : sharedIn f b ≡ m
+    pub permission : ℕ
+    pub thread : threadIn f b t ≡ withPermission u permission
+
+  permit-still : (b : List ℕ) (k p : ℕ) → StillSo b → StillSo (permitBytesIn f b k p)
+  unfolding withPermission
+  permit-still b k p h = permit-either f b k p StillSo (λ passed. set passed (ℕ-discrete t k)) (λ e. h)
+    where
+      set : PermitPassed f k p → Dec (t ≡ k) → StillSo (setPermissionIn f b k p)
+      set passed same =
+          let l = permit-least f k p passed in
+          let most = permit-most f k p passed in
+          let threads = threads-setPermission f b (h .good .framed) k p l most (omega (arith, passed .permission)) in
+          let now = go same in
+          record {
+            good = keeps-setPermission f b (h .good) k p l most (passed .permission) .good;
+            shared = shared-setPermission f b (h .good .framed) k p l most ∙ h .shared;
+            permission = now .0;
+            thread = ap (λ x. x t) threads ∙ now .1;
+          }
+        where
+          go : Dec (t ≡ k) → (n : ℕ) × (upd (threadIn f b) k (withPermission (threadIn f b k) p) t ≡ withPermission u n)
+          go (yes e) = (
+            p,
+            ap (upd (threadIn f b) k (withPermission (threadIn f b k) p)) e ∙ upd-same (threadIn f b) k _
+                ∙ ap (λ x. withPermission (threadIn f b x) p) (sym e)
+                ∙ ap (λ x. withPermission x p) (h .thread),
+          )
+          go (no n) = (h .permission, upd-other (threadIn f b) k t _ n ∙ h .thread)
+
+  module _ (may : Thread → Bool) (C : List Step → Type 0)
+      (now : (n : ℕ) (b : List ℕ) (c : ℕ) (xs : List Between) → Good f b → sharedIn f b ≡ m → threadIn f b t ≡ withPermission u n
+      → may (withPermission u n) ≡ true → NoOtherMoves f (turnBytes f b t c) t xs
+      → PermissionKept (may) f (turnBytes f b t c) t xs → C (stepOf f b t c ∷ stepsOf f (turnBytes f b t c) t xs)) where
+    -- a turn: t's own, or another's, which leaves the region as it is
+    turn-next : (b : List ℕ) (x : Turn) (xs : List Between) → StillSo b → NoOtherMoves f b t (turn x ∷ xs)
+        → PermissionKept (may) f b t (turn x ∷ xs)
+        → ((b′ : List ℕ) → StillSo b′ → NoOtherMoves f b′ t xs → PermissionKept (may) f b′ t xs
+        → 1 ≤ length (stepsOf f b′ t xs) → C (stepsOf f b′ t xs))
+        → 1 ≤ length (stepsOf f b t (turn x ∷ xs)) → C (stepsOf f b t (turn x ∷ xs))
+    unfolding stepsOf pick turnAnswer
+    turn-next b x xs h quiet kept more = go (eqb (x .thread) t) refl
+      where
+        after : List ℕ
+        after = turnBytes f b (x .thread) (x .choice)
+
+        go : (q : Bool) → eqb (x .thread) t ≡ q
+            → 1 ≤ length (pick q (stepOf f b (x .thread) (x .choice) ∷ stepsOf f after t xs) (stepsOf f after t xs))
+            → C (pick q (stepOf f b (x .thread) (x .choice) ∷ stepsOf f after t xs) (stepsOf f after t xs))
+        go true e long =
+            let same = eqb-true (x .thread) t e in
+            subst (λ k. C (stepOf f b k (x .choice) ∷ stepsOf f (turnBytes f b k (x .choice)) t xs)) (sym same)
+            (now (h .permission) b (x .choice) xs (h .good) (h .shared) (h .thread) (ap (may) (sym (h .thread)) ∙ kept .0)
+            (subst (λ k. NoOtherMoves f (turnBytes f b k (x .choice)) t xs) same (quiet .1))
+            (subst (λ k. PermissionKept (may) f (turnBytes f b k (x .choice)) t xs) same (kept .1)))
+        go false e long =
+            let stays : after ≡ b = turn-stays f b (x .thread) (x .choice) (quiet .0 (eqb-false (x .thread) t e)) in
+            more after (subst StillSo (sym stays) h) (quiet .1) (kept .1) long
+
+    first-turn : (xs : List Between) (b : List ℕ) → StillSo b → NoOtherMoves f b t xs → PermissionKept (may) f b t xs
+        → 1 ≤ length (stepsOf f b t xs) → C (stepsOf f b t xs)
+    unfolding stepsOf
+    first-turn [] b h quiet kept long = absurd (omega arith)
+    first-turn (turn x ∷ xs) b h quiet kept long =
+        turn-next b x xs h quiet kept (λ b′ h′ quiet′ kept′ long′. first-turn xs b′ h′ quiet′ kept′ long′) long
+    first-turn (permit k p ∷ xs) b h quiet kept long = first-turn xs (permitBytesIn f b k p) (permit-still b k p h) quiet (kept .1) long
+
+-- Who goes on, with which permission, and to what end: what holds of the accesses made in all, `end` of them at most, and of the last one.
+pub record Goal : Type 1 where
+  pub frame : Frame
+  pub thread : ℕ
+  pub least : 1 ≤ thread
+  pub most : thread ≤ frame .shape .threads
+  pub may : Thread → Bool
+  pub end : ℕ
+  pub Total : ℕ → Type 0
+  pub Last : Step → Type 0
+
+module _ (goal : Goal) where
+  abbrev f : Frame
+  f = goal .frame
+
   abbrev s : Shape
   s = f .shape
 
-  -- Up to thread t's next turn no other thread's turn and no permission changes shared memory, nor t's record but for its permission.
-  module _ (m : Shared) (u : Thread) where
-    pub record StillSo (b : List ℕ) : Type 0 where
-      pub good : Good f b
-      pub shared : sharedIn f b ≡ m
-      pub permission : ℕ
-      pub thread : threadIn f b t ≡ withPermission u permission
+  abbrev t : ℕ
+  t = goal .thread
 
-    permit-still : (b : List ℕ) (k p : ℕ) → StillSo b → StillSo (permitBytesIn f b k p)
-    unfolding withPermission
-    permit-still b k p h = permit-either f b k p StillSo (λ passed. set passed (ℕ-discrete t k)) (λ e. h)
-      where
-        set : PermitPassed f k p → Dec (t ≡ k) → StillSo (setPermissionIn f b k p)
-        set passed same =
-            let l = permit-least f k p passed in
-            let most = permit-most f k p passed in
-            let threads = threads-setPermission f b (h .good .framed) k p l most (omega (arith, passed .permission)) in
-            let now = go same in
-            record {
-              good = keeps-setPermission f b (h .good) k p l most (passed .permission) .good;
-              shared = shared-setPermission f b (h .good .framed) k p l most ∙ h .shared;
-              permission = now .0;
-              thread = ap (λ x. x t) threads ∙ now .1;
-            }
-          where
-            go : Dec (t ≡ k) → (n : ℕ) × (upd (threadIn f b) k (withPermission (threadIn f b k) p) t ≡ withPermission u n)
-            go (yes e) = (
-              p,
-              ap (upd (threadIn f b) k (withPermission (threadIn f b k) p)) e ∙ upd-same (threadIn f b) k _
-                  ∙ ap (λ x. withPermission (threadIn f b x) p) (sym e)
-                  ∙ ap (λ x. withPermission x p) (h .thread),
-            )
-            go (no n) = (h .permission, upd-other (threadIn f b) k t _ n ∙ h .thread)
+  -- it ends after `count` accesses more
+  pub record Ends (spent : ℕ) (steps : List Step) : Type 0 where
+    pub count : ℕ
+    pub total : goal .Total (spent + count)
+    pub ends : EndsAt (goal .Last) count steps
 
-    module _ (C : List Step → Type 0)
-        (now : (n : ℕ) (b : List ℕ) (c : ℕ) (xs : List Between) → Good f b → sharedIn f b ≡ m → threadIn f b t ≡ withPermission u n
-        → mayTake (withPermission u n) ≡ true → NoOtherMoves f (turnBytes f b t c) t xs → PermissionKept f (turnBytes f b t c) t xs
-        → C (stepOf f b t c ∷ stepsOf f (turnBytes f b t c) t xs)) where
-      -- a turn: t's own, or another's, which leaves the region as it is
-      turn-next : (b : List ℕ) (x : Turn) (xs : List Between) → StillSo b → NoOtherMoves f b t (turn x ∷ xs)
-          → PermissionKept f b t (turn x ∷ xs) → ((b′ : List ℕ) → StillSo b′ → NoOtherMoves f b′ t xs → PermissionKept f b′ t xs
-          → 1 ≤ length (stepsOf f b′ t xs) → C (stepsOf f b′ t xs))
-          → 1 ≤ length (stepsOf f b t (turn x ∷ xs)) → C (stepsOf f b t (turn x ∷ xs))
-      unfolding stepsOf pick turnAnswer
-      turn-next b x xs h quiet may more = go (eqb (x .thread) t) refl
+  -- with turns enough and none refused 11
+  abbrev EndsIn : ℕ → List Step → Type 0
+  EndsIn spent steps = goal .end ≤ spent + length steps → NoneSpent steps → Ends spent steps
+
+  -- from every region with this shared memory and, but for its permission, this record of thread t
+  abbrev pub EndsFrom : ℕ → Shared → Thread → Type 0
+  EndsFrom spent m u =
+      (b : List ℕ) (xs : List Between) → StillSo f t m u b → NoOtherMoves f b t xs → PermissionKept (goal .may) f b t xs
+      → EndsIn spent (stepsOf f b t xs)
+
+  -- what this says of a thread that goes on alone
+  pub ends-alone : (spent n : ℕ) (m : Shared) (u : Thread) (b : List ℕ) (xs : List Between) → EndsFrom spent m u → StillSo f t m u b
+      → Alone (goal .may) f b t xs n → goal .end ≤ spent + n → Ends spent (stepsOf f b t xs)
+  ends-alone spent n m u b xs ends h a long = ends b xs h (a .quiet) (a .permission) (omega (arith, a .enough)) (a .unspent)
+
+  -- from where thread t's turn with choice c comes next, with this very record
+  abbrev EndsBy : ℕ → Shared → Thread → ℕ → Type 0
+  EndsBy spent m u c =
+      (b : List ℕ) (xs : List Between) → Good f b → sharedIn f b ≡ m → threadIn f b t ≡ u → goal .may u ≡ true
+      → NoOtherMoves f (turnBytes f b t c) t xs → PermissionKept (goal .may) f (turnBytes f b t c) t xs
+      → EndsIn spent (stepOf f b t c ∷ stepsOf f (turnBytes f b t c) t xs)
+
+  -- whatever the choice
+  pub record EndsNow (spent : ℕ) (m : Shared) (u : Thread) : Type 0 where
+    pub few : spent < goal .end
+    pub on : (c : ℕ) → EndsBy spent m u c
+
+  pub any-permission : (spent : ℕ) (m : Shared) (u : Thread) → ((n : ℕ) → EndsNow spent m (withPermission u n)) → EndsFrom spent m u
+  any-permission spent m u now b xs h quiet kept long none =
+      first-turn f t m u (goal .may) (EndsIn spent) (λ n b c xs. now n .on c b xs) xs b h quiet kept (omega (arith, now 0 .few, long)) long none
+
+  -- A turn that is refused 11 or has the plan p.
+  module _ (spent : ℕ) (m : Shared) (u : Thread) (c : ℕ) (q : Bool) (p : Plan)
+      (decides : goal .may u ≡ true → decide s m u c ≡ pick q (refused u counterSpent) p) where
+    module _ (b : List ℕ) (em : sharedIn f b ≡ m) (eu : threadIn f b t ≡ u) (may : goal .may u ≡ true)
+        (none : turnAnswer f b t c ≡ Refused counterSpent → ⊥) where
+      by-place : turnPlan f b t c ≡ pick q (refused u counterSpent) p
+      by-place = turn-decides f b t c (goal .least) (goal .most) ∙ (λ i. decide s (em i) (eu i) c) ∙ decides may
+
+      not-spent : q ≡ false
+      unfolding turnAnswer pick refused plan
+      not-spent = go q by-place
         where
-          after : List ℕ
-          after = turnBytes f b (x .thread) (x .choice)
+          go : (q : Bool) → turnPlan f b t c ≡ pick q (refused u counterSpent) p → q ≡ false
+          go true e = absurd (none (ap (λ x. x .answer) e))
+          go false e = refl
 
-          go : (q : Bool) → eqb (x .thread) t ≡ q
-              → 1 ≤ length (pick q (stepOf f b (x .thread) (x .choice) ∷ stepsOf f after t xs) (stepsOf f after t xs))
-              → C (pick q (stepOf f b (x .thread) (x .choice) ∷ stepsOf f after t xs) (stepsOf f after t xs))
-          go true e long =
-              let same = eqb-true (x .thread) t e in
-              subst (λ k. C (stepOf f b k (x .choice) ∷ stepsOf f (turnBytes f b k (x .choice)) t xs)) (sym same)
-              (now (h .permission) b (x .choice) xs (h .good) (h .shared) (h .thread) (ap mayTake (sym (h .thread)) ∙ may .0)
-              (subst (λ k. NoOtherMoves f (turnBytes f b k (x .choice)) t xs) same (quiet .1))
-              (subst (λ k. PermissionKept f (turnBytes f b k (x .choice)) t xs) same (may .1)))
-          go false e long =
-              let stays : after ≡ b = turn-stays f b (x .thread) (x .choice) (quiet .0 (eqb-false (x .thread) t e)) in
-              more after (subst StillSo (sym stays) h) (quiet .1) (may .1) long
+      planned : turnPlan f b t c ≡ p
+      unfolding pick
+      planned = by-place ∙ ap (λ x. pick x (refused u counterSpent) p) not-spent
 
-      pub first-turn : (xs : List Between) (b : List ℕ) → StillSo b → NoOtherMoves f b t xs → PermissionKept f b t xs
-          → 1 ≤ length (stepsOf f b t xs) → C (stepsOf f b t xs)
-      unfolding stepsOf
-      first-turn [] b h quiet may long = absurd (omega arith)
-      first-turn (turn x ∷ xs) b h quiet may long =
-          turn-next b x xs h quiet may (λ b′ h′ quiet′ may′ long′. first-turn xs b′ h′ quiet′ may′ long′) long
-      first-turn (permit k p ∷ xs) b h quiet may long = first-turn xs (permitBytesIn f b k p) (permit-still b k p h) quiet (may .1) long
-
-  -- E1 at an empty root answers empty.
-  pub empty-ends : (m : Shared) (u : Thread) → u .place ≡ ReadRoot → m .node 1 .first ≡ 0 → m .node 1 .dirty ≡ 0 → (b : List ℕ)
-      (xs : List Between) → Good f b → sharedIn f b ≡ m → threadIn f b t ≡ u → NoOtherMoves f b t xs → PermissionKept f b t xs
-      → 1 ≤ length (stepsOf f b t xs) → EndsAt (λ x. x .answer ≡ Empty) 1 (stepsOf f b t xs)
-  unfolding turnAnswer between isTakePlace readRoot afterRootRead plan pick readNode withPermission
-  empty-ends m u place none clean b xs g em eu =
-      first-turn m u (EndsAt (λ x. x .answer ≡ Empty) 1)
-      (λ n b c xs g em eu may quiet kept.
-      let v = withPermission u n in
-      let e : decide s m v c ≡ plan Nothing (goneIdle v) Empty =
-      at-take s m v c place refl may ∙ rw (not-dirty {n = m .node 1} refl clean, eq-eqb (m .node 1 .first) 0 none) refl
-      in
-      last (ap (λ x. x .answer) (turn-decides f b t c t-least t-most ∙ (λ i. decide s (em i) (eu i) c) ∙ e)))
-      xs b (record { good = g; shared = em; permission = u .permission; thread = eu })
-
-  -- A take begun on the region b₀. Its root's list without its head begins with the cell `first` of these cells, and is to come to rest at
-  -- level j, d being the present depth.
-  module _ (b₀ : List ℕ) (d j : ℕ) (cell : ℕ → Cell) (first : ℕ)
-      (behind : listOf f b₀ 1 ≡ rootHead f b₀ ∷ listFrom cell (f .shape .cells) first) where
-    -- Accesses made are counted from 3 at E1: so 4 at E2, 5 × l at M1 of a node of level l, and this when the list has come to rest.
-    abbrev pub end : ℕ
-    end = min (5 * j + 5) (5 * d + 3)
-
-    -- the list comes to rest after `count` accesses more
-    pub record Rests (spent : ℕ) (steps : List Step) : Type 0 where
-      pub count : ℕ
-      pub exact : spent + count ≡ end
-      pub rests : EndsAt (LeavesList f b₀ t j) count steps
-
-    -- with turns enough and none refused 11
-    abbrev RestsIn : ℕ → List Step → Type 0
-    RestsIn spent steps = end ≤ spent + length steps → NoneSpent steps → Rests spent steps
-
-    -- from every region with this shared memory and, but for its permission, this record of thread t
-    abbrev RestsFrom : ℕ → Shared → Thread → Type 0
-    RestsFrom spent m u =
-        (b : List ℕ) (xs : List Between) → StillSo m u b → NoOtherMoves f b t xs → PermissionKept f b t xs
-        → RestsIn spent (stepsOf f b t xs)
-
-    -- from where thread t's turn comes next, with this very record
-    record RestsNow (spent : ℕ) (m : Shared) (u : Thread) : Type 0 where
-      few : spent < end
-      on : (b : List ℕ) (c : ℕ) (xs : List Between) → Good f b → sharedIn f b ≡ m → threadIn f b t ≡ u → mayTake u ≡ true
-          → NoOtherMoves f (turnBytes f b t c) t xs → PermissionKept f (turnBytes f b t c) t xs
-          → RestsIn spent (stepOf f b t c ∷ stepsOf f (turnBytes f b t c) t xs)
-
-    any-permission : (spent : ℕ) (m : Shared) (u : Thread) → ((n : ℕ) → RestsNow spent m (withPermission u n)) → RestsFrom spent m u
-    any-permission spent m u now b xs h quiet kept long none =
-        first-turn m u (RestsIn spent) (λ n. now n .on) xs b h quiet kept (omega (arith, now 0 .few, long)) long none
-
-    -- A turn that is refused 11 or has the plan p.
-    module _ (spent : ℕ) (m : Shared) (u : Thread) (few : spent < end) (q : Bool) (p : Plan)
-        (decides : mayTake u ≡ true → (c : ℕ) → decide s m u c ≡ pick q (refused u counterSpent) p) where
-      module _ (b : List ℕ) (c : ℕ) (em : sharedIn f b ≡ m) (eu : threadIn f b t ≡ u) (may : mayTake u ≡ true)
-          (none : turnAnswer f b t c ≡ Refused counterSpent → ⊥) where
-        by-place : turnPlan f b t c ≡ pick q (refused u counterSpent) p
-        by-place = turn-decides f b t c t-least t-most ∙ (λ i. decide s (em i) (eu i) c) ∙ decides may c
-
-        not-spent : q ≡ false
-        unfolding turnAnswer pick refused plan
-        not-spent = go q by-place
-          where
-            go : (q : Bool) → turnPlan f b t c ≡ pick q (refused u counterSpent) p → q ≡ false
-            go true e = absurd (none (ap (λ x. x .answer) e))
-            go false e = refl
-
-        planned : turnPlan f b t c ≡ p
-        unfolding pick
-        planned = by-place ∙ ap (λ x. pick x (refused u counterSpent) p) not-spent
-
-      -- on to what p leaves
-      moves : p .answer ≡ Moved → (next : ℕ) → next ≡ spent + 1 → RestsFrom next (effectShared m (p .effect)) (p .thread)
-          → RestsNow spent m u
-      unfolding turnAnswer withPermission
-      moves a next up after =
-          record {
-            few = few;
-            on = λ b c xs g em eu may quiet kept long none.
-                let e = planned b c em eu may (none .0) in
-                let answered : turnPlan f b t c .answer ≡ Moved = ap (λ x. x .answer) e ∙ a in
-                let goes : changesNothing (turnPlan f b t c .answer) ≡ false = ap changesNothing answered in
-                let r = after (turnBytes f b t c) xs
-                (record {
-                  good = turn-keeps f b g t c .good;
-                  shared = turn-shared f b t c g goes ∙ (λ i. effectShared (em i) (e i .effect));
-                  permission = p .thread .permission;
-                  thread = ap (λ h. h t) (turn-threads f b t c g goes) ∙ upd-same (threadIn f b) t (turnPlan f b t c .thread) ∙ ap (λ x. x .thread) e;
-                })
-                quiet kept (omega arith) (none .1)
-                in
-                record { count = suc (r .count); exact = omega (arith, r .exact); rests = moved-then answered (r .rests) };
-          }
-
-      -- p is the last
-      comes-to-rest : spent + 1 ≡ end
-          → ((b : List ℕ) (c : ℕ) → Good f b → sharedIn f b ≡ m → threadIn f b t ≡ u → turnPlan f b t c ≡ p
-          → LeavesList f b₀ t j (stepOf f b t c))
-          → RestsNow spent m u
-      comes-to-rest exact leaves =
-          record {
-            few = few;
-            on = λ b c xs g em eu may quiet kept long none.
-                record { count = 1; exact = exact; rests = last (leaves b c g em eu (planned b c em eu may (none .0))) };
-          }
-
-    -- a turn that no counter can refuse
-    goes-on : (spent next : ℕ) → next ≡ spent + 1 → (m : Shared) (u v : Thread) → spent < end
-        → (mayTake u ≡ true → (c : ℕ) → decide s m u c ≡ moved v) → RestsFrom next m v → RestsNow spent m u
-    unfolding moved plan pick effectShared
-    goes-on spent next up m u v few decides after = moves spent m u few false (moved v) decides refl next up after
-
-    -- Mending at level l: the thread's node has the list and is dirty, and no other is.
-    record Mending (l : ℕ) (m : Shared) (u : Thread) (p : Place) : Type 0 where
-      place : u .place ≡ p
-      after : u .after ≡ 1
-      result : u .result ≡ rootItem f b₀
-      some : 1 ≤ u .node
-      few : u .node ≤ nodeCount s
-      at-level : level (u .node) ≡ l
-      above : l ≤ d
-      depth : m .depth ≡ d
-      dirty : m .node (u .node) .dirty ≡ 1
-      clean : (x : ℕ) → (x ≡ u .node → ⊥) → m .node x .dirty ≡ 0
-      cells : m .cell ≡ cell
-      list : m .node (u .node) .first ≡ first
-      goes : l + levelsDown (val m) (val m (u .node)) (d - l) (u .node) ≡ j
-
-    -- it goes on in any record with the same node, after and result
-    kept : {l : ℕ} {m : Shared} {u : Thread} {p : Place} → Mending l m u p → (v : Thread) (q : Place) → v .place ≡ q → v .after ≡ u .after
-        → v .result ≡ u .result → v .node ≡ u .node → Mending l m v q
-    kept {l = l} {m = m} h v q ep ea er en =
-        record {
-          place = ep;
-          after = ea ∙ h .after;
-          result = er ∙ h .result;
-          some = omega (arith, en, h .some);
-          few = omega (arith, en, h .few);
-          at-level = ap level en ∙ h .at-level;
-          above = h .above;
-          depth = h .depth;
-          dirty = ap (λ n. m .node n .dirty) en ∙ h .dirty;
-          clean = λ x n. h .clean x (λ e. n (e ∙ sym en));
-          cells = h .cells;
-          list = ap (λ n. m .node n .first) en ∙ h .list;
-          goes = ap (λ n. l + levelsDown (val m) (val m n) (d - l) n) en ∙ h .goes;
-        }
-
-    kept-with : {l : ℕ} {m : Shared} {u : Thread} {p : Place} → Mending l m u p → (n : ℕ) → Mending l m (withPermission u n) p
-    unfolding withPermission
-    kept-with {u = u} {p = p} h n = kept h (withPermission u n) p (h .place) refl refl refl
-
-    -- M6: the node becomes clean, and the take answers.
-    cleaning-now : (l spent : ℕ) (m : Shared) (u : Thread) → Mending l m u (MendClean 0) → u .copies .first ≡ readNode m (u .node) → l ≡ j
-        → spent + 1 ≡ end → RestsNow spent m u
-    unfolding between mendClean cleanAt returning returnAnswer plan pick sharedIn turnAnswer effectShared readNode
-    cleaning-now l spent m u h copied there exact =
-        let n = u .copies .first .node in
-        let v = updated n (n .first) 0 in
-        let same : n ≡ m .node (u .node) = ap (λ q. q .node) copied in
-        comes-to-rest spent m u (omega arith) (isSpent n) (returning (Clean (u .node) v) u 0)
-        (λ may c. at-mending s m u c (h .place) refl ∙ rw (ne-eqb (u .node) 0 (λ z. omega (arith, h .some)), same-copy same) refl)
-        exact
-        (λ b c g em eu e.
-        let answered : turnPlan f b t c .answer ≡ Took (u .result) =
-        ap (λ x. x .answer) e ∙ rw (eq-eqb (u .after) 1 (h .after)) refl
-        in
-        let after : sharedIn f (turnBytes f b t c) ≡ effectShared m (Clean (u .node) v) =
-        turn-shared f b t c g (ap changesNothing answered) ∙ (λ i. effectShared (em i) (e i .effect))
-        in
-        let begins : upd (m .node) (u .node) v (u .node) .first ≡ first =
-        ap (λ x. x .first) (upd-same (m .node) (u .node) v) ∙ updated-first n (n .first) 0 ∙ ap (λ x. x .first) same ∙ h .list
-        in
-        record {
-          node = u .node;
-          at-level = h .at-level ∙ there;
-          place = ap (λ x. x .place) eu ∙ h .place;
-          mends = ap (λ x. x .node) eu;
-          dirty = ap (λ x. x .node (u .node) .dirty) em ∙ h .dirty;
-          others = λ x k. ap (λ y. y .node x .dirty) em ∙ h .clean x k;
-          clean = λ x p q. ap (λ y. y .node x .dirty) after ∙ clean-now (m .node) (u .node) v (updated-dirty n (n .first) 0) (h .clean) x;
-          list =
-              behind
-              ∙ ap (λ xs. rootHead f b₀ ∷ xs)
-              (sym (ap (λ y. listFrom (y .cell) (f .shape .cells) (y .node (u .node) .first)) after
-              ∙ (λ i. listFrom (h .cells i) (f .shape .cells) (begins i))));
-          answer = answered ∙ ap Took (h .result);
+    -- on to what p leaves
+    turn-moves : p .answer ≡ Moved → (next : ℕ) → next ≡ spent + 1 → EndsFrom next (effectShared m (p .effect)) (p .thread)
+        → EndsBy spent m u c
+    unfolding turnAnswer withPermission
+    turn-moves a next up after b xs g em eu may quiet kept long none =
+        let e = planned b em eu may (none .0) in
+        let answered : turnPlan f b t c .answer ≡ Moved = ap (λ x. x .answer) e ∙ a in
+        let goes : changesNothing (turnPlan f b t c .answer) ≡ false = ap changesNothing answered in
+        let r = after (turnBytes f b t c) xs
+        (record {
+          good = turn-keeps f b g t c .good;
+          shared = turn-shared f b t c g goes ∙ (λ i. effectShared (em i) (e i .effect));
+          permission = p .thread .permission;
+          thread = ap (λ h. h t) (turn-threads f b t c g goes) ∙ upd-same (threadIn f b) t (turnPlan f b t c .thread) ∙ ap (λ x. x .thread) e;
         })
+        quiet kept (omega arith) (none .1)
+        in
+        record { count = suc (r .count); total = subst (goal .Total) (omega arith) (r .total); ends = moved-then answered (r .ends) }
 
-    clean-rests : (l spent : ℕ) (m : Shared) (u : Thread) → Mending l m u (MendClean 0) → u .copies .first ≡ readNode m (u .node) → l ≡ j
-        → spent + 1 ≡ end → RestsFrom spent m u
-    unfolding withPermission
-    clean-rests l spent m u h copied there exact =
-        any-permission spent m u λ n. cleaning-now l spent m (withPermission u n) (kept-with h n) copied there exact
+    -- p is the last
+    turn-ends : goal .Total (spent + 1)
+        → ((b : List ℕ) → Good f b → sharedIn f b ≡ m → threadIn f b t ≡ u → turnPlan f b t c ≡ p → goal .Last (stepOf f b t c))
+        → EndsBy spent m u c
+    turn-ends total is-last b xs g em eu may quiet kept long none =
+        record { count = 1; total = total; ends = last (is-last b g em eu (planned b em eu may (none .0))) }
 
-    module _ (r : InRange s) (deep : d ≤ s .depth) (l : ℕ) (least : 1 ≤ l)
-        (child : (m : Shared) (u : Thread) → Mending (l + 1) m u (MendReadNode 0) → RestsFrom (5 * (l + 1)) m u) where
-      -- M5: the list goes down to child c, whose copied node is k.
-      module _ (m : Shared) (u : Thread) (h : Mending l m u (MendSwap 0)) (copied : u .copies .first ≡ readNode m (u .node))
-          (higher : l < d) where
-        -- what the exchange leaves of the values: c has the list's, and what lies behind c is as it was
-        module _ (c : ℕ) (v w : Node) (child-of : 2 * u .node ≤ c) (gets : w .first ≡ m .node (u .node) .first) where
-          below : Shared
-          below = effectShared m (Exchange (u .node) v c w)
+  -- the same whatever the choice
+  module _ (spent : ℕ) (m : Shared) (u : Thread) (few : spent < goal .end) (q : Bool) (p : Plan)
+      (decides : goal .may u ≡ true → (c : ℕ) → decide s m u c ≡ pick q (refused u counterSpent) p) where
+    pub moves : p .answer ≡ Moved → (next : ℕ) → next ≡ spent + 1 → EndsFrom next (effectShared m (p .effect)) (p .thread) → EndsNow spent m u
+    moves a next up after =
+        record { few = few; on = λ c. turn-moves spent m u c q p (λ may. decides may c) a next up after }
 
-          value-below : val below c ≡ val m (u .node)
-          unfolding below effectShared valueOf readNode
-          value-below =
-              ap (valueAt (m .cell)) (ap (λ x. x .first) (upd-same (upd (m .node) (u .node) v) c w) ∙ gets)
+    pub comes-to-end : goal .Total (spent + 1)
+        → ((b : List ℕ) (c : ℕ) → Good f b → sharedIn f b ≡ m → threadIn f b t ≡ u → turnPlan f b t c ≡ p → goal .Last (stepOf f b t c))
+        → EndsNow spent m u
+    comes-to-end total is-last =
+        record { few = few; on = λ c. turn-ends spent m u c q p (λ may. decides may c) total (λ b. is-last b c) }
 
-          values-behind : (x : ℕ) → c < x → val below x ≡ val m x
-          unfolding below effectShared readNode
-          values-behind x b =
-              ap (λ y. valueOf (record { node = y; head = m .cell (y .first) }))
-              (upd-other (upd (m .node) (u .node) v) c x w (λ e. omega arith)
-              ∙ upd-other (m .node) (u .node) x v (λ e. omega (arith, h .some)))
+  -- a turn that changes the thread's record alone, by the choice
+  pub goes-by-choice : (spent next : ℕ) → next ≡ spent + 1 → (m : Shared) (u : Thread) (v : ℕ → Thread) → spent < goal .end
+      → (goal .may u ≡ true → (c : ℕ) → decide s m u c ≡ moved (v c)) → ((c : ℕ) → EndsFrom next m (v c)) → EndsNow spent m u
+  unfolding moved plan pick effectShared
+  goes-by-choice spent next up m u v few decides after =
+      record {
+        few = few;
+        on = λ c. turn-moves spent m u c false (moved (v c)) (λ may. decides may c) refl next up (after c);
+      }
 
-          levels-below : levelsDown (val below) (val below c) (d - (l + 1)) c ≡ levelsDown (val m) (val m (u .node)) (d - (l + 1)) c
-          levels-below =
-              ap (λ x. levelsDown (val below) x (d - (l + 1)) c) value-below
-              ∙ levels-same (val m) (val below) (val m (u .node)) (d - (l + 1)) c (omega (arith, h .some)) values-behind
-
-        exchange-now : (c : ℕ) (k : Node) → 2 * u .node ≤ c → c ≤ 2 * u .node + 1 → c ≤ nodeCount s → k ≡ m .node c
-            → l + 1 + levelsDown (val m) (val m (u .node)) (d - (l + 1)) c ≡ j
-            → ((x : ℕ) → decide s m u x ≡ exchangeWith s m u 0 c k) → RestsNow (5 * l + 4) m u
-        unfolding exchangeWith exchangeAt nodeAndChildSame isNode effectShared plan pick mending atPlace withNode below readNode
-        exchange-now c k lo hi there second on decides =
-            let n = u .copies .first .node in
-            let v = updated n (k .first) 0 in
-            let w = updated k (n .first) 1 in
-            let z = h .some in
-            let same : n ≡ m .node (u .node) = ap (λ q. q .node) copied in
-            let gets : w .first ≡ m .node (u .node) .first = updated-first k (n .first) 1 ∙ ap (λ x. x .first) same in
-            moves (5 * l + 4) m u (omega arith) (isSpent n || isSpent k) (plan (Exchange (u .node) v c w) (mending u c 0) Moved)
-            (λ may x. decides x
-            ∙ rw (ne-eqb (u .node) 0 (λ e. omega arith), is-between 1 c (nodeCount s) (omega arith) there, same-copy same, same-copy second) refl)
-            refl
-            (5 * (l + 1)) (omega arith)
-            (child (effectShared m (Exchange (u .node) v c w)) (mending u c 0)
-            (record {
-              place = refl;
-              after = h .after;
-              result = h .result;
-              some = omega arith;
-              few = there;
-              at-level = level-child (u .node) c z lo hi (omega (arith, sizes s (r .depth-most))) ∙ ap (λ y. y + 1) (h .at-level);
-              above = omega arith;
-              depth = h .depth;
-              dirty = ap (λ y. y .dirty) (upd-same (upd (m .node) (u .node) v) c w) ∙ updated-dirty k (n .first) 1;
-              clean = clean-but (m .node) (u .node) c v w (updated-dirty n (k .first) 0) (h .clean);
-              cells = h .cells;
-              list = ap (λ y. y .first) (upd-same (upd (m .node) (u .node) v) c w) ∙ gets ∙ h .list;
-              goes = ap (λ y. l + 1 + y) (levels-below c v w lo gets) ∙ on;
-            }))
-
-        swap-now : 2 * u .node + 1 ≤ nodeCount s → u .copies .second ≡ readNode m (2 * u .node)
-            → u .copies .third ≡ readNode m (2 * u .node + 1)
-            → l + 1 + levelsDown (val m) (val m (u .node)) (d - (l + 1)) (lesserChild (val m) (u .node)) ≡ j → RestsNow (5 * l + 4) m u
-        unfolding between
-        swap-now there second third on =
-            let c = lesserChild (val m) (u .node) in
-            let is = lesser-is-child (val m) (u .node) in
-            exchange-now c (m .node c) (is .0) (is .1) (omega (arith, is)) refl on
-            (λ x. at-mending s m u x (h .place) refl ∙ swaps-as-placed m u second third s 0)
-
-      swap-rests : (m : Shared) (u : Thread) → Mending l m u (MendSwap 0) → u .copies .first ≡ readNode m (u .node) → l < d
-          → 2 * u .node + 1 ≤ nodeCount s → u .copies .second ≡ readNode m (2 * u .node) → u .copies .third ≡ readNode m (2 * u .node + 1)
-          → l + 1 + levelsDown (val m) (val m (u .node)) (d - (l + 1)) (lesserChild (val m) (u .node)) ≡ j → RestsFrom (5 * l + 4) m u
-      unfolding withPermission
-      swap-rests m u h copied higher there second third on =
-          any-permission (5 * l + 4) m u λ n. swap-now m (withPermission u n) (kept-with h n) copied higher there second third on
-
-      -- below a level above d there are children
-      children-there : (m : Shared) (u : Thread) (p : Place) → Mending l m u p → l < d → 2 * u .node + 1 ≤ nodeCount s
-      children-there m u p h higher =
-          let g = level-holds (u .node) (h .some) (omega (arith, h .few, sizes s (r .depth-most))) in
-          let e : l + 1 - 1 ≡ l = omega arith in
-          let q : 2 ^ level (u .node) ≡ 2 ^ l = ap (λ j. 2 ^ j) (h .at-level) in
-          omega (
-            arith,
-            g .most,
-            q,
-            ap (λ j. 2 ^ j) e,
-            power-doubles (l + 1) (omega arith),
-            pow-mono {i = l + 1} {j = s .depth} (omega arith),
-          )
-
-      -- M4, M3, M2 and M1
-      right-now : (m : Shared) (u : Thread) → Mending l m u (MendReadRight 0) → u .copies .first ≡ readNode m (u .node)
-          → u .copies .second ≡ readNode m (2 * u .node) → l < d → RestsNow (5 * l + 3) m u
-      unfolding between mendReadRight afterChildrenRead isNode onTo pick atPlace withThird withCopies readNode
-      right-now m u h copied second higher = go (childLess v) decides (sym less)
-        where
-          v : Thread
-          v = withThird u (readNode m (2 * u .node + 1))
-
-          there : 2 * u .node + 1 ≤ nodeCount s
-          there = children-there m u (MendReadRight 0) h higher
-
-          decides : (c : ℕ) → decide s m u c ≡ pick (childLess v) (onTo v (MendSwap 0)) (onTo v (MendClean 0))
-          decides c =
-              at-mending s m u c (h .place) refl
-              ∙ rw (
-                ne-eqb (u .node) 0 (λ e. omega (arith, h .some)),
-                is-between 1 (2 * u .node + 1) (nodeCount s) (omega arith) there,
-                not-dirty (ap (λ q. q .node) second) (h .clean (2 * u .node) (λ e. omega (arith, h .some))),
-                not-dirty {n = m .node (2 * u .node + 1)} refl (h .clean (2 * u .node + 1) (λ e. omega arith)),
-              ) refl
-
-          less : childLess v ≡ lessBelow (val m (u .node)) (val m (2 * u .node)) (val m (2 * u .node + 1))
-          less = tests-as-placed m v second refl copied
-
-          value : Item
-          value = val m (u .node)
-
-          -- the levels from here, one by one
-          one-down : levelsDown (val m) value (d - l) (u .node) ≡ levelsDown (val m) value (suc (d - (l + 1))) (u .node)
-          one-down = ap (λ k. levelsDown (val m) value k (u .node)) (omega arith)
-
-          go : (q : Bool) → ((c : ℕ) → decide s m u c ≡ pick q (onTo v (MendSwap 0)) (onTo v (MendClean 0)))
-              → lessBelow (val m (u .node)) (val m (2 * u .node)) (val m (2 * u .node + 1)) ≡ q → RestsNow (5 * l + 3) m u
-          go true e t =
-              let on = one-down ∙ goes-down (val m) value (d - (l + 1)) (u .node) t in
-              goes-on (5 * l + 3) (5 * l + 4) (omega arith) m u (atPlace v (MendSwap 0)) (omega (arith, on, h .goes)) (λ may. e)
-              (swap-rests m (atPlace v (MendSwap 0)) (kept h (atPlace v (MendSwap 0)) (MendSwap 0) refl refl refl refl)
-              copied higher there second refl (omega (arith, on, h .goes)))
-          go false e t =
-              let on = one-down ∙ rests-there (val m) value (d - (l + 1)) (u .node) t in
-              goes-on (5 * l + 3) (5 * l + 4) (omega arith) m u (atPlace v (MendClean 0)) (omega (arith, on, h .goes)) (λ may. e)
-              (clean-rests l (5 * l + 4) m (atPlace v (MendClean 0))
-              (kept h (atPlace v (MendClean 0)) (MendClean 0) refl refl refl refl)
-              copied (omega (arith, on, h .goes)) (omega (arith, on, h .goes)))
-
-      right-rests : (m : Shared) (u : Thread) → Mending l m u (MendReadRight 0) → u .copies .first ≡ readNode m (u .node)
-          → u .copies .second ≡ readNode m (2 * u .node) → l < d → RestsFrom (5 * l + 3) m u
-      unfolding withPermission
-      right-rests m u h copied second higher =
-          any-permission (5 * l + 3) m u λ n. right-now m (withPermission u n) (kept-with h n) copied second higher
-
-      left-now : (m : Shared) (u : Thread) → Mending l m u (MendReadLeft 0) → u .copies .first ≡ readNode m (u .node) → l < d
-          → RestsNow (5 * l + 2) m u
-      unfolding between mendReadLeft isNode onTo pick atPlace withSecond withCopies readNode
-      left-now m u h copied higher =
-          let v = atPlace (withSecond u (readNode m (2 * u .node))) (MendReadRight 0) in
-          let there = children-there m u (MendReadLeft 0) h higher in
-          goes-on (5 * l + 2) (5 * l + 3) (omega arith) m u v (omega (arith, h .goes))
-          (λ may c. at-mending s m u c (h .place) refl
-          ∙ rw (is-between 1 (2 * u .node) (nodeCount s) (omega (arith, h .some)) (omega arith)) refl)
-          (right-rests m v (kept h v (MendReadRight 0) refl refl refl refl) copied refl higher)
-
-      left-rests : (m : Shared) (u : Thread) → Mending l m u (MendReadLeft 0) → u .copies .first ≡ readNode m (u .node) → l < d
-          → RestsFrom (5 * l + 2) m u
-      unfolding withPermission
-      left-rests m u h copied higher =
-          any-permission (5 * l + 2) m u λ n. left-now m (withPermission u n) (kept-with h n) copied higher
-
-      depth-now : (m : Shared) (u : Thread) → Mending l m u (MendReadDepth 0) → u .copies .first ≡ readNode m (u .node)
-          → RestsNow (5 * l + 1) m u
-      unfolding between mendReadDepth afterDepthRead onTo pick atPlace withDepth readNode
-      depth-now m u h copied = go (ℕ-discrete l d)
-        where
-          v : Place → Thread
-          v p = atPlace (withDepth u (m .depth)) p
-
-          known : (c : ℕ) → decide s m u c ≡ pick (eqb (level (u .node)) (m .depth)) (moved (v (MendClean 0)))
-              (moved (v (MendReadLeft 0)))
-          known c =
-              at-mending s m u c (h .place) refl
-              ∙ rw (still-dirty (ap (λ q. q .node) copied) (h .dirty), ne-eqb (u .node) 0 (λ e. omega (arith, h .some))) refl
-
-          go : Dec (l ≡ d) → RestsNow (5 * l + 1) m u
-          go (yes e) =
-              let none : levelsDown (val m) (val m (u .node)) (d - l) (u .node) ≡ 0 =
-              ap (λ k. levelsDown (val m) (val m (u .node)) k (u .node)) (omega arith) ∙ rests-deepest (val m) (val m (u .node)) (u .node)
-              in
-              goes-on (5 * l + 1) (5 * l + 2) (omega arith) m u (v (MendClean 0)) (omega (arith, h .goes))
-              (λ may c. known c ∙ rw (eq-eqb (level (u .node)) (m .depth) (h .at-level ∙ e ∙ sym (h .depth))) refl)
-              (clean-rests l (5 * l + 2) m (v (MendClean 0))
-              (kept h (v (MendClean 0)) (MendClean 0) refl refl refl refl)
-              copied (omega (arith, none, h .goes)) (omega (arith, none, h .goes)))
-          go (no e) =
-              goes-on (5 * l + 1) (5 * l + 2) (omega arith) m u (v (MendReadLeft 0)) (omega (arith, h .above, h .goes))
-              (λ may c. known c ∙ rw (ne-eqb (level (u .node)) (m .depth) (λ z. e (sym (h .at-level) ∙ z ∙ h .depth))) refl)
-              (left-rests m (v (MendReadLeft 0))
-              (kept h (v (MendReadLeft 0)) (MendReadLeft 0) refl refl refl refl)
-              copied (omega (arith, h .above)))
-
-      depth-rests : (m : Shared) (u : Thread) → Mending l m u (MendReadDepth 0) → u .copies .first ≡ readNode m (u .node)
-          → RestsFrom (5 * l + 1) m u
-      unfolding withPermission
-      depth-rests m u h copied = any-permission (5 * l + 1) m u λ n. depth-now m (withPermission u n) (kept-with h n) copied
-
-      node-now : (m : Shared) (u : Thread) → Mending l m u (MendReadNode 0) → RestsNow (5 * l) m u
-      unfolding between mendReadNode onTo pick atPlace withFirst withCopies readNode
-      node-now m u h =
-          let v = atPlace (withFirst u (readNode m (u .node))) (MendReadDepth 0) in
-          goes-on (5 * l) (5 * l + 1) refl m u v (omega (arith, h .above, h .goes))
-          (λ may c. at-mending s m u c (h .place) refl ∙ rw (ne-eqb (u .node) 0 (λ e. omega (arith, h .some))) refl)
-          (depth-rests m v (kept h v (MendReadDepth 0) refl refl refl refl) refl)
-
-      node-rests : (m : Shared) (u : Thread) → Mending l m u (MendReadNode 0) → RestsFrom (5 * l) m u
-      node-rests m u h = any-permission (5 * l) m u λ n. node-now m (withPermission u n) (kept-with h n)
-
-    -- by the levels left below l
-    mending-rests : InRange s → d ≤ s .depth → (k l : ℕ) → l + k ≡ d → 1 ≤ l → (m : Shared) (u : Thread) → Mending l m u (MendReadNode 0)
-        → RestsFrom (5 * l) m u
-    mending-rests r deep zero l e least = node-rests r deep l least (λ m u h. absurd (omega (arith, h .above)))
-    mending-rests r deep (suc k) l e least = node-rests r deep l least (mending-rests r deep k (l + 1) (omega arith) (omega arith))
-
-    -- E2 and E1, with the root not empty and every node clean
-    module _ (r : InRange s) (some : 1 ≤ d) (deep : d ≤ s .depth) (m : Shared) (depth : m .depth ≡ d)
-        (full : m .node 1 .first ≡ 0 → ⊥) (clean : (x : ℕ) → m .node x .dirty ≡ 0)
-        (taken : m .cell (m .node 1 .first) .item ≡ rootItem f b₀) (begins : m .cell (m .node 1 .first) .next ≡ first)
-        (cells : popped m .cell ≡ cell) (goes : 1 + levelsDown (val (popped m)) (val (popped m) 1) (d - 1) 1 ≡ j) where
-      head-now : (u : Thread) → u .place ≡ RemoveHead → u .copies .first ≡ readNode m 1 → RestsNow 4 m u
-      unfolding between isTakePlace removeHead casRoot afterRemoval effectShared plan pick mending atPlace withNode withAfter withResult level digits readNode popped withoutHead
-      head-now u place copied =
-          let q = u .copies .first in
-          let v = updated (q .node) (q .head .next) 1 in
-          let w = mending (withAfter (withResult u (q .head .item)) 1) 1 0 in
-          let root : m .node 1 .first ≡ q .node .first = ap (λ x. x .node .first) (sym copied) in
-          moves 4 m u (omega (arith, goes)) (isSpent (q .node)) (plan (Pop v (q .node .first)) w Moved)
-          (λ may c. at-take s m u c place refl may
-          ∙ rw (same-copy (ap (λ x. x .node) copied), ne-eqb (q .node .first) 0 (λ z. full (root ∙ z))) refl)
-          refl 5 refl
-          (subst (λ x. RestsFrom 5 x w)
-          (ap (λ x. effectShared m (Pop (updated (x .node) (x .head .next) 1) (x .node .first))) (sym copied))
-          (mending-rests r deep (d - 1) 1 (omega arith) (omega arith) (popped m) w
-          (record {
-            place = refl;
-            after = refl;
-            result = ap (λ x. x .head .item) copied ∙ taken;
-            some = omega arith;
-            few = omega (arith, pow-mono {i = 1} {j = s .depth} (r .depth-least));
-            at-level = refl;
-            above = some;
-            depth = depth;
-            dirty =
-                ap (λ n. n .dirty) (upd-same (m .node) 1 (updated (m .node 1) (m .cell (m .node 1 .first) .next) 1))
-                ∙ updated-dirty (m .node 1) (m .cell (m .node 1 .first) .next) 1;
-            clean = λ x n.
-                ap (λ y. y .dirty) (upd-other (m .node) 1 x (updated (m .node 1) (m .cell (m .node 1 .first) .next) 1) n) ∙ clean x;
-            cells = cells;
-            list =
-                ap (λ n. n .first) (upd-same (m .node) 1 (updated (m .node 1) (m .cell (m .node 1 .first) .next) 1))
-                ∙ updated-first (m .node 1) (m .cell (m .node 1 .first) .next) 1 ∙ begins;
-            goes = goes;
-          })))
-
-      root-now : (u : Thread) → u .place ≡ ReadRoot → RestsNow 3 m u
-      unfolding between isTakePlace withPermission readRoot afterRootRead onTo pick atPlace withFirst withCopies readNode
-      root-now u place =
-          let v = atPlace (withFirst u (readNode m 1)) RemoveHead in
-          goes-on 3 4 refl m u v (omega (arith, goes))
-          (λ may c. at-take s m u c place refl may ∙ rw (not-dirty {n = m .node 1} refl (clean 1), ne-eqb (m .node 1 .first) 0 full) refl)
-          (any-permission 4 m v λ n. head-now (withPermission v n) refl refl)
-
-      pub root-rests : (u : Thread) → u .place ≡ ReadRoot → RestsFrom 3 m u
-      unfolding withPermission
-      root-rests u place = any-permission 3 m u λ n. root-now (withPermission u n) place
+  -- whatever the choice
+  pub goes-on : (spent next : ℕ) → next ≡ spent + 1 → (m : Shared) (u v : Thread) → spent < goal .end
+      → (goal .may u ≡ true → (c : ℕ) → decide s m u c ≡ moved v) → EndsFrom next m v → EndsNow spent m u
+  goes-on spent next up m u v few decides after = goes-by-choice spent next up m u (λ c. v) few decides (λ c. after)

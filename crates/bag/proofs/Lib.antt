@@ -2,6 +2,7 @@
 pub mod Account
 pub mod Alone
 pub mod Answers
+pub mod Begun
 pub mod Carried
 pub mod Permission
 pub mod Exported
@@ -9,8 +10,11 @@ pub mod Histories
 pub mod LeastFirst
 pub mod Operations
 pub mod Proved
+pub mod PutAlone
+pub mod PutCost
 pub mod Regions
 pub mod Start
+pub mod TakeAlone
 pub mod TakeCost
 pub mod Theorems
 pub mod TookInOrder

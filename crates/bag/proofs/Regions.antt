@@ -6,36 +6,33 @@ use mathlib.Core.Bool.{Bool, true, false}
 use mathlib.Core.List.{List}
 use borrow.Author.Tests.{eqb-true}
 use lib.Dec.{eqb}
-use Rattle.words.specs.Word.{word, setWord}
 use Rattle.region.specs.Answer.{badThread, counterSpent, done}
 use Rattle.region.specs.Pick.{pick, upd}
 use Rattle.region.specs.Shape.{between}
-use Rattle.region.specs.Shared.{Shared, setCell, setFree, cellIn, setCellIn, threadIn, setThreadIn, sharedIn}
-use Rattle.region.specs.Thread.{atPlace, begunPut, idleThread}
+use Rattle.region.specs.Shared.{Shared, threadIn, sharedIn}
+use Rattle.region.specs.Thread.{atPlace, idleThread}
 use Rattle.region.specs.declared.answer.Answer.{Answer}
 use Rattle.region.specs.declared.answer.Answer.the-variants.{Idle as AnswersIdle, Refused}
 use Rattle.region.specs.declared.frame.Frame.{Frame}
 use Rattle.region.specs.declared.place.Place.{Place}
 use Rattle.region.specs.declared.place.Place.the-variants.{ReadRoot, ListReadRoot}
-use Rattle.region.specs.declared.record.Cell.{Cell}
 use Rattle.region.specs.declared.record.Item.{Item}
 use Rattle.region.specs.declared.shape.Shape.{Shape}
 use Rattle.region.specs.declared.thread.Thread.{Thread}
 use Rattle.region.proofs.Shapes.{between-least, between-most}
-use Rattle.region.proofs.Views.{shared-setCell, shared-setFree, shared-setPermission, shared-setThread, threads-setCell, threads-setFree, threads-setPermission, threads-setThread}
+use Rattle.region.proofs.Views.{shared-setPermission, threads-setPermission}
 use Rattle.access.specs.Plan.{changesNothing, plan, refused}
 use Rattle.access.specs.declared.effect.Effect.the-variants.{Nothing}
 use Rattle.access.specs.declared.plan.Plan.{Plan}
 use Rattle.access.proofs.OrderLaws.{item-below-top}
 use Rattle.readable.proofs.Laws.{Good}
-use Rattle.readable.proofs.Stores.{Keeps, keeps-setPermission, thread-fit}
+use Rattle.readable.proofs.Stores.{keeps-setPermission}
 use Rattle.begin.specs.Begin.{BeginsAt, acceptedPut, acceptedTake, one-item, putBytesIn, putRefusalIn, takeBytesIn, takeRefusalIn, whole-list}
 use Rattle.run.specs.Run.{Turn}
 use Rattle.machine.specs.Turn.{turnBytes, turnPlan}
 use Rattle.begin.proofs.Laws.{is-idle}
 use Rattle.permission.specs.Permit.{permitBytesIn}
-use Rattle.preserved.proofs.EffectsGood.{cell-fit, few-cells}
-use Rattle.preserved.proofs.Proved.{PutPassed, TakePassed, accepted-put-keeps, accepted-take-keeps, mine-good, moved-keeps, next-few, permit-either, permit-least, permit-most, put-free, put-key, put-least, put-most, put-passed, put-tag, putter-good, stored-keeps, take-least, take-most, take-passed, taker-good, turn-keeps}
+use Rattle.preserved.proofs.Proved.{PutPassed, TakePassed, accepted-put-keeps, accepted-take-keeps, permit-either, permit-least, permit-most, put-free, put-key, put-least, put-most, put-passed, put-tag, take-least, take-most, take-passed, turn-keeps}
 use Rattle.mound.specs.Ledger.{Operation, Ledger, Follows, still}
 use Rattle.mound.specs.Told.{Told, nothing, beginsPut, beginsTake, beginsList}
 use Rattle.mound.proofs.Facts.{At}
@@ -44,6 +41,7 @@ use Rattle.mound.proofs.Steps.{Invariant, NextState, effectTells, list-begun, o
 use Rattle.bag.specs.History.{rootItem, rootItems, servedOn, turned}
 use Rattle.bag.specs.Told.{tells}
 use Rattle.bag.proofs.Answers.{turn-tells}
+use Rattle.bag.proofs.Begun.{put-shared, put-threads, take-shared, take-threads}
 use Rattle.bag.proofs.Carried.{turn-decides, turn-shared, turn-stays, turn-threads}
 use Rattle.bag.proofs.Histories.{Next}
 
@@ -146,17 +144,10 @@ module _ (f : Frame) (all : ℕ) (b : List ℕ) (l : Ledger) (g : Region f all b
   module _ (z : Place) (at : BeginsAt z) (told : ℕ → Told)
       (begun : (t : ℕ) → TakePassed f b t → NextState s l all (told t) m (upd th t (atPlace (th t) z))) where
     module _ (t : ℕ) (p : TakePassed f b t) where
-      abbrev taker : Thread
-      taker = atPlace (threadIn f b t) z
-
-      take-threads : threadIn f (setThreadIn f b t taker) ≡ upd th t taker
-      take-threads =
-          threads-setThread f b (g .good .framed) t taker (take-least f b t p) (take-most f b t p)
-          (thread-fit s (g .good .range) taker (taker-good f b t p (g .good) z at))
-
       take-next : Follow f all l (told t) (acceptedTake f b t z)
       take-next =
-          followed (accepted-take-keeps f b t p (g .good) z at .good) (shared-setThread f b (g .good .framed) t taker) take-threads (begun t p)
+          followed (accepted-take-keeps f b t p (g .good) z at .good) (take-shared f b (g .good) t z) (take-threads f b (g .good) t p z at)
+          (begun t p)
 
     -- refused or not
     begins-so : (t : ℕ) → Follow f all l (pick (eqb (takeRefusalIn f b t) done) (told t) nothing) (takeBytesIn f b t z)
@@ -179,50 +170,10 @@ module _ (f : Frame) (all : ℕ) (b : List ℕ) (l : Ledger) (g : Region f all b
 
   -- A put that is not refused.
   module _ (t : ℕ) (i : Item) (p : PutPassed f b t i) where
-    abbrev c : ℕ
-    c = word b (f .free)
-
-    abbrev next : ℕ
-    next = cellIn f b c .next
-
-    abbrev cell : Cell
-    cell = record { item = i; next = 0 }
-
-    abbrev putter : Thread
-    putter = begunPut (threadIn f b t) i c
-
-    begun : Shared
-    begun = setCell (setFree m next) c cell
-
-    -- the bytes in between
-    moved : Keeps f b (setWord b (f .free) next)
-    moved = moved-keeps f b t i p (g .good)
-
-    stored : Keeps f (setWord b (f .free) next) (setCellIn f (setWord b (f .free) next) c cell)
-    stored = stored-keeps f b t i p (g .good)
-
-    put-shared : sharedIn f (acceptedPut f b t i) ≡ begun
-    unfolding acceptedPut begun
-    put-shared =
-        shared-setThread f (setCellIn f (setWord b (f .free) next) c cell) (stored .good .framed) t _
-        ∙ shared-setCell f (setWord b (f .free) next) (moved .good .framed) c cell (omega (arith, put-free f b t i p)) (g .good .free-most)
-        (cell-fit s (g .good .range) cell (mine-good f b t i p (g .good)))
-        ∙ ap (λ y. setCell y c cell)
-        (shared-setFree f b (g .good .framed) next
-        (omega (arith, next-few f b t i p (g .good), few-cells s (g .good .range))))
-
-    put-threads : threadIn f (acceptedPut f b t i) ≡ upd th t putter
-    unfolding acceptedPut
-    put-threads =
-        threads-setThread f (setCellIn f (setWord b (f .free) next) c cell) (stored .good .framed) t putter
-        (put-least f b t i p) (put-most f b t i p) (thread-fit s (g .good .range) putter (putter-good f b t i p (g .good)))
-        ∙ ap (λ y. upd y t putter)
-        (threads-setCell f (setWord b (f .free) next) (moved .good .framed) c cell ∙ threads-setFree f b (g .good .framed) next)
-
     put-next : Follow f all l (beginsPut t i) (acceptedPut f b t i)
-    unfolding begun sharedIn
+    unfolding sharedIn
     put-next =
-        followed (accepted-put-keeps f b t i p (g .good) .good) put-shared put-threads
+        followed (accepted-put-keeps f b t i p (g .good) .good) (put-shared f b (g .good) t i p) (put-threads f b (g .good) t i p)
         (put-begun s m th l (g .holds) t (put-least f b t i p) (put-most f b t i p) (is-idle (th t) (p .idle)) i
         (item-below-top i (omega (arith, put-key f b t i p)) (put-tag f b t i p)) (omega (arith, put-free f b t i p)))
 

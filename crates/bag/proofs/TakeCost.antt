@@ -8,38 +8,37 @@ use mathlib.Core.Path.{_≡_, refl, sym, ap, subst, _∙_}
 use mathlib.Core.Bool.{Bool, true, false}
 use mathlib.Core.List.{List, _∷_}
 use borrow.Author.Tests.{eq-eqb}
-use lib.ListN.{length}
 use Rattle.region.specs.Answer.{done}
 use Rattle.region.specs.Pick.{pick}
 use Rattle.region.specs.Record.{emptyNode}
 use Rattle.region.specs.Shape.{between, nodeCount}
 use Rattle.region.specs.Shared.{Shared, loadEntry, nodeIn, sharedIn, threadIn}
 use Rattle.region.specs.Thread.{atPlace, withPermission}
-use Rattle.region.specs.declared.answer.Answer.the-variants.{Empty}
 use Rattle.region.specs.declared.frame.Frame.{Frame}
 use Rattle.region.specs.declared.place.Place.the-variants.{ReadRoot}
 use Rattle.region.proofs.Picks.{upd-same, upd-other}
 use Rattle.region.proofs.Shapes.{between-least, between-most}
-use Rattle.region.proofs.Views.{shared-setThread, threads-setThread}
 use Rattle.access.specs.Effect.{effectShared}
 use Rattle.access.specs.Order.{val, valueOf}
 use Rattle.access.specs.Read.{readNode, updated}
 use Rattle.access.proofs.ReadLaws.{updated-first}
 use Rattle.readable.specs.Readable.{frameIn, readable}
 use Rattle.readable.proofs.Laws.{Good, good}
-use Rattle.readable.proofs.Stores.{thread-fit}
+use Rattle.permission.specs.Grants.{mayTake}
 use Rattle.begin.specs.Begin.{acceptedTake, one-item, takeBytes, takeRefusal}
 use Rattle.begin.proofs.Laws.{take-refusal-in}
 use Rattle.cost.specs.Cost.{levelsDown, restLevel, takeCost, withoutHead}
 use Rattle.cost.proofs.Laws.{cost-ceiling, cost-counted, cost-empty, cost-full, levels-same, rest-most}
-use Rattle.preserved.proofs.Proved.{TakePassed, accepted-take-keeps, take-least, take-most, take-passed, taker-good}
+use Rattle.preserved.proofs.Proved.{TakePassed, accepted-take-keeps, take-least, take-most, take-passed}
 use Rattle.mound.specs.Tree.{listFrom}
 use Rattle.mound.proofs.Chains.{list-behind, next-apart}
 use Rattle.mound.proofs.Effects.{Mound, PopAllowed, in-tree, pop-others, root-there}
 use Rattle.mound.proofs.Held.{few-cells, node-chain}
-use Rattle.bag.specs.Alone.{AllClean, Between, EndsAt, NoOtherMoves, NoneSpent, PermissionKept, Step, last, moved-then, stepsOf}
-use Rattle.bag.specs.TakeCost.{LastAccess, TakesCost, TakesEnd, listOf, rootHead}
-use Rattle.bag.proofs.Alone.{Rests, empty-ends, end, popped, root-rests}
+use Rattle.bag.specs.Alone.{Alone, Between, EndsAt, Step, last, moved-then, stepsOf}
+use Rattle.bag.specs.TakeCost.{AllClean, LastAccess, TakesCost, TakesEnd, listOf, rootHead}
+use Rattle.bag.proofs.Alone.{Ends, Goal, StillSo, ends-alone}
+use Rattle.bag.proofs.Begun.{take-shared, take-threads}
+use Rattle.bag.proofs.TakeAlone.{empty-ends, finding-nothing, popped, resting, root-rests}
 
 -- what holds of the last turn may be weakened
 ends-so : {P Q : Step → Type 0} {n : ℕ} {xs : List Step} → ((x : Step) → P x → Q x) → EndsAt P n xs → EndsAt Q n xs
@@ -57,18 +56,15 @@ module _ (f : Frame) (b : List ℕ) (t : ℕ) (xs : List Between) (r : Good f b)
   abbrev begun : List ℕ
   begun = acceptedTake f b t ReadRoot
 
-  begun-good : Good f begun
-  begun-good = accepted-take-keeps f b t passed r ReadRoot one-item .good
-
-  begun-shared : sharedIn f begun ≡ sharedIn f b
-  begun-shared = shared-setThread f b (r .framed) t (atPlace (threadIn f b t) ReadRoot)
-
-  begun-thread : threadIn f begun t ≡ atPlace (threadIn f b t) ReadRoot
-  begun-thread =
-      let u = atPlace (threadIn f b t) ReadRoot in
-      ap (λ h. h t)
-      (threads-setThread f b (r .framed) t u t-least t-most (thread-fit (f .shape) (r .range) u (taker-good f b t passed r ReadRoot one-item)))
-      ∙ upd-same (threadIn f b) t u
+  begun-so : StillSo f t (sharedIn f b) (atPlace (threadIn f b t) ReadRoot) begun
+  unfolding atPlace withPermission
+  begun-so =
+      record {
+        good = accepted-take-keeps f b t passed r ReadRoot one-item .good;
+        shared = take-shared f b r t ReadRoot;
+        permission = threadIn f b t .permission;
+        thread = ap (λ h. h t) (take-threads f b r t passed ReadRoot one-item) ∙ upd-same (threadIn f b) t (atPlace (threadIn f b t) ReadRoot);
+      }
 
   module _ (clean : AllClean f b) where
     past : (x : ℕ) → between 1 x (nodeCount (f .shape)) ≡ false → nodeIn f b x ≡ emptyNode
@@ -84,12 +80,13 @@ module _ (f : Frame) (b : List ℕ) (t : ℕ) (xs : List Between) (r : Good f b)
         go false h = ap (λ n. n .dirty) (past x h)
 
     -- an empty root: 1 access
-    take-empty : nodeIn f b 1 .first ≡ 0 → NoOtherMoves f begun t xs → PermissionKept f begun t xs → 1 ≤ length (stepsOf f begun t xs)
-        → EndsAt (λ x. x .answer ≡ Empty) 1 (stepsOf f begun t xs)
+    take-empty : nodeIn f b 1 .first ≡ 0 → (n : ℕ) → 1 ≤ n → Alone mayTake f begun t xs n
+        → Ends (finding-nothing f t t-least t-most) 0 (stepsOf f begun t xs)
     unfolding sharedIn atPlace
-    take-empty none =
-        empty-ends f t t-least t-most (sharedIn f b) (atPlace (threadIn f b t) ReadRoot) refl none (clean-all 1)
-        begun xs begun-good begun-shared begun-thread
+    take-empty none n long a =
+        let u = atPlace (threadIn f b t) ReadRoot in
+        ends-alone (finding-nothing f t t-least t-most) 0 n (sharedIn f b) u begun xs
+        (empty-ends f t t-least t-most (sharedIn f b) u refl none (clean-all 1)) begun-so a (omega arith)
 
     -- any other, with the cells in order
     module _ (own : ℕ → ℕ) {all : ℕ} (g : Mound (f .shape) (sharedIn f b) own all)
@@ -138,15 +135,17 @@ module _ (f : Frame) (b : List ℕ) (t : ℕ) (xs : List Between) (r : Good f b)
           (λ d n. upd-other (m .cell) c d _ n)
           (few-cells (f .shape) m own (g .held) 1 (omega arith) (in-tree (f .shape) m own g 1 (root-there (f .shape) m own g)))
 
-      take-rests : NoOtherMoves f begun t xs → PermissionKept f begun t xs
-          → end f t t-least t-most b (m .depth) (restLevel m) (popped m .cell) second behind ≤ 3 + length (stepsOf f begun t xs)
-          → NoneSpent (stepsOf f begun t xs)
-          → Rests f t t-least t-most b (m .depth) (restLevel m) (popped m .cell) second behind 3 (stepsOf f begun t xs)
-      unfolding atPlace sharedIn withPermission
-      take-rests =
-          root-rests f t t-least t-most b (m .depth) (restLevel m) (popped m .cell) second behind (r .range) (g .depth-least)
-          (g .depth-most) m refl full clean-all refl refl refl goes (atPlace (threadIn f b t) ReadRoot) refl
-          begun xs (record { good = begun-good; shared = begun-shared; permission = threadIn f b t .permission; thread = begun-thread })
+      abbrev rests : Goal
+      rests = resting f t t-least t-most b (m .depth) (restLevel m) (popped m .cell) second behind
+
+      take-rests : (n : ℕ) → rests .end ≤ 3 + n → Alone mayTake f begun t xs n → Ends rests 3 (stepsOf f begun t xs)
+      unfolding atPlace sharedIn
+      take-rests n long a =
+          let u = atPlace (threadIn f b t) ReadRoot in
+          ends-alone rests 3 n m u begun xs
+          (root-rests f t t-least t-most b (m .depth) (restLevel m) (popped m .cell) second behind (r .range) (g .depth-least)
+          (g .depth-most) m refl full clean-all refl refl refl goes u refl)
+          begun-so a long
 
 -- on a region of one queue
 begun-is : (b : List ℕ) (t : ℕ) → takeRefusal b t ≡ done → takeBytes b t ReadRoot ≡ acceptedTake (frameIn b) b t ReadRoot
@@ -175,28 +174,21 @@ take-costs b r own g t xs a =
     passed : TakePassed f b t
     passed = take-passed f b t (sym (take-refusal-in b r t) ∙ a .begun)
 
-    quiet : NoOtherMoves f begun t xs
-    quiet = subst (λ x. NoOtherMoves f x t xs) same (a .quiet)
-
-    permission : PermissionKept f begun t xs
-    permission = subst (λ x. PermissionKept f x t xs) same (a .permission)
-
-    enough : takeCost m ≤ length (stepsOf f begun t xs)
-    enough = subst (λ x. takeCost m ≤ length (stepsOf f x t xs)) same (a .enough)
+    alone : Alone mayTake f begun t xs (takeCost m)
+    alone = subst (λ x. Alone mayTake f x t xs (takeCost m)) same (a .alone)
 
     go : Dec (nodeIn f b 1 .first ≡ 0) → EndsAt (LastAccess b t) (takeCost m) (stepsOf f begun t xs)
     go (yes none) =
         let e = cost-empty m none in
-        subst (λ n. EndsAt (LastAccess b t) n (stepsOf f begun t xs)) (sym e)
-        (ends-so (λ x h. record { empty = λ z. h; mended = λ full. absurd (full none) })
-        (take-empty f b t xs (good b r) passed (a .clean) none quiet permission (omega (arith, e, enough))))
+        let h = take-empty f b t xs (good b r) passed (a .clean) none (takeCost m) (omega (arith, e)) alone in
+        subst (λ n. EndsAt (LastAccess b t) n (stepsOf f begun t xs)) (omega (arith, e, h .total))
+        (ends-so (λ x h. record { empty = λ z. h; mended = λ full. absurd (full none) }) (h .ends))
     go (no full) =
         let e = cost-full m full in
         let k = cost-counted (m .depth) (restLevel m) (rest-most m (g .depth-least)) in
-        let h = take-rests f b t xs (good b r) passed (a .clean) own g full quiet permission (omega (arith, e, k, enough))
-        (subst (λ x. NoneSpent (stepsOf f x t xs)) same (a .unspent)) in
-        subst (λ n. EndsAt (LastAccess b t) n (stepsOf f begun t xs)) (omega (arith, e, k, h .exact))
-        (ends-so (λ x l. record { empty = λ z. absurd (full z); mended = λ n. l }) (h .rests))
+        let h = take-rests f b t xs (good b r) passed (a .clean) own g full (takeCost m) (omega (arith, e, k)) alone in
+        subst (λ n. EndsAt (LastAccess b t) n (stepsOf f begun t xs)) (omega (arith, e, k, h .total))
+        (ends-so (λ x l. record { empty = λ z. absurd (full z); mended = λ n. l }) (h .ends))
 
 -- The ceiling follows: the figure is at most 5 × d.
 pub costs-end : (b : List ℕ) → 1 ≤ sharedIn (frameIn b) b .depth → TakesCost b → TakesEnd b
@@ -210,9 +202,12 @@ costs-end b some costs t xs a =
           (record {
             begun = a .begun;
             clean = a .clean;
-            quiet = a .quiet;
-            permission = a .permission;
-            unspent = a .unspent;
-            enough = omega (arith, a .enough);
+            alone =
+                record {
+                  quiet = a .alone .quiet;
+                  permission = a .alone .permission;
+                  unspent = a .alone .unspent;
+                  enough = omega (arith, a .alone .enough);
+                };
           }),
     )

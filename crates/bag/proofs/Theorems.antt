@@ -22,10 +22,11 @@ use Rattle.mound.proofs.Plans.{Planned, moves, refuses, rests, operation-moves}
 use Rattle.mound.proofs.Steps.{owns}
 use Rattle.bag.specs.History.{history}
 use Rattle.bag.specs.Moments.{Throughout, regionAfter}
-use Rattle.bag.specs.Theorems.{CellsAccounted, NoTurnUnreadable, NoneFree, RefusedTenWhenFull, SmallerTagFirst, StaysReadable, TakesCostExactly, TakesEndInTime}
+use Rattle.bag.specs.Theorems.{CellsAccounted, NoTurnUnreadable, NoneFree, PutsEndInTime, RefusedTenWhenFull, SmallerTagFirst, StaysReadable, TakesCostExactly, TakesEndInTime}
 use Rattle.bag.proofs.Account.{all-cells-accounted, none-free-when-full, puts-refused-when-full}
 use Rattle.bag.proofs.Histories.{Kept, kept-after}
 use Rattle.bag.proofs.LeastFirst.{stays-behind}
+use Rattle.bag.proofs.PutCost.{puts-end}
 use Rattle.bag.proofs.Proved.{Moves, QueueRegion, history-kept, laid-queue, region-is-a-bag}
 use Rattle.bag.proofs.Regions.{Region, plan-fits, nowhere}
 use Rattle.bag.proofs.TakeCost.{costs-end, take-costs}
@@ -115,6 +116,11 @@ takes-end-in-time s ps b e calls n earlier later split =
     let b′ = regionAfter (layoutBytes s ps b) earlier in
     costs-end b′ (good b′ (stays-readable s ps b e calls n earlier later split .0) .depth-least)
     (takes-cost-exactly s ps b e calls n earlier later split)
+
+pub puts-end-in-time : PutsEndInTime
+puts-end-in-time s ps b e calls n earlier later split =
+    puts-end (regionAfter (layoutBytes s ps b) earlier) (stays-readable s ps b e calls n earlier later split .0)
+    (cells-accounted s ps b e calls n earlier later split)
 
 -- from demand 3's ledger
 pub smaller-tag-first : SmallerTagFirst

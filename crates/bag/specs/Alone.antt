@@ -1,24 +1,21 @@
--- A take of one item while no other thread moves: what document 01's ceiling and request 3's figure suppose, "with all nodes clean, no other
--- thread moving and no turn refused 11", and with request 5 "the permission kept"; and what it is to end in n accesses.
+-- An operation while no other thread moves: what document 01's ceiling and request 3's figure of a take and request 8's promise of a put
+-- suppose of what comes after its beginning, "no other thread moving and no turn refused 11", and with request 5 "the permission kept"; and
+-- what it is to end in n accesses.
 use Prim.Native.Nat.{ℕ, suc, _≤_}
 use mathlib.Core.Path.{_≡_}
-use mathlib.Core.Bool.{true}
+use mathlib.Core.Bool.{Bool, true}
 use mathlib.Core.List.{List, [], _∷_}
 use lib.Dec.{eqb}
 use lib.ListN.{length}
-use Rattle.region.specs.Answer.{counterSpent, done}
+use Rattle.region.specs.Answer.{counterSpent}
 use Rattle.region.specs.Pick.{pick}
-use Rattle.region.specs.Shape.{nodeCount}
-use Rattle.region.specs.Shared.{nodeIn, threadIn}
+use Rattle.region.specs.Shared.{threadIn}
 use Rattle.region.specs.declared.answer.Answer.{Answer}
 use Rattle.region.specs.declared.answer.Answer.the-variants.{Moved, Refused}
 use Rattle.region.specs.declared.frame.Frame.{Frame}
-use Rattle.region.specs.declared.place.Place.the-variants.{ReadRoot}
+use Rattle.region.specs.declared.thread.Thread.{Thread}
 use Rattle.access.specs.Plan.{changesNothing}
-use Rattle.readable.specs.Readable.{frameIn}
-use Rattle.permission.specs.Grants.{mayTake}
 use Rattle.permission.specs.Permit.{permitBytesIn}
-use Rattle.begin.specs.Begin.{takeBytes, takeRefusal}
 use Rattle.run.specs.Run.{Turn}
 use Rattle.machine.specs.Turn.{turnAnswer, turnBytes}
 
@@ -32,7 +29,7 @@ pub record Step : Type 0 where
 abbrev pub stepOf : Frame → List ℕ → ℕ → ℕ → Step
 stepOf f b t c = record { before = b; answer = turnAnswer f b t c; after = turnBytes f b t c }
 
--- what may come after the take's beginning: a turn, or the host's call that sets a permission (request 5)
+-- what may come after the beginning: a turn, or the host's call that sets a permission (request 5)
 pub data Between : Type 0 where
   turn : Turn → Between
   permit : ℕ → ℕ → Between
@@ -52,10 +49,6 @@ stepsOf f b t (turn u ∷ xs) =
     (stepsOf f (turnBytes f b (u .thread) (u .choice)) t xs)
 stepsOf f b t (permit k p ∷ xs) = stepsOf f (permitBytesIn f b k p) t xs
 
--- "with all nodes clean"
-abbrev pub AllClean : Frame → List ℕ → Type 0
-AllClean f b = (n : ℕ) → 1 ≤ n → n ≤ nodeCount (f .shape) → nodeIn f b n .dirty ≡ 0
-
 -- "no other thread moving": no other thread's turn changes the region. Its idle and refused turns may stand between, not its withdrawn ones; so
 -- may checks, which leave the region as it is.
 abbrev pub NoOtherMoves : Frame → List ℕ → ℕ → List Between → Type 0
@@ -65,28 +58,22 @@ NoOtherMoves f b t (turn u ∷ xs) =
     × NoOtherMoves f (turnBytes f b (u .thread) (u .choice)) t xs
 NoOtherMoves f b t (permit k p ∷ xs) = NoOtherMoves f (permitBytesIn f b k p) t xs
 
--- "Request 3 supposes the permission kept" (request 5): whatever comes, thread t may take just before it
-abbrev pub PermissionKept : Frame → List ℕ → ℕ → List Between → Type 0
-PermissionKept f b t [] = Unit
-PermissionKept f b t (x ∷ xs) = (mayTake (threadIn f b t) ≡ true) × PermissionKept f (goneBy f b x) t xs
+-- "Request 3 supposes the permission kept" (request 5), "its permission kept" (request 8): whatever comes, thread t has it just before
+abbrev pub PermissionKept : (Thread → Bool) → Frame → List ℕ → ℕ → List Between → Type 0
+PermissionKept may f b t [] = Unit
+PermissionKept may f b t (x ∷ xs) = (may (threadIn f b t) ≡ true) × PermissionKept may f (goneBy f b x) t xs
 
 -- "no turn refused 11"
 abbrev pub NoneSpent : List Step → Type 0
 NoneSpent [] = Unit
 NoneSpent (x ∷ rest) = (x .answer ≡ Refused counterSpent → ⊥) × NoneSpent rest
 
--- thread t's turns after it has begun a take on the region b
-abbrev pub takeSteps : List ℕ → ℕ → List Between → List Step
-takeSteps b t xs = stepsOf (frameIn b) (takeBytes b t ReadRoot) t xs
-
--- the take is begun and alone, whatever comes after its beginning, if thread t has at least n turns
-pub record Alone (b : List ℕ) (t : ℕ) (xs : List Between) (n : ℕ) : Type 0 where
-  pub begun : takeRefusal b t ≡ done
-  pub clean : AllClean (frameIn b) b
-  pub quiet : NoOtherMoves (frameIn b) (takeBytes b t ReadRoot) t xs
-  pub permission : PermissionKept (frameIn b) (takeBytes b t ReadRoot) t xs
-  pub unspent : NoneSpent (takeSteps b t xs)
-  pub enough : n ≤ length (takeSteps b t xs)
+-- thread t, which has just begun on the bytes b, goes on alone and has at least n turns
+pub record Alone (may : Thread → Bool) (f : Frame) (b : List ℕ) (t : ℕ) (xs : List Between) (n : ℕ) : Type 0 where
+  pub quiet : NoOtherMoves f b t xs
+  pub permission : PermissionKept may f b t xs
+  pub unspent : NoneSpent (stepsOf f b t xs)
+  pub enough : n ≤ length (stepsOf f b t xs)
 
 -- n accesses: each turn before the n-th answers moved, and P holds of the n-th
 pub data EndsAt (P : Step → Type 0) : ℕ → List Step → Type 0 where

@@ -1,4 +1,4 @@
--- "The bag" of document 01: what is claimed of every list of calls on a laid-out region; and what a take costs.
+-- "The bag" of document 01: what is claimed of every list of calls on a laid-out region; and what takes and puts cost.
 pub mod Account
 pub mod Alone
 pub mod Calls
@@ -8,6 +8,7 @@ pub mod History
 pub mod Moments
 pub mod Operations
 pub mod Permission
+pub mod PutCost
 pub mod TakeCost
 pub mod Theorems
 pub mod Told

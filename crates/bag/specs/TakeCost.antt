@@ -4,16 +4,34 @@
 use Prim.Native.Nat.{ℕ, _*_, _≤_}
 use mathlib.Core.Path.{_≡_}
 use mathlib.Core.List.{List, _∷_}
+use Rattle.region.specs.Answer.{done}
 use Rattle.region.specs.Level.{level}
+use Rattle.region.specs.Shape.{nodeCount}
 use Rattle.region.specs.Shared.{cellIn, nodeIn, sharedIn, threadIn}
 use Rattle.region.specs.declared.answer.Answer.the-variants.{Took, Empty}
 use Rattle.region.specs.declared.frame.Frame.{Frame}
-use Rattle.region.specs.declared.place.Place.the-variants.{MendClean}
+use Rattle.region.specs.declared.place.Place.the-variants.{ReadRoot, MendClean}
 use Rattle.readable.specs.Readable.{frameIn}
+use Rattle.permission.specs.Grants.{mayTake}
+use Rattle.begin.specs.Begin.{takeBytes, takeRefusal}
 use Rattle.cost.specs.Cost.{restLevel, takeCost}
 use Rattle.mound.specs.Tree.{Listed, listFrom}
-use Rattle.bag.specs.Alone.{AllClean, Alone, Between, EndsAt, Step, takeSteps}
+use Rattle.bag.specs.Alone.{Alone, Between, EndsAt, Step, stepsOf}
 use Rattle.bag.specs.History.{rootItem}
+
+-- "with all nodes clean"
+abbrev pub AllClean : Frame → List ℕ → Type 0
+AllClean f b = (n : ℕ) → 1 ≤ n → n ≤ nodeCount (f .shape) → nodeIn f b n .dirty ≡ 0
+
+-- thread t's turns after it has begun a take on the region b
+abbrev pub takeSteps : List ℕ → ℕ → List Between → List Step
+takeSteps b t xs = stepsOf (frameIn b) (takeBytes b t ReadRoot) t xs
+
+-- what the ceiling and the figure suppose: the take is begun with all nodes clean, and goes on alone with at least n turns
+pub record TakesAlone (b : List ℕ) (t : ℕ) (xs : List Between) (n : ℕ) : Type 0 where
+  pub begun : takeRefusal b t ≡ done
+  pub clean : AllClean (frameIn b) b
+  pub alone : Alone mayTake (frameIn b) (takeBytes b t ReadRoot) t xs n
 
 -- node n's list: its cells with their items
 abbrev pub listOf : Frame → List ℕ → ℕ → List Listed
@@ -46,11 +64,11 @@ pub record LastAccess (b : List ℕ) (t : ℕ) (x : Step) : Type 0 where
 -- "a take of one item begun at depth d ends in exactly" `takeCost` accesses
 abbrev pub TakesCost : List ℕ → Type 0
 TakesCost b =
-    (t : ℕ) (xs : List Between) → Alone b t xs (takeCost (sharedIn (frameIn b) b))
+    (t : ℕ) (xs : List Between) → TakesAlone b t xs (takeCost (sharedIn (frameIn b) b))
     → EndsAt (LastAccess b t) (takeCost (sharedIn (frameIn b) b)) (takeSteps b t xs)
 
 -- "a take begun at depth d ends in at most 5 × d accesses"
 abbrev pub TakesEnd : List ℕ → Type 0
 TakesEnd b =
-    (t : ℕ) (xs : List Between) → Alone b t xs (5 * sharedIn (frameIn b) b .depth)
+    (t : ℕ) (xs : List Between) → TakesAlone b t xs (5 * sharedIn (frameIn b) b .depth)
     → (n : ℕ) × (1 ≤ n) × (n ≤ 5 * sharedIn (frameIn b) b .depth) × EndsAt (LastAccess b t) n (takeSteps b t xs)

@@ -15,6 +15,7 @@ use Rattle.bag.specs.Account.{AllCellsAccounted, NoneFreeWhenFull, PutsR
 use Rattle.bag.specs.Demand3.{inTree}
 use Rattle.bag.specs.History.{Moment}
 use Rattle.bag.specs.Moments.{EachMoment, InEveryHistory, Throughout}
+use Rattle.bag.specs.PutCost.{PutsEnd}
 use Rattle.bag.specs.TakeCost.{TakesCost, TakesEnd}
 use Rattle.bag.specs.Told.{tells}
 
@@ -47,6 +48,11 @@ TakesCostExactly = Throughout λ s permissions b. TakesCost b
 -- 5 × d accesses.": follows
 abbrev pub TakesEndInTime : Type 0
 TakesEndInTime = Throughout λ s permissions b. TakesEnd b
+
+-- "a put begun at depth D, with nobody else moving, its permission kept and no turn refused 11, is inserted within 2^D + 7 accesses"
+-- (document 02, request 8)
+abbrev pub PutsEndInTime : Type 0
+PutsEndInTime = Throughout λ s permissions b. PutsEnd b
 
 -- "The bag gives up its least item under that order" (document 02, request 2): no bag has two least items, so nothing is left open about which
 -- item a take removes

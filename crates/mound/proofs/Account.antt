@@ -1,10 +1,12 @@
 -- The account of cells: walking each list, each hand and the free chain counts the cells of its chain; a thread at I1 to I8 holds one cell, and
 -- any other those in hand; together they are all that are held. So no cell is free exactly when tree, begun puts and hands hold these. Where
--- they are C, all cells are accounted for. Assumes nothing.
-use Prim.Native.Nat.{ℕ, zero, suc, _+_, _*_, _≤_}
+-- they are C, all cells are accounted for. And some node is empty among more nodes than there are cells in the tree. Assumes nothing.
+use Prim.Native.Nat.{ℕ, zero, suc, _+_, _*_, _≤_, _<_}
+use native.Mathlib.Decide.{ℕ-discrete}
 use native.Mathlib.Omega.{arith}
 use mathlib.Core.Path.{_≡_, refl, sym, ap, _∙_}
 use mathlib.Core.List.{List, [], _∷_}
+use borrow.Author.Tests.{ne-eqb}
 use lib.Dec.{eqb}
 use lib.ListN.{length}
 use Rattle.region.specs.Pick.{pick}
@@ -19,7 +21,7 @@ use Rattle.region.specs.declared.thread.Thread.{Thread}
 use Rattle.permission.specs.Withdraw.{isPutPlace}
 use Rattle.mound.specs.Account.{anyItem, hasHand, inHands, putsAmong}
 use Rattle.mound.specs.Ledger.{Ledger, Operation, listing, owing, taking}
-use Rattle.mound.specs.Tree.{inList, inNodes}
+use Rattle.mound.specs.Tree.{inList, inNodes, listFrom, passing}
 use Rattle.mound.proofs.Cells.{starts}
 use Rattle.mound.proofs.Chains.{Chain, HasItems, among, items, length-items, only-items, walk-counts}
 use Rattle.mound.proofs.Counts.{inChain}
@@ -129,3 +131,24 @@ module _ (s : Shape) (m : Shared) (th : ℕ → Thread) (l : Ledger) {all : ℕ}
 
   pub not-full-with : 1 ≤ m .free → taken ≡ all → ⊥
   not-full-with p e = omega (arith, all-cells, free-measured, ap length (starts (free-chain s m (owns th) h) p .is), e)
+
+-- Where nodes a + 1 to a + k have fewer than k cells in all, one of them is empty.
+pub list-some : (m : Shared) (l c : ℕ) → 1 ≤ l → 1 ≤ c → 1 ≤ inList m anyItem l c
+unfolding inList listFrom passing pick
+list-some m zero c few some = absurd (omega arith)
+list-some m (suc l) c few some = rw (ne-eqb c 0 (λ e. omega arith)) (omega arith)
+
+pub some-empty : (m : Shared) (l a k : ℕ) → 1 ≤ l → inNodes m anyItem l (k + a) < k
+    → (n : ℕ) × (a < n) × (n ≤ k + a) × (m .node n .first ≡ 0)
+unfolding inNodes
+some-empty m l a zero least few = absurd (omega arith)
+some-empty m l a (suc k) least few = go (ℕ-discrete (m .node (suc (k + a)) .first) 0) (some-empty m l a k least)
+  where
+    go : Dec (m .node (suc (k + a)) .first ≡ 0)
+        → (inNodes m anyItem l (k + a) < k → (n : ℕ) × (a < n) × (n ≤ k + a) × (m .node n .first ≡ 0))
+        → (n : ℕ) × (a < n) × (n ≤ suc k + a) × (m .node n .first ≡ 0)
+    go (yes e) before = (suc (k + a), omega arith, omega arith, e)
+    go (no e) before =
+        let same : suc k + a ≡ suc (k + a) = omega arith in
+        let x = before (omega (arith, few, ap (inNodes m anyItem l) same, list-some m l (m .node (suc (k + a)) .first) least (omega arith))) in
+        (x .0, x .1, omega (arith, x .2), x .3)
