@@ -18,3 +18,4 @@ pub mod TakeAlone
 pub mod TakeCost
 pub mod Theorems
 pub mod TookInOrder
+pub mod Tries

@@ -2,7 +2,7 @@
 use Prim.Native.Nat.{ℕ, _*_}
 use native.Mathlib.Omega.{arith}
 use mathlib.Core.Path.{_≡_, refl, sym, ap, subst, subst₂, _∙_}
-use mathlib.Core.Bool.{Bool, true, false, true≢false}
+use mathlib.Core.Bool.{Bool, true, false, _||_, true≢false}
 use mathlib.Core.List.{List, [], _∷_, _++_}
 use borrow.Author.Tests.{eqb-true}
 use lib.Dec.{eqb}
@@ -34,15 +34,17 @@ use Rattle.queue.proofs.LaidOutIsReadable.{laid-out-is-readable, same-shape}
 use Rattle.mound.specs.Ledger.{Ledger, Follows, emptyLedger, none, still, stillOwing}
 use Rattle.mound.specs.Told.{Told, nothing, beginsPut, beginsTake, beginsList}
 use Rattle.mound.proofs.Facts.{idle-without, none-when-idle, stage}
+use Rattle.mound.proofs.Leaves.{or-none}
 use Rattle.mound.proofs.Steps.{root-sorted}
 use Rattle.bag.specs.Calls.{Call, NoAcceptedLayout, put, take, list, permit}
 use Rattle.bag.specs.Demand3.{Agrees, AnswerSays, HoldsTheSame, RegionIsABag, inTree}
 use Rattle.bag.specs.History.{Event, called, turned, Moment, history, rootItem, rootItems, servedOn}
 use Rattle.bag.specs.Moments.{EachMoment, InEveryHistory, regionAfter}
-use Rattle.bag.specs.Operations.{withdrawing}
+use Rattle.bag.specs.Operations.{beginning, withdrawing}
 use Rattle.bag.specs.Permission.{FreeAgain, Granted, StaysBarred, WithdrawnLeaves, Withdrew, makes}
 use Rattle.bag.specs.Told.{callTells, tells}
 use Rattle.bag.specs.TookInOrder.{TookInOrder}
+use Rattle.bag.specs.Tries.{triedAfter}
 use Rattle.bag.proofs.Answers.{turn-says, turn-tells}
 use Rattle.bag.proofs.Histories.{Kept, Next, Then, called-so, calls-kept, kept-each, kept-on}
 use Rattle.bag.proofs.Operations.{Followed, at-most-once, exactly-once, withdrawn-never}
@@ -50,6 +52,7 @@ use Rattle.bag.proofs.Permission.{barred-put, barred-take, barred-turn,
 use Rattle.bag.proofs.Regions.{Follow, Region, list-follows, permit-follows, put-follows, take-follows, turn-next}
 use Rattle.bag.proofs.Start.{laid-region}
 use Rattle.bag.proofs.TookInOrder.{Rises, all-paid, effect-rises, removal-owes, removal-rises, sorted-rises}
+use Rattle.bag.proofs.Tries.{RemembersIn, TriesKept, permit-remembers, put-remembers, take-remembers, tries, turn-begins-none, turned-remembers}
 
 -- the readable region of one queue of shape s, on which the invariant holds with all its cells accounted for
 pub record QueueRegion (s : Shape) (b : List ℕ) (l : Ledger) : Type 0 where
@@ -147,6 +150,55 @@ module _ (s : Shape) (b : List ℕ) (l : Ledger) (g : QueueRegion s b l) where
   take-barred u p e same t idle empty made =
       subst (λ v. takeBytes b v p ≡ b) (same t made) (take-bytes-in b (g .reads) t p ∙ barred-take f b t idle empty p)
 
+  -- what is remembered of a put's tries
+  put-tries : (u : ℕ) (i : Item) (t : ℕ) (q : Bool) → RemembersIn f b t q
+      → RemembersIn f (putBytes b u i) t (triedAfter t q b (called (put u i) (putRefusal b u i)))
+  put-tries u i t q h =
+      subst₂ (λ n x. RemembersIn f x t (triedAfter t q b (called (put u i) n)))
+      (sym (put-refusal-in b (g .reads) u i)) (sym (put-bytes-in b (g .reads) u i)) (put-remembers f all b l (g .region) u i t q h)
+
+  begin-tries : (p : Place) → BeginsAt p → (c : ℕ → Call) → ((t u : ℕ) → beginning t (callTells (c u)) ≡ eqb t u) → (u t : ℕ) (q : Bool)
+      → RemembersIn f b t q → RemembersIn f (takeBytes b u p) t (triedAfter t q b (called (c u) (takeRefusal b u)))
+  begin-tries p at c begins-it u t q h =
+      subst₂ (λ n x. RemembersIn f x t (triedAfter t q b (called (c u) n)))
+      (sym (take-refusal-in b (g .reads) u)) (sym (take-bytes-in b (g .reads) u p))
+      (take-remembers f all b l (g .region) p at (λ v. callTells (c v)) begins-it u t q h)
+
+  -- a call that tells nothing
+  quiet-tries : (c : Call) (r : ℕ) (b′ : List ℕ) → callTells c ≡ nothing → (t : ℕ) (q : Bool) → RemembersIn f b′ t (q || false)
+      → RemembersIn f b′ t (triedAfter t q b (called c r))
+  unfolding pick
+  quiet-tries c r b′ quiet t q h = go (eqb r done)
+    where
+      go : (x : Bool) → RemembersIn f b′ t (pick (beginning t (pick x (callTells c) nothing)) false (q || false))
+      go true = subst (λ x. RemembersIn f b′ t (pick (beginning t x) false (q || false))) (sym quiet) h
+      go false = h
+
+  permit-tries : (u p t : ℕ) (q : Bool) → RemembersIn f b t q
+      → RemembersIn f (permitBytes b u p) t (triedAfter t q b (called (permit u p) (permitRefusal b u p)))
+  permit-tries u p t q h =
+      quiet-tries (permit u p) (permitRefusal b u p) (permitBytes b u p) refl t q
+      (subst (λ x. RemembersIn f x t (q || false)) (sym (permit-bytes-in b (g .reads) u p)) (permit-remembers f all b l (g .region) u p t q h))
+
+  still-tries : (c : Call) (r : ℕ) → callTells c ≡ nothing → (t : ℕ) (q : Bool) → RemembersIn f b t q
+      → RemembersIn f b t (triedAfter t q b (called c r))
+  still-tries c r quiet t q h = quiet-tries c r b quiet t q (subst (RemembersIn f b t) (sym (or-none q)) h)
+
+  turn-tries : (x : Turn) (t : ℕ) (q : Bool) → RemembersIn f b t q
+      → RemembersIn f (turnBytes f b (x .thread) (x .choice)) t (triedAfter t q b (turned (servedOn f b x)))
+  unfolding servedOn pick frameOf
+  turn-tries x t q h =
+      let y = servedOn f b x in
+      subst
+      (λ begun. RemembersIn f (turnBytes f b (x .thread) (x .choice)) t (pick begun false (q || tries f all b l (g .region) x t)))
+      (sym (turn-begins-none t y (y .answer))) (turned-remembers f all b l (g .region) x t q h)
+
+  -- in a region of the same shape
+  tries-kept : (e : Event) (b′ : List ℕ) → shapeIn b′ ≡ s
+      → ((t : ℕ) (q : Bool) → RemembersIn f b t q → RemembersIn f b′ t (triedAfter t q b e))
+      → TriesKept b (record { event = e; region = b′ })
+  tries-kept e b′ same h t q r = subst (λ y. RemembersIn y b′ t (triedAfter t q b e)) (ap frameOf (g .shape ∙ sym same)) (h t q r)
+
   -- a withdrawn turn
   turn-leaves : (x : Turn) → WithdrawnLeaves b (record { event = turned (servedOn (frameOf s) b x); region = turnBytes (frameOf s) b (x .thread) (x .choice) })
   turn-leaves x =
@@ -190,8 +242,8 @@ laid-queue s ps b e =
       region = subst (λ x. Region (frameOf x) (x .cells) (layoutBytes s ps b) emptyLedger) (sym same) (laid-region s ps b e);
     }
 
--- at every moment, b being the region before it, the ledger follows, the answer says what was told, a list that is removed never falls, and
--- what request 5 says holds
+-- at every moment, b being the region before it, the ledger follows, the answer says what was told, a list that is removed never falls, what
+-- request 5 says holds, and leaf words remember tries (request 8)
 pub record Moves (b : List ℕ) (m : Moment) (l l′ : Ledger) : Type 0 where
   pub follows : Follows (tells (m .event)) l l′
   pub says : AnswerSays (m .event)
@@ -199,11 +251,14 @@ pub record Moves (b : List ℕ) (m : Moment) (l l′ : Ledger) : Type 0 where
   pub granted : Granted b (tells (m .event))
   pub leaves : WithdrawnLeaves b m
   pub barred : StaysBarred b m
+  pub tries : TriesKept b m
 
 -- a call removes no list, decides nothing and withdraws nothing
-called-next : {s : Shape} {b : List ℕ} {l : Ledger} (c : Call) (r : ℕ) {b′ : List ℕ} → StaysBarred b (record { event = called c r; region = b′ })
+called-next : (s : Shape) (b : List ℕ) (l : Ledger) → QueueRegion s b l → (c : Call) (r : ℕ) {b′ : List ℕ}
+    → StaysBarred b (record { event = called c r; region = b′ })
+    → ((t : ℕ) (q : Bool) → RemembersIn (frameIn b) b t q → RemembersIn (frameIn b) b′ t (triedAfter t q b (called c r)))
     → Next (QueueRegion s) Follows l (tells (called c r)) b′ → Then (QueueRegion s) Moves b l (called c r) b′
-called-next {b = b} c r h n =
+called-next s b l g c r {b′} h tries n =
     record {
       next = n .next;
       follows =
@@ -216,6 +271,7 @@ called-next {b = b} c r h n =
                 absurd (true≢false
                 (sym w ∙ called-so (λ x. withdrawing t x ≡ false) refl (λ u i. refl) (λ u. refl) (λ u. refl) c r));
             barred = h;
+            tries = tries-kept s b l g (called c r) b′ (n .region .shape) tries;
           };
       region = n .region;
     }
@@ -234,6 +290,12 @@ turned-next s b l g x =
             granted = subst (λ y. Granted b (tells (turned (servedOn y b x)))) (queue-frame s b l g) (turn-granted b x);
             leaves = turn-leaves s b l g x;
             barred = turn-barred s b l g x;
+            tries =
+                tries-kept s b l g (turned (servedOn (frameOf s) b x)) (turnBytes (frameOf s) b (x .thread) (x .choice)) (n .region .shape)
+                (subst
+                (λ y. (t : ℕ) (q : Bool) → RemembersIn (frameIn b) b t q
+                → RemembersIn (frameIn b) (turnBytes y b (x .thread) (x .choice)) t (triedAfter t q b (turned (servedOn y b x))))
+                (queue-frame s b l g) (turn-tries s b l g x));
           };
       region = n .region;
     }
@@ -249,13 +311,19 @@ history-kept s ps b e calls h =
     let laid = laid-queue s ps b e in
     calls-kept (QueueRegion s) Moves (frameOf s) (4 * regionWords s)
     (λ b l g. queue-frame s b l g) (λ b l g. queue-long s b l g)
-    (λ b l g t i. called-next (put t i) (putRefusal b t i) (put-barred s b l g t (putRefusal b t i) i) (put-followed s b l g t i))
-    (λ b l g t. called-next (take t) (takeRefusal b t) (take-barred s b l g t ReadRoot (called (take t) (takeRefusal b t)) (λ u k. eqb-true u t k)) (take-followed s b l g t))
-    (λ b l g t. called-next (list t) (takeRefusal b t) (take-barred s b l g t ListReadRoot (called (list t) (takeRefusal b t)) (λ u k. eqb-true u t k)) (list-followed s b l g t))
-    (λ b l g t p. called-next (permit t p) (permitRefusal b t p) (λ u idle empty made. absurd (true≢false (sym made)))
+    (λ b l g t i. called-next s b l g (put t i) (putRefusal b t i) (put-barred s b l g t (putRefusal b t i) i) (put-tries s b l g t i)
+    (put-followed s b l g t i))
+    (λ b l g t. called-next s b l g (take t) (takeRefusal b t)
+    (take-barred s b l g t ReadRoot (called (take t) (takeRefusal b t)) (λ u k. eqb-true u t k))
+    (begin-tries s b l g ReadRoot one-item take (λ u v. refl) t) (take-followed s b l g t))
+    (λ b l g t. called-next s b l g (list t) (takeRefusal b t)
+    (take-barred s b l g t ListReadRoot (called (list t) (takeRefusal b t)) (λ u k. eqb-true u t k))
+    (begin-tries s b l g ListReadRoot whole-list list (λ u v. refl) t) (list-followed s b l g t))
+    (λ b l g t p. called-next s b l g (permit t p) (permitRefusal b t p) (λ u idle empty made. absurd (true≢false (sym made)))
+    (permit-tries s b l g t p)
     (subst (λ x. Next (QueueRegion s) Follows l x (permitBytes b t p)) (nothing-told (eqb (permitRefusal b t p) done)) (permit-followed s b l g t p)))
     (λ b l g x. turned-next s b l g x)
-    (λ b l g c r k. called-next c r (λ t idle empty made. refl) (call-still s b l g c r k))
+    (λ b l g c r k. called-next s b l g c r (λ t idle empty made. refl) (still-tries s b l g c r k) (call-still s b l g c r k))
     calls (layoutBytes s ps b) emptyLedger laid
     (subst (λ n. NoAcceptedLayout n calls) (laid-exact s ps b e ∙ sym (queue-long s (layoutBytes s ps b) emptyLedger laid)) h)
 

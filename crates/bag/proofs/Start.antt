@@ -95,15 +95,15 @@ module _ (s : Shape) (ps b : List ℕ) (e : layoutRefusal s ps (length b) ≡ do
   range = laid-shape s ps b e .cells-least
 
   -- every thread is idle
-  idle : (t : ℕ) → (p : ℕ) × (th t ≡ idleThread p)
-  idle t = go (between 1 t (s .threads)) refl
+  pub laid-idle : (t : ℕ) → (p : ℕ) × (threadIn (frameOf s) (layoutBytes s ps b) t ≡ idleThread p)
+  laid-idle t = go (between 1 t (s .threads)) refl
     where
       go : (q : Bool) → between 1 t (s .threads) ≡ q → (p : ℕ) × (th t ≡ idleThread p)
       go true h = (getD ps (t - 1) 0, laid-thread s ps b e t (between-least 1 t (s .threads) h) (between-most 1 t (s .threads) h))
       go false h = (0, laid-no-thread s ps b e t h)
 
   no-own : (t : ℕ) → th t .own ≡ 0
-  no-own t = ap (λ x. x .own) (idle t .1)
+  no-own t = ap (λ x. x .own) (laid-idle t .1)
 
   no-head : (o : ℕ) → (o ≡ 0 → ⊥) → heads (m .free) (m .node) (owns th) o ≡ 0
   unfolding heads pick
@@ -182,7 +182,7 @@ module _ (s : Shape) (ps b : List ℕ) (e : layoutRefusal s ps (length b) ≡ do
         holds =
             record {
               mound = mound;
-              at = λ t. subst (λ x. At s m x none (x .place)) (sym (idle t .1)) (refl, refl);
+              at = λ t. subst (λ x. At s m x none (x .place)) (sym (laid-idle t .1)) (refl, refl);
               bag = empty;
             };
       }

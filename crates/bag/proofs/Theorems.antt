@@ -3,36 +3,55 @@ use Prim.Native.Nat.{ℕ}
 use native.Mathlib.Omega.{arith}
 use mathlib.Core.Path.{_≡_, refl, sym, ap, subst, _∙_}
 use mathlib.Core.Bool.{Bool, true, false, true≢false}
-use mathlib.Core.List.{List}
-use Rattle.region.specs.Answer.{badThread, counterSpent, unreadable}
+use mathlib.Core.List.{List, _++_}
+use lib.ListN.{length}
+use Rattle.region.specs.Answer.{badThread, counterSpent, done, unreadable}
 use Rattle.region.specs.Frame.{frameOf}
 use Rattle.region.specs.Shape.{between}
 use Rattle.region.specs.Shared.{Shared, sharedIn, threadIn}
+use Rattle.region.specs.Thread.{goneIdle, idleThread}
 use Rattle.region.specs.declared.answer.Answer.{Answer}
 use Rattle.region.specs.declared.answer.Answer.the-variants.{Moved, Idle, Inserted, Took, Empty, Refused, Withdrawn}
 use Rattle.region.specs.declared.frame.Frame.{Frame}
+use Rattle.region.specs.declared.shape.Shape.{Shape}
 use Rattle.region.proofs.Shapes.{between-least, between-most}
 use Rattle.access.specs.Plan.{changesNothing, plan, refused}
-use Rattle.layout.specs.Layout.{layoutBytes}
+use Rattle.layout.specs.Layout.{layoutBytes, layoutRefusal}
+use Rattle.layout.proofs.Laws.{laid-shape}
 use Rattle.readable.specs.Readable.{frameIn, shapeIn}
 use Rattle.readable.proofs.Laws.{good}
 use Rattle.machine.specs.Turn.{turnAnswer, turnPlan}
 use Rattle.mound.specs.Ledger.{Ledger, Operation, emptyLedger}
+use Rattle.mound.proofs.Leaves.{Remembers, gone-remembers}
 use Rattle.mound.proofs.Plans.{Planned, moves, refuses, rests, operation-moves}
 use Rattle.mound.proofs.Steps.{owns}
-use Rattle.bag.specs.History.{history}
-use Rattle.bag.specs.Moments.{Throughout, regionAfter}
-use Rattle.bag.specs.Theorems.{CellsAccounted, NoTurnUnreadable, NoneFree, PutsEndInTime, RefusedTenWhenFull, SmallerTagFirst, StaysReadable, TakesCostExactly, TakesEndInTime}
+use Rattle.bag.specs.History.{Moment, history}
+use Rattle.bag.specs.Moments.{EachMoment, InEveryHistory, Throughout, regionAfter}
+use Rattle.bag.specs.Theorems.{CellsAccounted, LeafWordTells, NoLeafWhenIdle, NoTurnUnreadable, NoneFree, PutsEndInTime, RefusedTenWhenFull, SmallerTagFirst, StaysReadable, TakesCostExactly, TakesEndInTime}
+use Rattle.bag.specs.Tries.{triedSince}
 use Rattle.bag.proofs.Account.{all-cells-accounted, none-free-when-full, puts-refused-when-full}
-use Rattle.bag.proofs.Histories.{Kept, kept-after}
+use Rattle.bag.proofs.Histories.{Kept, kept-after, kept-each}
 use Rattle.bag.proofs.LeastFirst.{stays-behind}
 use Rattle.bag.proofs.PutCost.{puts-end}
 use Rattle.bag.proofs.Proved.{Moves, QueueRegion, history-kept, laid-queue, region-is-a-bag}
 use Rattle.bag.proofs.Regions.{Region, plan-fits, nowhere}
+use Rattle.bag.proofs.Start.{laid-idle}
 use Rattle.bag.proofs.TakeCost.{costs-end, take-costs}
+use Rattle.bag.proofs.Tries.{RemembersIn, TriesKept, tries-remembered, word-tells}
 pub use Rattle.bag.proofs.Proved.{region-is-a-bag}
 pub use Rattle.bag.proofs.Exported.{calls-are-exported}
 pub use Rattle.bag.proofs.LeastFirst.{least-has-least-key, least-is-one}
+
+-- every thread of a laid-out region is idle
+laid-remembers : (s : Shape) (ps b : List ℕ) → layoutRefusal s ps (length b) ≡ done → (t : ℕ)
+    → RemembersIn (frameIn (layoutBytes s ps b)) (layoutBytes s ps b) t false
+unfolding goneIdle frameOf
+laid-remembers s ps b e t =
+    let laid = layoutBytes s ps b in
+    let th = laid-idle s ps b e t in
+    subst (λ x. RemembersIn (frameOf x) laid t false) (sym (laid-queue s ps b e .shape))
+    (subst (λ x. Remembers s (sharedIn (frameOf s) laid .depth) x false) (sym (th .1))
+    (gone-remembers s (sharedIn (frameOf s) laid .depth) (idleThread (th .0)) false))
 
 -- the invariant holds of every region of a history, with some ledger
 holds : Throughout λ s permissions b. (l : Ledger) × QueueRegion s b l
@@ -121,6 +140,26 @@ pub puts-end-in-time : PutsEndInTime
 puts-end-in-time s ps b e calls n earlier later split =
     puts-end (regionAfter (layoutBytes s ps b) earlier) (stays-readable s ps b e calls n earlier later split .0)
     (cells-accounted s ps b e calls n earlier later split)
+
+-- leaf words remember tries, from a laid-out region on
+remembers : InEveryHistory λ s permissions b ms. (earlier later : List Moment) → ms ≡ earlier ++ later → (t : ℕ)
+    → RemembersIn (frameIn (regionAfter b earlier)) (regionAfter b earlier) t (triedSince t false b earlier)
+remembers s ps b e calls n earlier later split t =
+    let laid = layoutBytes s ps b in
+    tries-remembered t earlier later laid false
+    (subst (EachMoment TriesKept laid) split
+    (kept-each (QueueRegion s) Moves TriesKept (λ b m l l′ h. h .tries) (history laid calls) laid emptyLedger (history-kept s ps b e calls n)))
+    (laid-remembers s ps b e t)
+
+pub leaf-word-tells : LeafWordTells
+leaf-word-tells s ps b e calls n earlier later split t =
+    let laid = layoutBytes s ps b in
+    let reads = stays-readable s ps b e calls n earlier later split in
+    word-tells s (regionAfter laid earlier) t (triedSince t false laid earlier) (reads .1) (laid-shape s ps b e .depth-least)
+    (remembers s ps b e calls n earlier later split t)
+
+pub no-leaf-when-idle : NoLeafWhenIdle
+no-leaf-when-idle s ps b e calls n earlier later split t = remembers s ps b e calls n earlier later split t .idle
 
 -- from demand 3's ledger
 pub smaller-tag-first : SmallerTagFirst

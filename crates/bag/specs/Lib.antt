@@ -13,3 +13,4 @@ pub mod TakeCost
 pub mod Theorems
 pub mod Told
 pub mod TookInOrder
+pub mod Tries

@@ -2,8 +2,8 @@
 -- proved under its name in proofs/Theorems.antt.
 use Prim.Native.Nat.{ℕ, _≤_, _<_}
 use mathlib.Core.Path.{_≡_}
-use mathlib.Core.Bool.{true}
-use mathlib.Core.List.{List}
+use mathlib.Core.Bool.{false, true}
+use mathlib.Core.List.{List, _++_}
 use Rattle.region.specs.Answer.{unreadable}
 use Rattle.region.specs.declared.answer.Answer.the-variants.{Refused}
 use Rattle.region.specs.declared.record.Item.{Item}
@@ -14,10 +14,11 @@ use Rattle.mound.specs.Told.{decidesList}
 use Rattle.bag.specs.Account.{AllCellsAccounted, NoneFreeWhenFull, PutsRefusedWhenFull}
 use Rattle.bag.specs.Demand3.{inTree}
 use Rattle.bag.specs.History.{Moment}
-use Rattle.bag.specs.Moments.{EachMoment, InEveryHistory, Throughout}
+use Rattle.bag.specs.Moments.{EachMoment, InEveryHistory, Throughout, regionAfter}
 use Rattle.bag.specs.PutCost.{PutsEnd}
 use Rattle.bag.specs.TakeCost.{TakesCost, TakesEnd}
 use Rattle.bag.specs.Told.{tells}
+use Rattle.bag.specs.Tries.{NoLeafIdle, WordTells, triedSince}
 
 -- the region is readable, and its first words are the layout's still
 abbrev pub StaysReadable : Type 0
@@ -53,6 +54,16 @@ TakesEndInTime = Throughout λ s permissions b. TakesEnd b
 -- (document 02, request 8)
 abbrev pub PutsEndInTime : Type 0
 PutsEndInTime = Throughout λ s permissions b. PutsEnd b
+
+-- "The leaf word already tells whether there was such a try" (request 8), one with d at D since the put began
+abbrev pub LeafWordTells : Type 0
+LeafWordTells =
+    InEveryHistory λ s permissions b ms. (earlier later : List Moment) → ms ≡ earlier ++ later → (t : ℕ)
+    → WordTells s (regionAfter b earlier) t (triedSince t false b earlier)
+
+-- a put begins with leaf word 0: so has every idle thread
+abbrev pub NoLeafWhenIdle : Type 0
+NoLeafWhenIdle = Throughout λ s permissions b. NoLeafIdle b
 
 -- "The bag gives up its least item under that order" (document 02, request 2): no bag has two least items, so nothing is left open about which
 -- item a take removes

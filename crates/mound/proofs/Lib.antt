@@ -7,6 +7,7 @@ pub mod Effects
 pub mod Facts
 pub mod Held
 pub mod Holders
+pub mod Leaves
 pub mod Order
 pub mod Plans
 pub mod Sorted

@@ -1,7 +1,7 @@
 -- Every plan of a thread at its place: its effect is one that the mound allows, what it tells fits the thread's operation, and
 -- the facts of its next place hold; or the turn is refused 11 for a counter that is spent, and never 7. Assumes nothing.
 use Prim.Native.Nat.{ℕ, suc, _+_, _-_, _*_, _/_, _^_, _≤_, _<_}
-use native.Mathlib.Nat.{div-le-self, le-div-iff-mul-le, mod-lt, pow-suc}
+use native.Mathlib.Nat.{div-le-self, le-div-iff-mul-le, pow-suc}
 use native.Mathlib.Omega.{arith}
 use mathlib.Core.Path.{_≡_, refl, sym, ap, subst, _∙_}
 use mathlib.Core.Bool.{Bool, true, false, not, _&&_, _||_, true≢false}
