@@ -103,11 +103,11 @@ module _ (f : Frame) (t : ℕ) (m : Shared) (u : Thread) where
   module _ (may : Thread → Bool) (C : List Step → Type 0)
       (now : (n : ℕ) (b : List ℕ) (c : ℕ) (xs : List Between) → Good f b → sharedIn f b ≡ m → threadIn f b t ≡ withPermission u n
       → may (withPermission u n) ≡ true → NoOtherMoves f (turnBytes f b t c) t xs
-      → PermissionKept (may) f (turnBytes f b t c) t xs → C (stepOf f b t c ∷ stepsOf f (turnBytes f b t c) t xs)) where
+      → PermissionKept may f (turnBytes f b t c) t xs → C (stepOf f b t c ∷ stepsOf f (turnBytes f b t c) t xs)) where
     -- a turn: t's own, or another's, which leaves the region as it is
     turn-next : (b : List ℕ) (x : Turn) (xs : List Between) → StillSo b → NoOtherMoves f b t (turn x ∷ xs)
-        → PermissionKept (may) f b t (turn x ∷ xs)
-        → ((b′ : List ℕ) → StillSo b′ → NoOtherMoves f b′ t xs → PermissionKept (may) f b′ t xs
+        → PermissionKept may f b t (turn x ∷ xs)
+        → ((b′ : List ℕ) → StillSo b′ → NoOtherMoves f b′ t xs → PermissionKept may f b′ t xs
         → 1 ≤ length (stepsOf f b′ t xs) → C (stepsOf f b′ t xs))
         → 1 ≤ length (stepsOf f b t (turn x ∷ xs)) → C (stepsOf f b t (turn x ∷ xs))
     unfolding stepsOf pick turnAnswer
@@ -122,14 +122,14 @@ module _ (f : Frame) (t : ℕ) (m : Shared) (u : Thread) where
         go true e long =
             let same = eqb-true (x .thread) t e in
             subst (λ k. C (stepOf f b k (x .choice) ∷ stepsOf f (turnBytes f b k (x .choice)) t xs)) (sym same)
-            (now (h .permission) b (x .choice) xs (h .good) (h .shared) (h .thread) (ap (may) (sym (h .thread)) ∙ kept .0)
+            (now (h .permission) b (x .choice) xs (h .good) (h .shared) (h .thread) (ap may (sym (h .thread)) ∙ kept .0)
             (subst (λ k. NoOtherMoves f (turnBytes f b k (x .choice)) t xs) same (quiet .1))
-            (subst (λ k. PermissionKept (may) f (turnBytes f b k (x .choice)) t xs) same (kept .1)))
+            (subst (λ k. PermissionKept may f (turnBytes f b k (x .choice)) t xs) same (kept .1)))
         go false e long =
             let stays : after ≡ b = turn-stays f b (x .thread) (x .choice) (quiet .0 (eqb-false (x .thread) t e)) in
             more after (subst StillSo (sym stays) h) (quiet .1) (kept .1) long
 
-    first-turn : (xs : List Between) (b : List ℕ) → StillSo b → NoOtherMoves f b t xs → PermissionKept (may) f b t xs
+    first-turn : (xs : List Between) (b : List ℕ) → StillSo b → NoOtherMoves f b t xs → PermissionKept may f b t xs
         → 1 ≤ length (stepsOf f b t xs) → C (stepsOf f b t xs)
     unfolding stepsOf
     first-turn [] b h quiet kept long = absurd (omega arith)
