@@ -1,10 +1,10 @@
 -- What the crates above know of a put's places: I2 reads a leaf of level d; what I8's comparison tells. Assumes nothing.
-use Prim.Native.Nat.{ℕ, _-_, _/_, _^_, _≤_, _<_}
-use native.Mathlib.Nat.{mod-lt}
+use Prim.Native.Nat.{ℕ, _+_, _-_, _/_, _%_, _^_, _≤_, _<_}
+use native.Mathlib.Nat.{add-mod-right, mod-eq-of-lt, mod-eq-sub-mod, mod-lt, mod-self}
 use native.Mathlib.Omega.{arith}
-use mathlib.Core.Path.{_≡_, refl}
-use mathlib.Core.Bool.{true}
-use borrow.Author.Tests.{eq-eqb, ltb-true}
+use mathlib.Core.Path.{_≡_, refl, ap, _∙_}
+use mathlib.Core.Bool.{Bool, true, false}
+use borrow.Author.Tests.{eq-eqb, ltb-false, ltb-true}
 use lib.Dec.{eqb, ltb}
 use lib.Pow.{pow-pos}
 use Rattle.region.specs.Pick.{pick}
@@ -46,6 +46,28 @@ module _ (d : ℕ) (some : 1 ≤ d) where
       pick-good (LeafOf d) (ltb leaf (2 ^ d - 1))
       (λ e. let l = ltb-true leaf (2 ^ d - 1) e in record { least = omega (arith, h .least); most = omega arith })
       (λ e. record { least = omega arith; most = omega (arith, power-doubles d some, pow-pos (d - 1)) })
+
+  -- as a choice, a leaf's own number names it, and the number behind it the next leaf
+  pub chosen-itself : (leaf : ℕ) → LeafOf d leaf → leafOf d leaf ≡ leaf
+  unfolding leafOf
+  chosen-itself leaf h =
+      let e : leaf % 2 ^ (d - 1) ≡ leaf - 2 ^ (d - 1) =
+      mod-eq-sub-mod (h .least) ∙ mod-eq-of-lt (omega (arith, h .most, power-doubles d some, pow-pos (d - 1))) in
+      omega (arith, e, h .least)
+
+  pub next-chosen : (leaf : ℕ) → LeafOf d leaf → leafOf d (leaf + 1) ≡ nextLeaf d leaf
+  unfolding leafOf nextLeaf pick
+  next-chosen leaf h = go (ltb leaf (2 ^ d - 1)) refl
+    where
+      go : (q : Bool) → ltb leaf (2 ^ d - 1) ≡ q → leafOf d (leaf + 1) ≡ pick q (leaf + 1) (2 ^ (d - 1))
+      go true e =
+          let l = ltb-true leaf (2 ^ d - 1) e in
+          chosen-itself (leaf + 1) (record { least = omega (arith, h .least); most = omega arith })
+      go false e =
+          let m = 2 ^ (d - 1) in
+          let last : leaf + 1 ≡ m + m = omega (arith, ltb-false leaf (2 ^ d - 1) e, h .most, power-doubles d some) in
+          let none : (leaf + 1) % m ≡ 0 = ap (λ x. x % m) last ∙ add-mod-right m m ∙ mod-self m in
+          omega (arith, none)
 
 -- I2 reads a leaf of level d, and a failed try leaves one in the leaf word.
 module _ (s : Shape) (t : Thread) (some : 1 ≤ t .depth) where

@@ -1,12 +1,13 @@
 -- The ways out of the functions, over plain variables: at each `return` the tests passed decide the definition. Assumes nothing.
-use Prim.Native.Nat.{ℕ, _+_, _-_, _/_, _%_, _^_, _≤_, _<_}
-use native.Mathlib.Nat.{mod-lt}
+use Prim.Native.Nat.{ℕ, _+_, _-_, _*_, _/_, _%_, _^_, _≤_, _<_}
+use native.Mathlib.Decide.{ℕ-discrete, decLt}
+use native.Mathlib.Nat.{div-lt-iff-lt-mul, le-div-iff-mul-le, mod-lt}
 use native.Mathlib.Omega.{arith}
-use mathlib.Core.Path.{_≡_, refl, sym, ap, _∙_}
+use mathlib.Core.Path.{_≡_, refl, sym, ap, subst, _∙_}
 use mathlib.Core.Bool.{Bool, true, false, not}
 use mathlib.Core.List.{List}
 use borrow.Author.Tests.{lt-ltb, le-ltb, eq-eqb, ne-eqb, not-true, not-false}
-use lib.Dec.{ltb}
+use lib.Dec.{eqb, ltb}
 use lib.Pow.{pow-mono, pow-pos}
 use Rattle.words.specs.Word.{word}
 use Rattle.region.specs.Answer.{unreadable, counterSpent}
@@ -25,13 +26,14 @@ use Rattle.region.specs.declared.record.NodeCopy.{NodeCopy}
 use Rattle.region.specs.declared.shape.Shape.{Shape}
 use Rattle.region.specs.declared.thread.Thread.{Thread}
 use Rattle.region.proofs.Levels.{level-most, power-doubles}
-use Rattle.region.proofs.Shapes.{and-right, between-least, between-most}
+use Rattle.region.proofs.Shapes.{above, and-right, below, between-least, between-most, is-between}
 use Rattle.access.specs.Order.{itemLe, itemLt, valueOf}
 use Rattle.access.specs.Plan.{plan, onTo, refused}
 use Rattle.access.specs.Read.{isLevel, isSpent, readNode, sameNode, updated}
 use Rattle.access.specs.declared.effect.Effect.the-variants.{Grow, Push}
 use Rattle.access.specs.declared.plan.Plan.{Plan}
-use Rattle.insert.specs.Insert.{searching, afterAncestorRead, nodeAndParentSame, failedPlace, growDepth, hasMiddle, hasTriedDeepest, insertAt, insertAtRoot, insertBelow, isLeafOf, leafAfterFailedTry, afterFailedTry, leafOf, leafToRead, afterLeafRead, middleLevel, nextLeaf, nextTries, readAncestor, readDepth, readLeaf, readParent, readTarget, searchOn, targetPlace}
+use Rattle.insert.specs.Insert.{searching, afterAncestorRead, nodeAndParentSame, failedPlace, growDepth, hasMiddle, hasTriedDeepest, insertAt, insertAtRoot, insertBelow, isLeafOf, leafAfterFailedTry, afterFailedTry, leafOf, leafToRead, afterLeafRead, middleLevel, nextTries, readAncestor, readDepth, readLeaf, readParent, readTarget, searchOn, targetPlace}
+use Rattle.insert.proofs.Laws.{LeafOf, chosen-itself, leaf-tests, next-chosen, read-leaf, tested-leaf}
 
 -- I1, and the search.
 pub depth-read : (f : Frame) (b : List ℕ) (t t₁ t₂ : Thread) (d : ℕ) (r : Plan) → d ≡ word b (f .depth) → t₁ ≡ withDepth t d
@@ -73,12 +75,6 @@ module _ (d m : ℕ) (e : m ≡ mark d) where
   few-leaves : d ≤ 12 → m ≤ 2048
   few-leaves h = let p : mark d ≤ 2048 = pow-mono {i = d - 1} {j = 11} (omega arith) in omega arith
 
-  pub last-fits : d ≤ 12 → m + (m - 1) < 2 ^ 32
-  last-fits h = omega (arith, few-leaves h)
-
-  pub last-named : 1 ≤ d → m + (m - 1) ≡ 2 ^ d - 1
-  last-named h = omega (arith, e, power-doubles d h)
-
   module _ (choice : ℕ) where
     pub leaf-fits : d ≤ 12 → m + choice % m < 2 ^ 32
     leaf-fits h = omega (arith, few-leaves h, mod-lt choice some-leaf)
@@ -87,18 +83,27 @@ module _ (d m : ℕ) (e : m ≡ mark d) where
     unfolding leafOf
     leaf-named = ap (λ x. x + choice % x) e
 
-module _ (d leaf last : ℕ) (e : last ≡ 2 ^ d - 1) where
-  pub leaf-tested : (first : ℕ) (q : Bool) → first ≡ mark d → q ≡ between first leaf last → q ≡ isLeafOf d leaf
+  -- the quotient tells the level
+  pub leaf-tested : (leaf : ℕ) → 1 ≤ d → eqb (leaf / m) 1 ≡ isLeafOf d leaf
   unfolding isLeafOf
-  leaf-tested first q ef eq = eq ∙ (λ i. between (ef i) leaf (e i))
+  leaf-tested leaf some = go (ℕ-discrete (leaf / m) 1)
+    where
+      twice : 2 ^ d ≡ 2 * m
+      twice = omega (arith, e, power-doubles d some)
 
-  pub leaf-follows : leaf < last → leaf + 1 ≡ nextLeaf d leaf
-  unfolding nextLeaf pick
-  leaf-follows h = rw (← e, lt-ltb leaf last h) refl
-
-  pub first-follows : last ≤ leaf → (first : ℕ) → first ≡ mark d → first ≡ nextLeaf d leaf
-  unfolding nextLeaf pick
-  first-follows h first ef = rw (← e, le-ltb leaf last h) ef
+      go : Dec (leaf / m ≡ 1) → eqb (leaf / m) 1 ≡ between (mark d) leaf (2 ^ d - 1)
+      go (yes k) =
+          let l : 1 * m ≤ leaf = le-div-iff-mul-le some-leaf .0 (omega arith) in
+          let u : leaf < 2 * m = div-lt-iff-lt-mul some-leaf .0 (omega arith) in
+          eq-eqb (leaf / m) 1 k ∙ sym (is-between (mark d) leaf (2 ^ d - 1) (omega (arith, e)) (omega (arith, twice)))
+      go (no n) = ne-eqb (leaf / m) 1 n ∙ sym (other (decLt leaf m))
+        where
+          other : Dec (leaf < m) → between (mark d) leaf (2 ^ d - 1) ≡ false
+          other (yes l) = below (mark d) leaf (2 ^ d - 1) (omega (arith, e))
+          other (no l) =
+              let some-times : 1 ≤ leaf / m = le-div-iff-mul-le some-leaf .1 (omega arith) in
+              let twice-at-least : 2 * m ≤ leaf = le-div-iff-mul-le some-leaf .0 (omega arith) in
+              above (mark d) leaf (2 ^ d - 1) (omega (arith, twice, some-leaf))
 
 module _ (s : Shape) (t : Thread) where
   pub not-deepest : (t .depth ≡ s .depth → ⊥) → false ≡ hasTriedDeepest s t
@@ -110,9 +115,11 @@ module _ (s : Shape) (t : Thread) where
   deepest-tested h q e = rw (eq-eqb (t .depth) (s .depth) h) e
 
   module _ (choice : ℕ) (q : Bool) (eq : q ≡ hasTriedDeepest s t) where
-    pub leaf-word-counts : q ≡ true → t .search .leaf ≡ leafToRead s t choice
-    unfolding leafToRead pick
-    leaf-word-counts h = rw (← eq, h) refl
+    pub leaf-word-counts : q ≡ true → 1 ≤ t .depth → (leaf : ℕ) → leaf ≡ leafOf (t .depth) (t .search .leaf) → leaf ≡ leafToRead s t choice
+    unfolding leafToRead hasTriedDeepest pick
+    leaf-word-counts h some leaf e =
+        let tested : isLeafOf (t .depth) (t .search .leaf) ≡ true = and-right (eqb (t .depth) (s .depth)) _ (sym eq ∙ h) in
+        rw (← eq, h) (e ∙ chosen-itself (t .depth) some (t .search .leaf) (tested-leaf (t .depth) some (t .search .leaf) tested))
 
     pub choice-counts : q ≡ false → (leaf : ℕ) → leaf ≡ leafOf (t .depth) choice → leaf ≡ leafToRead s t choice
     unfolding leafToRead pick
@@ -123,9 +130,15 @@ module _ (s : Shape) (t : Thread) where
     unfolding leafAfterFailedTry pick
     leaf-stays n = rw (ne-eqb (t .depth) (s .depth) n) refl
 
-    pub leaf-moves : t .depth ≡ s .depth → (next : ℕ) → next ≡ nextLeaf (t .depth) leaf → next ≡ leafAfterFailedTry s t leaf
-    unfolding leafAfterFailedTry pick
-    leaf-moves h next e = rw (eq-eqb (t .depth) (s .depth) h) e
+    module _ (some : 1 ≤ t .depth) (tested : isLeafOf (t .depth) leaf ≡ true) where
+      pub next-fits : t .depth ≤ 12 → leaf + 1 < 2 ^ 32
+      next-fits few =
+          omega (arith, tested-leaf (t .depth) some leaf tested .most, pow-mono {i = t .depth} {j = 12} few)
+
+      pub leaf-moves : t .depth ≡ s .depth → (next : ℕ) → next ≡ leafOf (t .depth) (leaf + 1) → next ≡ leafAfterFailedTry s t leaf
+      unfolding leafAfterFailedTry pick
+      leaf-moves h next e =
+          rw (eq-eqb (t .depth) (s .depth) h) (e ∙ next-chosen (t .depth) some leaf (tested-leaf (t .depth) some leaf tested))
 
 module _ (s : Shape) (t : Thread) where
   pub tries-more : t .search .tries < s .threshold → t .search .tries + 1 ≡ nextTries s t
@@ -181,6 +194,12 @@ module _ (s : Shape) (j : ℕ) (q : Bool) (e : q ≡ isLevel s j) (n : not q ≡
 
   pub level-next : s .depth ≤ 12 → j + 1 < 2 ^ 32
   level-next h = omega (arith, level-few h)
+
+pub read-tested : (s : Shape) (t : Thread) (choice : ℕ) (q : Bool) → q ≡ isLevel s (t .depth) → not q ≡ false → (leaf : ℕ)
+    → leaf ≡ leafToRead s t choice → isLeafOf (t .depth) leaf ≡ true
+read-tested s t choice q eq n leaf el =
+    let some = level-some s (t .depth) q eq n in
+    leaf-tests (t .depth) some leaf (subst (LeafOf (t .depth)) (sym el) (read-leaf s t some choice))
 
 module _ (s : Shape) (m : Shared) (t : Thread) (choice : ℕ) (r : Plan) (q : Bool) (eq : q ≡ isLevel s (t .depth)) where
   pub no-leaves : not q ≡ true → r ≡ refused t unreadable → r ≡ readLeaf s m t choice

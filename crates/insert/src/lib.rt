@@ -1,10 +1,11 @@
 // The eight places of a put, I1 to I8: each decides a plan and changes nothing itself.
 ghost use mathlib.Core.Path.{_≡_};
-ghost use Prim.Native.Nat.{_-_, _^_, _≤_};
+ghost use Prim.Native.Nat.{_≤_};
+ghost use mathlib.Core.Bool.{true};
 ghost use lib.ListN.{length};
 ghost use Rattle.region.specs.Inner.{Within};
 ghost use Rattle.region.specs.Shared.{sharedIn};
-ghost use Rattle.insert.specs.Insert.{afterAncestorRead, nodeAndParentSame, failedPlace, growDepth, hasMiddle, hasTriedDeepest, insertAt, insertAtRoot, insertBelow, isLeafOf, leafAfterFailedTry, afterFailedTry, leafOf, leafToRead, afterLeafRead, middleLevel, nextLeaf, nextTries, readAncestor, readDepth, readLeaf, readParent, readTarget, searchOn, targetPlace};
+ghost use Rattle.insert.specs.Insert.{afterAncestorRead, nodeAndParentSame, failedPlace, growDepth, hasMiddle, hasTriedDeepest, insertAt, insertAtRoot, insertBelow, isLeafOf, leafAfterFailedTry, afterFailedTry, leafOf, leafToRead, afterLeafRead, middleLevel, nextTries, readAncestor, readDepth, readLeaf, readParent, readTarget, searchOn, targetPlace};
 use access::Effect;
 use access::Plan;
 use region::Answer;
@@ -55,21 +56,12 @@ fn leaf_of(d: u32, choice: u32) -> u32
     leaves + choice % leaves
 }
 
-// The last leaf of level d.
-fn last_leaf(d: u32) -> u32
-    requires { ⌜ (1 ≤ d) × (d ≤ 12) ⌝ }
-    ensures { λ r. ⌜ r ≡ 2 ^ d - 1 ⌝ }
-{
-    let leaves = region::mark_of(d);
-    leaves + (leaves - 1)
-}
-
 // Whether this is a leaf of level d.
 fn is_leaf_of(d: u32, leaf: u32) -> bool
     requires { ⌜ (1 ≤ d) × (d ≤ 12) ⌝ }
     ensures { λ r. ⌜ r ≡ isLeafOf d leaf ⌝ }
 {
-    region::is_between(region::mark_of(d), leaf, last_leaf(d))
+    leaf / region::mark_of(d) == 1
 }
 
 // Whether the put has tried a leaf of the greatest depth.
@@ -83,37 +75,26 @@ fn has_tried_deepest(shape: Shape, t: Thread) -> bool
     is_leaf_of(t.depth, t.search.leaf)
 }
 
-// The leaf to read: the one in the leaf word, or the one that the choice names.
+// The leaf to read: the one in the leaf word, or the one that the choice names. A leaf's own number names that leaf.
 fn leaf_to_read(shape: Shape, t: Thread, choice: u32) -> u32
     requires { ⌜ (1 ≤ t .depth) × (t .depth ≤ 12) ⌝ }
     ensures { λ r. ⌜ r ≡ leafToRead shape t choice ⌝ }
 {
     if has_tried_deepest(shape, t) {
-        return t.search.leaf;
+        return leaf_of(t.depth, t.search.leaf);
     }
     leaf_of(t.depth, choice)
 }
 
-// The next leaf of level d; after the last, the first.
-fn next_leaf(d: u32, leaf: u32) -> u32
-    requires { ⌜ (1 ≤ d) × (d ≤ 12) ⌝ }
-    ensures { λ r. ⌜ r ≡ nextLeaf d leaf ⌝ }
-{
-    if leaf < last_leaf(d) {
-        return leaf + 1;
-    }
-    region::mark_of(d)
-}
-
-// The leaf word after a failed try.
+// The leaf word after a failed try: the number behind a leaf names the next one, and behind the last the first.
 fn leaf_after_failed_try(shape: Shape, t: Thread, leaf: u32) -> u32
-    requires { ⌜ (1 ≤ t .depth) × (t .depth ≤ 12) ⌝ }
+    requires { ⌜ (1 ≤ t .depth) × (t .depth ≤ 12) × (isLeafOf (t .depth) leaf ≡ true) ⌝ }
     ensures { λ r. ⌜ r ≡ leafAfterFailedTry shape t leaf ⌝ }
 {
     if t.depth != shape.depth {
         return leaf;
     }
-    next_leaf(t.depth, leaf)
+    leaf_of(t.depth, leaf + 1)
 }
 
 // The tries after one more, at most the threshold.
@@ -142,7 +123,7 @@ fn failed_place(shape: Shape, t: Thread) -> Place
 
 // The leaf's value is below the item.
 fn after_failed_try(shape: Shape, t: Thread, leaf: u32, q: NodeCopy) -> Plan
-    requires { ⌜ (1 ≤ t .depth) × (t .depth ≤ 12) ⌝ }
+    requires { ⌜ (1 ≤ t .depth) × (t .depth ≤ 12) × (isLeafOf (t .depth) leaf ≡ true) ⌝ }
     ensures { λ r. ⌜ r ≡ afterFailedTry shape t leaf q ⌝ }
 {
     let old = t.search;
@@ -157,7 +138,7 @@ fn after_failed_try(shape: Shape, t: Thread, leaf: u32, q: NodeCopy) -> Plan
 
 // The leaf was read: the search begins, or the try failed.
 fn after_leaf_read(shape: Shape, t: Thread, leaf: u32, q: NodeCopy) -> Plan
-    requires { ⌜ (1 ≤ t .depth) × (t .depth ≤ 12) ⌝ }
+    requires { ⌜ (1 ≤ t .depth) × (t .depth ≤ 12) × (isLeafOf (t .depth) leaf ≡ true) ⌝ }
     ensures { λ r. ⌜ r ≡ afterLeafRead shape t leaf q ⌝ }
 {
     if !access::item_le(t.item, access::value_of(q)) {

@@ -1,7 +1,7 @@
 -- `insert::read_leaf` meets its contract: the depth is a level, or the turn is refused. Assumes nothing.
 use borrow.Author.Needs.{needs}
 use Rattle.insert.proofs.read_leaf.Statement.{statement}
-use Rattle.insert.proofs.Ways.{level-some, level-few, no-leaves, leaf-reached}
+use Rattle.insert.proofs.Ways.{level-some, level-few, no-leaves, read-tested, leaf-reached}
 use Rattle.insert.proofs.read_leaf.Tie as tie
 
 is-level-requires : tie.Need-is-level-requires
@@ -20,7 +20,7 @@ read-node-requires : tie.Need-read-node-requires
 read-node-requires c κs = search needs
 
 after-leaf-read-requires : tie.Need-after-leaf-read-requires
-after-leaf-read-requires c κs = (search level-some, search level-few)
+after-leaf-read-requires c κs = (search level-some, search level-few, search read-tested)
 
 returns-2 : tie.Need-returns-2
 returns-2 c = search leaf-reached
