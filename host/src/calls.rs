@@ -125,7 +125,8 @@ pub fn permit(region: &mut [u8], thread: u32, permission: u32) -> u32 {
 
 /// Serves the turns of a schedule, two words each (thread, choice), in order until it ends or the
 /// accesses made equal the limit, and writes three words (code, key, tag) for each served turn: those
-/// of its [`Answer`](crate::Answer). Bytes past the last of these stay as they were.
+/// of its [`Answer`](crate::Answer). Bytes past the last of these stay as they were. What a choice is for
+/// is said at [`Turn`](crate::Turn).
 ///
 /// Answers three numbers in one: bits 0 to 15 are the refusal or 0, bits 16 to 31 the turns served,
 /// bits 32 to 63 the accesses made; a refused call has served and made none.

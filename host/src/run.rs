@@ -11,7 +11,9 @@ use crate::{calls, Answer, Refusal};
 pub struct Turn {
     /// The thread whose turn it is, counted from 1.
     pub thread: u32,
-    /// Picks the leaf where the turn makes a put try one; every other turn leaves it unused.
+    /// Picks the leaf where the turn makes a put try one; every other turn leaves it unused. A put that has
+    /// tried a leaf at the greatest depth uses none either: it goes on from there, leaf by leaf, so that
+    /// poor choices cannot keep it from a free one.
     pub choice: u32,
 }
 

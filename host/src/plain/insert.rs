@@ -3,7 +3,7 @@
 use super::fields::{Field, Place, MAY_PUT, ROOT};
 use super::memory::{Node, Update};
 use super::record::Copied;
-use super::turn::{ancestor, existing, Outcome, Turn};
+use super::turn::{ancestor, existing, level_of, Outcome, Turn};
 use crate::{Answer, Refusal};
 
 /// The binary search of line 18: the levels between which it goes on, or the ancestor that it has
@@ -22,6 +22,13 @@ impl Search {
     }
 }
 
+/// The leaf of level d that a number picks: they are counted from 0, and after the last comes the first. A
+/// leaf's own number picks that leaf, and the number behind it the next one.
+fn leaf_of(d: u32, number: u32) -> u32 {
+    let leaves = 1 << (d - 1);
+    leaves + number % leaves
+}
+
 impl Turn<'_, '_> {
     /// I1, line 15: READ depth.
     pub(super) fn read_depth(&mut self) -> Outcome {
@@ -31,28 +38,41 @@ impl Turn<'_, '_> {
         self.moved_to(Place::I2)
     }
 
-    /// I2, lines 16 to 18: READ a leaf of level d, picked by the choice.
+    /// I2, lines 16 to 18: READ a leaf of level d. At the greatest depth a try that fails leaves the next
+    /// leaf in the leaf word, change request 8; otherwise the word is the leaf that was read.
     pub(super) fn try_leaf(&mut self, choice: u32) -> Outcome {
         let d = existing(self.thread.get(Field::D))?;
-        let first_leaf = 1 << (d - 1);
-        let leaf = first_leaf + choice % first_leaf;
+        let leaf = self.leaf_to_try(d, choice);
         let copy = self.memory.read(leaf)?;
         self.needs(MAY_PUT)?;
-        self.thread.set(Field::Leaf, leaf);
         self.thread.set_copy(Copied::First, copy);
         if copy.val() >= self.thread.item() {
+            self.thread.set(Field::Leaf, leaf);
             // Never refused: the search starts at the leaf's own level.
             return self.search_on(Search::of(leaf, 1, d)?);
         }
         let tries = self.thread.get(Field::Tries) + 1;
         self.thread.set(Field::Tries, tries);
+        let may_grow = d < self.shape.depth;
+        self.thread.set(Field::Leaf, if may_grow { leaf } else { leaf_of(d, leaf + 1) });
         self.moved_to(if tries < self.shape.threshold {
             Place::I2
-        } else if d < self.shape.depth {
+        } else if may_grow {
             Place::I4
         } else {
             Place::I1
         })
+    }
+
+    /// The leaf of level d that I2 reads. The choice picks it, unless the leaf word is a leaf of the
+    /// greatest depth: it is one exactly if the put has tried a leaf there.
+    fn leaf_to_try(&self, d: u32, choice: u32) -> u32 {
+        let word = self.thread.get(Field::Leaf);
+        if d == self.shape.depth && level_of(word) == d {
+            word
+        } else {
+            leaf_of(d, choice)
+        }
     }
 
     /// I3, line 18: READ the leaf's ancestor halfway between lo and hi.

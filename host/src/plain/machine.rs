@@ -92,7 +92,7 @@ impl<'a> Machine<'a> {
     }
 
     /// Serves a turn of a thread: the access of its place and the local work up to the next. The
-    /// choice picks the leaf at I2.
+    /// choice picks the leaf at I2, unless the put has tried one at the greatest depth before.
     ///
     /// It is refused, in this order and with no byte changed: 3 for the thread; 7 where the access
     /// or the local work names what does not exist; 11 where an update meets a spent counter. Between

@@ -3,6 +3,7 @@
 
 pub mod beginnings;
 pub mod fields;
+pub mod leaves;
 pub mod queue;
 pub mod random;
 pub mod values;

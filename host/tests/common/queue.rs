@@ -204,21 +204,37 @@ impl Queue {
     /// Makes those copies equal to their nodes, and the copied heads to the nodes' heads.
     pub fn match_copies(&mut self, thread: u32) {
         for (copy, node) in self.compared(thread) {
-            let words = self.node(node);
-            let head = if words[0] == 0 { [0; 3] } else { self.cell(words[0]) };
-            self.set_words(copy, words);
-            self.set_words(copy + 3, head);
+            for (at, word) in (copy..).zip(self.read(node)) {
+                self.set_word(at, word);
+            }
         }
+    }
+
+    /// What a READ copies of a node: its words, then those of its head cell, all 0 for an empty list.
+    pub fn read(&self, node: u32) -> [u32; 6] {
+        let [first_cell, dirty, counter] = self.node(node);
+        let [key, tag, next] = if first_cell == 0 { [0; 3] } else { self.cell(first_cell) };
+        [first_cell, dirty, counter, key, tag, next]
+    }
+
+    /// One of a thread's node copies, the first as 0.
+    pub fn copy(&self, thread: u32, copy: usize) -> [u32; 6] {
+        std::array::from_fn(|word| self.field(thread, COPIES[copy] + word))
     }
 
     pub fn place(&self, thread: u32) -> u32 {
         self.field(thread, PLACE)
     }
 
-    /// The item of the root's head cell.
-    pub fn head_of_root(&self) -> Option<Item> {
-        let [first_cell, ..] = self.node(1);
+    /// The item of a node's head cell.
+    pub fn value_of(&self, node: u32) -> Value {
+        let [first_cell, ..] = self.node(node);
         (first_cell != 0).then(|| self.item(first_cell))
+    }
+
+    /// Whether the tree has its greatest depth.
+    pub fn is_of_greatest_depth(&self) -> bool {
+        self.word(PRESENT_DEPTH) == self.shape().depth
     }
 
     /// The cells from one by next cells to 0, at most as many as there are cells.
@@ -305,6 +321,12 @@ impl Queue {
     /// The threads that may begin a take: idle, and with the permission.
     pub fn may_take(&self) -> impl Iterator<Item = u32> + '_ {
         self.idle().filter(|&thread| self.field(thread, PERMISSION) & 2 != 0)
+    }
+
+    /// The threads that may begin a put: idle, and with the permission, while a cell is free.
+    pub fn may_put(&self) -> impl Iterator<Item = u32> + '_ {
+        let a_cell_is_free = self.word(FIRST_FREE_CELL) != 0;
+        self.idle().filter(move |&thread| a_cell_is_free && self.field(thread, PERMISSION) & 1 != 0)
     }
 
     /// The idle threads with an empty permission list.

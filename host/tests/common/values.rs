@@ -18,6 +18,11 @@ pub const RISING: [Value; 8] = [
     None,
 ];
 
+/// Whether a node's value is less than an item: an empty node's never is.
+pub fn is_less(value: Value, item: Item) -> bool {
+    value.is_some_and(|head| head < item)
+}
+
 /// Those of them that are items.
 pub fn items() -> impl Iterator<Item = Item> {
     RISING.into_iter().flatten()

@@ -2,7 +2,8 @@
 
 use mound::Shape;
 
-use crate::both::{self, Ran};
+use crate::both;
+use crate::queue::Queue;
 use crate::random::Random;
 use crate::tally::Outcome::{self, Check, Layout, List, Permit, Put, Take};
 use crate::tally::Tally;
@@ -36,7 +37,7 @@ pub fn any(random: &mut Random, region: &mut [u8], shape: Shape, tally: &mut Tal
         1 => tally.add(Check(if both::is_readable(region) { 0 } else { 7 })),
         2..=11 => tally.add(begin(random, region, shape.threads)),
         12 => tally.add(permit(random, region, shape.threads)),
-        _ => tally.add_run(&run(random, region, shape.threads)),
+        _ => run(random, region, shape.threads, tally),
     }
 }
 
@@ -82,7 +83,7 @@ fn any_thread(random: &mut Random, threads: u32) -> u32 {
 
 /// Runs a schedule. Some are no whole turns or have too little room for answers, and many limits are
 /// 0 or small.
-fn run(random: &mut Random, region: &mut [u8], threads: u32) -> Ran {
+fn run(random: &mut Random, region: &mut [u8], threads: u32, tally: &mut Tally) {
     let turns = random.one_of(&[0, 1, 1, 2, 3, 4, 5, 7, 10, 15, 30]);
     let mut schedule = schedule(random, threads, turns);
     let mut room = 12 * turns as usize;
@@ -93,7 +94,10 @@ fn run(random: &mut Random, region: &mut [u8], threads: u32) -> Ran {
         _ => {}
     }
     let limit = random.one_of(&[0, 1, 2, 7, turns, u32::MAX, u32::MAX, u32::MAX]);
-    both::run(random, region, &schedule, limit, room)
+    let before = Queue { bytes: region.to_vec() };
+    let ran = both::run(random, region, &schedule, limit, room);
+    tally.add_run(&ran);
+    tally.add_tries(before, &schedule, &ran);
 }
 
 /// So many turns, a few of them of threads that do not exist.

@@ -1,5 +1,6 @@
 //! The cases of document 01, from A to M, and those of request 3. Those of request 1 are in `lists.rs`,
-//! those of request 2 in `items.rs`, those of request 5 in `permits.rs`.
+//! those of request 2 in `items.rs`, those of request 5 in `permits.rs`, those of request 8 in
+//! `leaves_tried.rs`.
 
 use mound::Answer::{self, Empty, Idle, Inserted, Moved, Took};
 use mound::{Served, Shape};

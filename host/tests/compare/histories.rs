@@ -84,12 +84,13 @@ fn of_regions_whose_counters_are_nearly_spent() {
 #[test]
 fn of_any_readable_regions() {
     let random = &mut Random::new(102);
-    let mut tally = Tally::default();
+    let mut tally = Tally::with_tries();
     for _ in 0..4000 {
         let mut queue = any_region(random);
         make_calls(random, &mut queue, 30, &mut tally);
     }
     has_just_these_beside_the_usual(&tally, &[RefusedTurn(7), RefusedTurn(11)], 500);
+    tally.has_all_tries_but(&[], 5);
 }
 
 /// A few words are set to other values again and again; where the region is not readable after it,

@@ -3,7 +3,7 @@
 
 #[path = "../common/mod.rs"]
 mod common;
-use common::{fields, queue, random, values};
+use common::{fields, leaves, queue, random, values};
 
 mod any_call;
 mod both;
@@ -17,9 +17,11 @@ mod dependent;
 mod histories;
 mod items;
 mod layout;
+mod leaves_tried;
 mod length;
 mod lists;
 mod permits;
+mod put_ceiling;
 mod readable;
 mod runs;
 mod take_cost;

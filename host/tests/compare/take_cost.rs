@@ -77,7 +77,7 @@ fn take_alone(random: &mut Random, before: &Queue, thread: u32) -> u32 {
     assert_eq!([first, second].concat(), answers);
     assert!(queue == after);
 
-    if let Some((key, tag)) = before.head_of_root() {
+    if let Some((key, tag)) = before.value_of(1) {
         assert_eq!(accesses.last(), Some(&Answer::Took { key, tag }));
         level_of_rest(thread, before, &before_last_access, &after)
     } else {

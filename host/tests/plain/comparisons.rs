@@ -5,7 +5,8 @@ use std::cmp::Ordering;
 use mound::Answer;
 
 use crate::fields::place::{I1, I2, I3, I4, I5, I6, I7, I8, M1, M6};
-use crate::fields::{COPIES, D, HI, LEAF, LO, NODE, PLACE, TRIES};
+use crate::fields::{COPIES, D, HI, KEY, LEAF, LO, NODE, PLACE, TRIES};
+use crate::leaves;
 use crate::queue::{Item, Queue};
 use crate::values::{items, rank, triples, Value, RISING};
 
@@ -15,14 +16,35 @@ fn values_beside_items() -> impl Iterator<Item = (Value, Item, Ordering)> {
     RISING.into_iter().flat_map(move |value| items().map(move |item| compared(value, item)))
 }
 
+const CHOICES: [u32; 8] = [0, 1, 2, 3, 9, 1 << 31, u32::MAX - 1, u32::MAX];
+
+/// Below the greatest depth, which is 3 here, whatever the leaf word; at it where that is no leaf of
+/// level 3.
 #[test]
 fn i2_picks_its_leaf_by_the_choice() {
-    for d in 1..=3 {
-        let leaves = 1 << (d - 1);
-        for choice in (0..10).chain([1 << 31, u32::MAX - 1, u32::MAX]) {
-            let mut queue = Queue::with_thread_at(I2, &[(D, d)], [None; 3]);
+    for (d, words) in [(1, 0..8), (2, 0..8), (3, 0..4)] {
+        for (word, choice) in words.flat_map(|word| CHOICES.map(|choice| (word, choice))) {
+            let mut queue = Queue::with_thread_at(I2, &[(D, d), (LEAF, word)], [None; 3]);
             assert_eq!(queue.turn(1, choice), Answer::Moved);
-            assert_eq!(queue.field(1, LEAF), leaves + choice % leaves);
+            assert_eq!(queue.field(1, LEAF), leaves::picked(d, choice));
+        }
+    }
+}
+
+/// Each leaf of level 3, empty or of a lesser value than the item, with every choice.
+#[test]
+fn i2_goes_by_a_leaf_word_of_the_greatest_depth() {
+    for leaf in 4..8 {
+        for choice in CHOICES {
+            let mut queue = Queue::with_thread_at(I2, &[(D, 3), (LEAF, leaf), (KEY, 6)], [None; 3]);
+            let mut occupied = queue.clone();
+            assert_eq!(queue.turn(1, choice), Answer::Moved);
+            assert_eq!([queue.place(1), queue.field(1, LEAF)], [I3, leaf]);
+
+            occupied.set_words(occupied.node_at(leaf), [1, 0, 9]);
+            occupied.set_words(occupied.cell_at(1), [5, 0, 0]);
+            assert_eq!(occupied.turn(1, choice), Answer::Moved);
+            assert_eq!([occupied.place(1), occupied.field(1, LEAF)], [I1, leaves::next(leaf)]);
         }
     }
 }

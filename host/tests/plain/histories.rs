@@ -5,19 +5,24 @@ use std::ops::RangeInclusive;
 use mound::{Answer, Refusal};
 
 use crate::fields::PRESENT_DEPTH;
+use crate::leaves::Try;
 use crate::ledger::{Ledger, Order};
 use crate::queue::{Call, Queue};
 use crate::random::Random;
 
 /// A queue with its ledger, and the range from which keys are drawn; it may rise from put to put,
-/// as times do, so that the tree grows deep.
+/// as times do, so that the tree grows deep. Choices are drawn from few, so that leaves are occupied, or
+/// from all.
 struct History {
     queue: Queue,
     ledger: Ledger,
     keys: RangeInclusive<u32>,
     rise: u32,
+    choices: RangeInclusive<u32>,
     /// How many turns were withdrawn.
     withdrawn: u32,
+    /// How many tries at the greatest depth failed.
+    failed_tries: u32,
 }
 
 impl History {
@@ -30,7 +35,9 @@ impl History {
         let queue = Queue::laid_out(shape, &permissions);
         let ledger = Ledger::of(&queue, Order::Deciding);
         let keys = 0..=random.one_of(&[0, 3, 20, 4_294_000_000]);
-        History { queue, ledger, keys, rise: random.one_of(&[0, 0, 1, 5]), withdrawn: 0 }
+        let rise = random.one_of(&[0, 0, 1, 5]);
+        let choices = 0..=random.one_of(&[0, 1, u32::MAX]);
+        History { queue, ledger, keys, rise, choices, withdrawn: 0, failed_tries: 0 }
     }
 
     /// A call of some thread, or turns of it, or both. Some calls are refused for one of its states. Now
@@ -56,7 +63,7 @@ impl History {
             }
         }
         for _ in 0..random.one_of(&[0, 1, 1, 1, 2, 5, 20]) {
-            self.turn(thread, random.among(0..=u32::MAX));
+            self.turn(thread, random.among(self.choices.clone()));
         }
     }
 
@@ -79,25 +86,29 @@ impl History {
     fn turn(&mut self, thread: u32, choice: u32) {
         let before = self.queue.clone();
         let answer = self.queue.turn(thread, choice);
-        let played = self.ledger.turned(thread, answer, (&before, &self.queue));
+        let played = self.ledger.turned(thread, choice, answer, (&before, &self.queue));
         let agreed = played.and_then(|()| self.ledger.look_at(&self.queue));
         assert_eq!(agreed, Ok(()), "turn of thread {thread} with choice {choice}: {answer:?}");
         self.withdrawn += u32::from(answer == Answer::Withdrawn);
+        let tried = Try::of(thread, &before, &self.queue);
+        self.failed_tries += u32::from(tried.is_some_and(|tried| tried.failed));
     }
 }
 
 #[test]
 fn agree_with_the_bag() {
     let random = &mut Random::new(70);
-    let mut withdrawn = 0;
+    let (mut withdrawn, mut failed_tries) = (0, 0);
     for _ in 0..300 {
         let mut history = History::start(random);
         for _ in 0..1000 {
             history.go_on(random);
         }
         withdrawn += history.withdrawn;
+        failed_tries += history.failed_tries;
     }
     assert!(withdrawn >= 500, "only {withdrawn} turns were withdrawn");
+    assert!(failed_tries >= 500, "only {failed_tries} tries at the greatest depth failed");
 }
 
 /// A thread that was laid out so, and each other one that lists nothing at the moment.

@@ -1,16 +1,18 @@
 //! Demand 3 as a test, with request 1's lists, request 2's order and request 5's permissions: the plain
-//! bag of items, told the calls and the turns of a queue. Also the account of cells, and what a take
-//! costs, request 3.
+//! bag of items, told the calls and the turns of a queue. Also the account of cells, what a take costs,
+//! request 3, and the leaves that a put tries, request 8.
 
 use std::{mem, slice};
 
 use mound::{Answer, Refusal};
 
-use crate::fields::{place, PERMISSION};
+use crate::fields::{place, LEAF, PERMISSION, PRESENT_DEPTH};
+use crate::leaves;
 use crate::queue::{Call, Item, Queue};
+use crate::values::is_less;
 
-/// What the queue did that the bag does not do, a cell that is not accounted for, or a take that costs
-/// something else than its figure.
+/// What the queue did that the bag does not do, a cell that is not accounted for, a take that costs
+/// something else than its figure, or a put that tries another leaf or takes too long.
 #[derive(Clone, Copy, Debug, PartialEq)]
 pub enum Disagreement {
     /// An operation began, or was refused, otherwise than it should have been.
@@ -57,17 +59,72 @@ pub enum Disagreement {
     DirtyAtRest,
     /// A take alone would make another number of accesses than its figure says.
     OtherCost { thread: u32, got: u32, due: u32 },
+    /// A try did not read this leaf, which was its turn.
+    OtherLeaf { thread: u32, due: u32 },
+    /// A put begun at the greatest depth is not inserted within its ceiling, though nobody else moves.
+    PutTakesTooLong { thread: u32 },
 }
 
 /// A thread's operation, as far as the bag is told.
 #[derive(Clone, PartialEq, Eq, Hash)]
 enum Operation {
     None,
-    Put(Item),
+    Put(Put),
     Take,
     List,
     /// A take or a list that has decided.
     Owes(Owed),
+}
+
+/// A put: its item, and by its history the leaf that it is to try.
+#[derive(Clone, PartialEq, Eq, Hash)]
+struct Put {
+    item: Item,
+    /// The depth that its last I1 has read; 0 before the first.
+    d: u32,
+    /// The leaf that the next try at the greatest depth is to read, whatever the choice; none where there
+    /// was no such try.
+    next_leaf: Option<u32>,
+}
+
+impl Put {
+    fn begun(item: Item) -> Put {
+        Put { item, d: 0, next_leaf: None }
+    }
+
+    /// Plays a turn that has moved the put. Below the greatest depth the choice counts at every try. At
+    /// it, "the choice counts only at the first try since the put began"; after one that failed comes the
+    /// next leaf, after one that did not the same leaf again.
+    fn moved(
+        &mut self,
+        thread: u32,
+        choice: u32,
+        (before, after): (&Queue, &Queue),
+    ) -> Result<(), Disagreement> {
+        match before.place(thread) {
+            place::I1 => self.d = before.word(PRESENT_DEPTH),
+            place::I2 => {
+                let at_greatest_depth = self.d == before.shape().depth;
+                let told = self.next_leaf.filter(|_| at_greatest_depth);
+                let leaf = told.unwrap_or(leaves::picked(self.d, choice));
+                let failed = is_less(before.value_of(leaf), self.item);
+                if !has_tried(thread, leaf, failed, (before, after)) {
+                    return Err(Disagreement::OtherLeaf { thread, due: leaf });
+                }
+                if at_greatest_depth {
+                    self.next_leaf = Some(if failed { leaves::next(leaf) } else { leaf });
+                }
+            }
+            _ => {}
+        }
+        Ok(())
+    }
+}
+
+/// Whether a turn at I2 has read this leaf: the first copy is that of the leaf, and where the try has not
+/// failed, this is the leaf whose ancestors are searched.
+fn has_tried(thread: u32, leaf: u32, failed: bool, (before, after): (&Queue, &Queue)) -> bool {
+    after.copy(thread, 0) == before.read(leaf) && (failed || after.field(thread, LEAF) == leaf)
 }
 
 /// Items that one access has removed and that are to be answered, in this order: one by a take, whose
@@ -82,7 +139,7 @@ impl Operation {
     /// The items in the cells that the thread holds.
     fn held(&self) -> &[Item] {
         match self {
-            Operation::Put(item) => slice::from_ref(item),
+            Operation::Put(put) => slice::from_ref(&put.item),
             Operation::Owes(Owed { items, in_hand: true }) => items,
             _ => &[],
         }
@@ -123,6 +180,12 @@ impl Ledger {
         self.operations[thread as usize - 1] != Operation::None
     }
 
+    /// The threads with a put of which no turn has been served.
+    pub fn with_begun_puts(&self) -> impl Iterator<Item = u32> + '_ {
+        let begun = |operation: &Operation| matches!(operation, Operation::Put(Put { d: 0, .. }));
+        (1..).zip(&self.operations).filter(move |(_, operation)| begun(operation)).map(|(t, _)| t)
+    }
+
     /// Plays a beginning, given its result and the queue before and after it.
     pub fn called(
         &mut self,
@@ -138,7 +201,7 @@ impl Ledger {
         }
         if got.is_ok() {
             self.operations[thread as usize - 1] = match call {
-                Call::Put(item) => Operation::Put(item),
+                Call::Put(item) => Operation::Put(Put::begun(item)),
                 Call::Take => Operation::Take,
                 Call::List => Operation::List,
             };
@@ -174,16 +237,22 @@ impl Ledger {
         }
     }
 
-    /// Plays a turn, given its answer and the queue before and after it.
+    /// Plays a turn with this choice, given its answer and the queue before and after it.
     pub fn turned(
         &mut self,
         thread: u32,
+        choice: u32,
         answer: Answer,
         (before, after): (&Queue, &Queue),
     ) -> Result<(), Disagreement> {
         self.look_at_changes(thread, answer == Answer::Idle, (before, after))?;
         let removed = removed(thread, (before, after));
         self.look_at_permission(thread, answer, removed.is_some(), before)?;
+        if let (Operation::Put(put), Answer::Moved) =
+            (&mut self.operations[thread as usize - 1], answer)
+        {
+            put.moved(thread, choice, (before, after))?;
+        }
         let operation = mem::replace(&mut self.operations[thread as usize - 1], Operation::None);
         self.operations[thread as usize - 1] = self.played(operation, answer, removed)?;
         Ok(())
@@ -204,7 +273,7 @@ impl Ledger {
             (Operation::Put(_) | Operation::Take | Operation::List, Answer::Withdrawn, None) => {
                 Ok(Operation::None)
             }
-            (Operation::Put(item), Answer::Inserted, None) => {
+            (Operation::Put(Put { item, .. }), Answer::Inserted, None) => {
                 let at = self.bag.partition_point(|&held| held < item);
                 self.bag.insert(at, item);
                 Ok(Operation::None)

@@ -3,7 +3,7 @@
 
 #[path = "../common/mod.rs"]
 mod common;
-use common::{fields, queue, random, values};
+use common::{fields, leaves, queue, random, values};
 
 mod ledger;
 

@@ -5,17 +5,13 @@ use mound::Answer::{Idle, Inserted, Moved, Took, Withdrawn};
 use mound::Shape;
 
 use crate::fields::{
-    place, AFTER, COPIES, FIRST_FREE_CELL, NODE, OWN_CELL, PLACE, RESULT_KEY, THREAD, WAITING,
+    place, AFTER, FIRST_FREE_CELL, NODE, OWN_CELL, PLACE, RESULT_KEY, THREAD, WAITING,
 };
 use crate::queue::{Queue, SMALL};
 
 /// The record's words from the place to the node.
 fn put_words(queue: &Queue, thread: u32) -> [u32; 10] {
     std::array::from_fn(|word| queue.field(thread, PLACE + word))
-}
-
-fn copy(queue: &Queue, thread: u32, copy: usize) -> [u32; 6] {
-    std::array::from_fn(|word| queue.field(thread, COPIES[copy] + word))
 }
 
 /// Case H: a put that fails at the root, grows the tree and ends at node 3.
@@ -43,7 +39,7 @@ fn a_put_turn_by_turn() {
     for (words, first, second) in after_each_turn {
         assert_eq!(queue.turn(2, 5), Moved);
         assert_eq!(put_words(&queue, 2), words);
-        assert_eq!([copy(&queue, 2, 0), copy(&queue, 2, 1)], [first, second]);
+        assert_eq!([queue.copy(2, 0), queue.copy(2, 1)], [first, second]);
     }
     assert_eq!(queue.turn(2, 5), Inserted);
     assert_eq!(put_words(&queue, 2), [0; 10]);
@@ -74,8 +70,8 @@ fn two_takes_that_mend_turn_by_turn() {
 
     assert_eq!(places_of(&mut queue, 2, 6), [E2, M1, M2, M3, M4, M1]);
     assert_eq!([queue.field(2, NODE), queue.field(2, WAITING)], [3, 1]);
-    assert_eq!(copy(&queue, 2, 0), [0, 1, 4, 0, 0, 0]);
-    assert_eq!(copy(&queue, 2, 2), [0, 1, 2, 0, 0, 0]);
+    assert_eq!(queue.copy(2, 0), [0, 1, 4, 0, 0, 0]);
+    assert_eq!(queue.copy(2, 2), [0, 1, 2, 0, 0, 0]);
     assert_eq!((queue.cell(2), queue.word(FIRST_FREE_CELL)), ([0, 0, 1], 2));
 
     // Thread 2 cleans the child and comes back to the root, which waits no more.
@@ -151,7 +147,7 @@ fn a_list_turn_by_turn() {
         assert_eq!([queue.cell(1), queue.cell(2)], [[5, 9, 0], [5, 2, 1]]);
         assert_eq!(queue.word(FIRST_FREE_CELL), 0);
     }
-    assert_eq!(copy(&queue, 1, 0), [0, 1, 3, 0, 0, 0]);
+    assert_eq!(queue.copy(1, 0), [0, 1, 3, 0, 0, 0]);
 
     assert_eq!(queue.turn(1, 0), Took { key: 5, tag: 2 });
     assert_eq!(words(&queue), ([P19, 1, 1, 3, 0], [0, 0, 4]));

@@ -100,6 +100,21 @@ fn every_answer_has_words_of_its_own() {
     }
 }
 
+/// Each put is always given the first leaf, and keys rise, so that it is soon occupied.
+#[test]
+fn puts_with_one_choice_use_every_cell() -> Result<(), Refusal> {
+    let shape = Shape { depth: 6, cells: 32, ..SHAPE };
+    let mut bytes = vec![0; shape.byte_len()?];
+    let mut region = Region::layout(&mut bytes, shape, &BOTH)?;
+    for key in 0..shape.cells {
+        region.put(1, key, 0)?;
+        let run = region.run([Turn { thread: 1, choice: 0 }; 64 + 7], u32::MAX)?;
+        assert!(run.answers().any(|answer| answer == Answer::Inserted), "{key} was not inserted");
+    }
+    assert_eq!(region.put(1, 0, 0), Err(Refusal::NoFreeCell));
+    Ok(())
+}
+
 /// A region in which eight threads have put 800 items, each thread its next one as soon as it was
 /// idle; and the items in their order. No two of them are equal.
 fn with_800_items(bytes: &mut Vec<u8>) -> Result<(Region<'_>, Vec<(u32, u32)>), Refusal> {

@@ -1,10 +1,13 @@
-//! Document 01's mistakes with good looks, that of comparing keys alone, and those of lists and of
-//! permissions, made from outside the machine: each is an edit of the bytes around a call, after which the
-//! machine does what a mistaken one would do.
+//! Document 01's mistakes with good looks, that of comparing keys alone, and those of lists, of permissions
+//! and of leaves, made from outside the machine: each is an edit of the bytes around a call, after which
+//! the machine does what a mistaken one would do.
 
 use mound::{Answer, Refusal};
 
-use crate::fields::{place, Field, Words, AFTER, FIRST_FREE_CELL, OWN_CELL, PERMISSION, PLACE};
+use crate::fields::{
+    place, Field, Words, AFTER, D, FIRST_FREE_CELL, LEAF, OWN_CELL, PERMISSION, PLACE,
+};
+use crate::leaves;
 use crate::ledger::Order;
 use crate::queue::{Call, Queue};
 
@@ -28,6 +31,8 @@ pub enum Mistake {
     OfList(ListMistake),
     /// A mistake in request 5's rule.
     OfPermission(PermissionMistake),
+    /// A mistake in request 8's rule.
+    OfLeaf(LeafMistake),
 }
 
 #[derive(Clone, Copy, Debug, PartialEq)]
@@ -72,6 +77,27 @@ pub enum PermissionMistake {
     BusyRefused,
     /// A permit ends the operation that it leaves without permission.
     WithdrawnByThePermit,
+}
+
+/// What is mistaken about the leaf that a put tries; but for the last one, at the greatest depth.
+#[derive(Clone, Copy, Debug, PartialEq)]
+pub enum LeafMistake {
+    /// The choice counts at every try, as before the request.
+    ChoiceAlwaysCounts,
+    /// A visit to I1 clears the leaf word, so that the choice counts once a visit.
+    ClearedByI1,
+    /// A failed try leaves the leaf that it has read.
+    NeverMovesOn,
+    /// After the last leaf comes the last again.
+    StaysAtLast,
+    /// What comes next is told by the leaf word before the try, not by the leaf read.
+    NextAfterLeafWord,
+    /// The next leaf comes after a try that succeeded, too, once the put has to start again.
+    MovesOnAfterSuccess,
+    /// A leaf word left over from a lower depth counts, and not the choice.
+    LowerLevelCounts,
+    /// Below the greatest depth, too, the leaf word counts where it is a leaf of level d.
+    CountsAtLowerDepth,
 }
 
 /// The machine, with a mistake or without.
@@ -136,6 +162,9 @@ impl Machine {
             }
             Some(Mistake::OfPermission(mistake)) => {
                 return turn_by_a_mistaken_permission(mistake, queue, thread, choice);
+            }
+            Some(Mistake::OfLeaf(mistake)) => {
+                return turn_with_a_mistaken_leaf(mistake, queue, thread, choice);
             }
             _ => {}
         }
@@ -230,6 +259,47 @@ fn turn_by_a_mistaken_permission(
             queue.set_words(queue.cell_at(own_cell), [key, tag, next]);
         }
         (PlaceKept, Answer::Withdrawn, _) => queue.set_field(thread, PLACE, place),
+        _ => {}
+    }
+    answer
+}
+
+fn turn_with_a_mistaken_leaf(
+    mistake: LeafMistake,
+    queue: &mut Queue,
+    thread: u32,
+    choice: u32,
+) -> Answer {
+    use LeafMistake::*;
+    let [place, d, word] = [PLACE, D, LEAF].map(|field| queue.field(thread, field));
+    let depth = queue.shape().depth;
+    let (first, last) = (1 << (depth - 1), (1 << depth) - 1);
+    let is_try = place == place::I2 && d == depth;
+    let is_lower_try = place == place::I2 && d < depth;
+    // A leaf's own number, as a choice, picks that leaf.
+    let mut choice = choice;
+    match mistake {
+        ChoiceAlwaysCounts if is_try => queue.set_field(thread, LEAF, 0),
+        LowerLevelCounts if is_try && (1..first).contains(&word) => choice = word,
+        CountsAtLowerDepth if is_lower_try && leaves::picked(d, word) == word => choice = word,
+        _ => {}
+    }
+
+    let answer = queue.turn(thread, choice);
+    let [next_place, next_word] = [PLACE, LEAF].map(|field| queue.field(thread, field));
+    let failed = is_try && matches!(next_place, place::I1 | place::I2);
+    let starts_again = (place::I5..=place::I8).contains(&place) && next_place == place::I1;
+    match mistake {
+        ClearedByI1 if place == place::I1 => queue.set_field(thread, LEAF, 0),
+        NeverMovesOn if failed => {
+            let read = if next_word == first { last } else { next_word - 1 };
+            queue.set_field(thread, LEAF, read);
+        }
+        StaysAtLast if failed && next_word == first => queue.set_field(thread, LEAF, last),
+        NextAfterLeafWord if failed && word < first => queue.set_field(thread, LEAF, word + 1),
+        MovesOnAfterSuccess if starts_again && first <= word => {
+            queue.set_field(thread, LEAF, leaves::next(word));
+        }
         _ => {}
     }
     answer

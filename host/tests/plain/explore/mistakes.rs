@@ -3,7 +3,7 @@
 
 use mound::{Refusal, Shape};
 
-use super::mistaken::{ListMistake, Machine, Mistake, PermissionMistake};
+use super::mistaken::{LeafMistake, ListMistake, Machine, Mistake, PermissionMistake};
 use super::search::{explore, Counterexample, Permit, Step, Workload};
 use crate::fields::place::{I2, I3, I5, I7, M4, M5};
 use crate::ledger::Disagreement;
@@ -275,4 +275,81 @@ fn a_permit_that_a_busy_thread_refuses() {
 fn a_permit_that_withdraws_by_itself() {
     let found = find_of_permission(PermissionMistake::WithdrawnByThePermit, PUT, 0);
     assert_eq!(found, Disagreement::PermitChangedMore);
+}
+
+/// A mistake of leaves, on a workload of that threshold.
+fn find_of_leaf(mistake: LeafMistake, threshold: u32, workload: Workload) -> Disagreement {
+    let shape = Shape { threshold, ..workload.shape };
+    find(Mistake::OfLeaf(mistake), &Workload { shape, ..workload }).disagreement
+}
+
+/// Key 6 comes to stand in a leaf, and a take leaves nothing above it: then key 7 is put.
+fn with_an_occupied_leaf() -> Workload {
+    workload(2, [&[Call::Put((6, 1)), Call::Take], &[Call::Put((7, 2))]])
+}
+
+/// Thread 2's put, once that leaf is the choice of all its turns.
+const TOO_LONG: Disagreement = Disagreement::PutTakesTooLong { thread: 2 };
+
+#[test]
+fn a_choice_that_counts_at_every_try() {
+    for threshold in [1, 2] {
+        let mistake = LeafMistake::ChoiceAlwaysCounts;
+        assert_eq!(find_of_leaf(mistake, threshold, with_an_occupied_leaf()), TOO_LONG);
+    }
+}
+
+/// With two tries a visit both leaves are read before the next one. A try that succeeded tells, too.
+#[test]
+fn a_leaf_word_cleared_by_i1() {
+    let mistake = LeafMistake::ClearedByI1;
+    assert_eq!(find_of_leaf(mistake, 1, with_an_occupied_leaf()), TOO_LONG);
+    let found = find_of_leaf(mistake, 2, with_an_occupied_leaf());
+    assert!(matches!(found, Disagreement::OtherLeaf { .. }), "{found:?}");
+}
+
+#[test]
+fn a_failed_try_that_does_not_move_on() {
+    let mistake = LeafMistake::NeverMovesOn;
+    assert_eq!(find_of_leaf(mistake, 1, with_an_occupied_leaf()), TOO_LONG);
+}
+
+#[test]
+fn a_last_leaf_that_is_not_left() {
+    let mistake = LeafMistake::StaysAtLast;
+    assert_eq!(find_of_leaf(mistake, 1, with_an_occupied_leaf()), TOO_LONG);
+}
+
+/// The choice counts a second time; the put is in time all the same.
+#[test]
+fn a_next_leaf_told_by_the_leaf_word() {
+    let mistake = LeafMistake::NextAfterLeafWord;
+    let found = find_of_leaf(mistake, 1, with_an_occupied_leaf());
+    assert!(matches!(found, Disagreement::OtherLeaf { thread: 2, .. }), "{found:?}");
+}
+
+/// A put has found its leaf, and its update fails.
+#[test]
+fn a_try_that_succeeded_and_moves_on() {
+    let mistake = LeafMistake::MovesOnAfterSuccess;
+    let found = find_of_leaf(mistake, 1, with_an_occupied_leaf());
+    assert!(matches!(found, Disagreement::OtherLeaf { .. }), "{found:?}");
+}
+
+/// The root, the leaf of depth 1, was tried in vain before the tree grew.
+#[test]
+fn a_leaf_of_a_lower_depth_that_counts() {
+    let mistake = LeafMistake::LowerLevelCounts;
+    let found = find_of_leaf(mistake, 1, workload(2, [&[Call::Put((7, 1))], &[]]));
+    assert_eq!(found, Disagreement::OtherLeaf { thread: 1, due: 2 });
+}
+
+/// Key 6 stands in one of two leaves of depth 2, and the second try is to read the other one.
+#[test]
+fn a_leaf_word_that_counts_below_the_greatest_depth() {
+    let mistake = LeafMistake::CountsAtLowerDepth;
+    let held = vec![(5, 0), (6, 0)];
+    let workload = Workload { held, ..workload(3, [&[Call::Put((7, 1))], &[]]) };
+    let found = find_of_leaf(mistake, 2, workload);
+    assert_eq!(found, Disagreement::OtherLeaf { thread: 1, due: 2 });
 }

@@ -9,6 +9,7 @@ use super::search::{explore, Explored, Permit, Workload};
 use crate::fields::place::{
     E1, E2, I1, I2, I3, I4, I5, I6, I7, I8, IDLE, M1, M2, M3, M4, M5, M6, P17, P18, P19,
 };
+use crate::leaves::Try;
 use crate::queue::{Call, Item};
 
 /// The items that a queue holds at the start: the first few of these. A thread's number, which is the
@@ -144,7 +145,7 @@ fn explore_all(workloads: impl Iterator<Item = Workload>) -> Explored {
             Err(counterexample) => panic!("{workload:?}: {counterexample:?}"),
         }
     }
-    println!("{} states", all.states);
+    println!("{} states, at most {} accesses of a put alone", all.states, all.most_of_a_put);
     all
 }
 
@@ -157,10 +158,34 @@ fn went_every_way_but(not_gone: &[(u32, u32)], explored: &Explored) {
 
 /// Explores each workload. The turns go every way that the papers let them go, but for those that
 /// these workloads do not lead to, and no other; none is withdrawn.
-fn agree_going_every_way_but(not_gone: &[(u32, u32)], workloads: impl Iterator<Item = Workload>) {
+fn agree_going_every_way_but(
+    not_gone: &[(u32, u32)],
+    workloads: impl Iterator<Item = Workload>,
+) -> Explored {
     let explored = explore_all(workloads.flat_map(variants));
     went_every_way_but(not_gone, &explored);
     assert_eq!(explored.withdrawn_at, BTreeSet::new());
+    explored
+}
+
+/// The first try of a put at the greatest depth, and later ones.
+const FOUND_AT_ONCE: Try = Try { is_first: true, failed: false };
+const FAILED_AT_FIRST: Try = Try { is_first: true, failed: true };
+const FOUND_LATER: Try = Try { is_first: false, failed: false };
+const FAILED_AGAIN: Try = Try { is_first: false, failed: true };
+
+/// At depth 2 the tree holds one item at most beside that of a put, and no second try failed. A put alone
+/// made at most 7 accesses: I1 and I2 twice, then I3, I5 and I6, the root being empty and dirty.
+fn puts_at_depth_2(explored: &Explored) {
+    let tries = [FOUND_AT_ONCE, FAILED_AT_FIRST, FOUND_LATER];
+    assert_eq!((&explored.tries, explored.most_of_a_put), (&BTreeSet::from(tries), 7));
+}
+
+/// At depth 3 others came to occupy the next leaf as well. A put alone made at most 9 accesses: I1 and I2
+/// twice, I3 twice, then I5, I7 and I8.
+fn puts_at_depth_3(explored: &Explored) {
+    let tries = [FOUND_AT_ONCE, FAILED_AT_FIRST, FOUND_LATER, FAILED_AGAIN];
+    assert_eq!((&explored.tries, explored.most_of_a_put), (&BTreeSet::from(tries), 9));
 }
 
 /// Explores each workload, in which permissions are taken away. The turns go as above, and at each place
@@ -179,31 +204,33 @@ fn agree_with_permits_going_every_way_but(
 #[cfg_attr(debug_assertions, ignore = "slow without --release")]
 fn two_threads_at_depth_2() {
     let at_threshold = |h| (0..=2).flat_map(move |held| workloads(shape(2, 2, h), held, 7, 2));
-    agree_going_every_way_but(&[(I3, I3)], (1..=2).flat_map(at_threshold));
+    let explored = agree_going_every_way_but(&[(I3, I3)], (1..=2).flat_map(at_threshold));
+    puts_at_depth_2(&explored);
 }
 
 #[test]
 #[cfg_attr(debug_assertions, ignore = "slow without --release")]
 fn two_threads_at_depth_3() {
     let workloads = two_threads_with_two_calls_at_depth_3();
-    agree_going_every_way_but(
+    let explored = agree_going_every_way_but(
         &[(I2, I2)],
         workloads.filter(|workload| !has_four_calls_and_lists(workload)),
     );
+    puts_at_depth_3(&explored);
 }
 
 #[test]
 #[cfg_attr(debug_assertions, ignore = "slow without --release")]
 fn three_threads_at_depth_2() {
     let workloads = (0..=2).flat_map(|held| workloads(shape(2, 3, 1), held, 7, 1));
-    agree_going_every_way_but(&[(I2, I2), (I3, I3)], workloads);
+    puts_at_depth_2(&agree_going_every_way_but(&[(I2, I2), (I3, I3)], workloads));
 }
 
 #[test]
 #[cfg_attr(debug_assertions, ignore = "slow without --release")]
 fn three_threads_at_depth_3() {
     let workloads = (0..=2).flat_map(|held| workloads(shape(3, 3, 1), held, 6, 1));
-    agree_going_every_way_but(&[(I2, I2)], workloads);
+    puts_at_depth_3(&agree_going_every_way_but(&[(I2, I2)], workloads));
 }
 
 #[test]

@@ -8,6 +8,7 @@ use mound::{Answer, Refusal, Shape};
 
 use super::mistaken::Machine;
 use crate::fields::{place, D};
+use crate::leaves::{self, Try};
 use crate::ledger::{look_at_takes, Disagreement, Ledger};
 use crate::queue::{Call, Item, Queue};
 
@@ -47,6 +48,10 @@ pub struct Explored {
     pub moves: BTreeSet<(u32, u32)>,
     /// The places of withdrawn turns.
     pub withdrawn_at: BTreeSet<u32>,
+    /// The tries at the greatest depth.
+    pub tries: BTreeSet<Try>,
+    /// The most accesses of a put that was begun at the greatest depth and run alone.
+    pub most_of_a_put: u32,
 }
 
 impl Explored {
@@ -57,6 +62,7 @@ impl Explored {
             self.withdrawn_at.insert(place);
         } else if place != place::IDLE {
             self.moves.insert((place, after.place(thread)));
+            self.tries.extend(Try::of(thread, before, after));
         }
     }
 
@@ -65,6 +71,8 @@ impl Explored {
         self.states += other.states;
         self.moves.extend(other.moves);
         self.withdrawn_at.extend(other.withdrawn_at);
+        self.tries.extend(other.tries);
+        self.most_of_a_put = self.most_of_a_put.max(other.most_of_a_put);
     }
 }
 
@@ -88,15 +96,16 @@ struct State {
 const MOST_STATES: usize = 10_000_000;
 
 /// Goes through every state that the workload can reach. In each of them a take that makes no mistake
-/// has to cost its figure.
+/// has to cost its figure, and a put begun at the greatest depth has to end in time.
 pub fn explore(workload: &Workload, machine: Machine) -> Result<Explored, Counterexample> {
     let queue = Queue::laid_out(workload.shape, &workload.permissions).holding(&workload.held);
     let ledger = Ledger::of(&queue, machine.order());
     let start = State { queue, ledger, made: vec![0; workload.calls.len()], permits_made: 0 };
-    look_at(&start).map_err(|disagreement| Counterexample { steps: vec![], disagreement })?;
+    let mut explored = Explored::default();
+    look_at(&start, machine, &mut explored)
+        .map_err(|disagreement| Counterexample { steps: vec![], disagreement })?;
 
     let mut seen = HashSet::from([fingerprint(&start)]);
-    let mut explored = Explored::default();
     // How each state after the first was reached: the number of the state before it, and the step.
     let mut reached = vec![];
     let mut frontier = vec![(0, start)];
@@ -111,7 +120,7 @@ pub fn explore(workload: &Workload, machine: Machine) -> Result<Explored, Counte
                 let after = step_from(&state, machine, step, &mut explored);
                 let after = after.map_err(counterexample)?;
                 if seen.insert(fingerprint(&after)) {
-                    look_at(&after).map_err(counterexample)?;
+                    look_at(&after, machine, &mut explored).map_err(counterexample)?;
                     reached.push((number, step));
                     next_frontier.push((reached.len(), after));
                 }
@@ -142,10 +151,47 @@ fn steps(workload: &Workload, state: &State) -> Vec<Step> {
     steps
 }
 
-/// What has to hold of a state by itself.
-fn look_at(state: &State) -> Result<(), Disagreement> {
+/// What has to hold of a state by itself. The most accesses of a put are noted.
+fn look_at(state: &State, machine: Machine, explored: &mut Explored) -> Result<(), Disagreement> {
     state.ledger.look_at(&state.queue)?;
-    look_at_takes(&state.queue)
+    look_at_takes(&state.queue)?;
+    if state.queue.is_of_greatest_depth() {
+        let may_go_on = |&thread: &u32| !state.queue.lacks_permission(thread);
+        for thread in state.ledger.with_begun_puts().filter(may_go_on) {
+            let most = most_accesses_of_a_put(&state.queue, machine, thread)?;
+            explored.most_of_a_put = explored.most_of_a_put.max(most);
+        }
+    }
+    Ok(())
+}
+
+/// Request 8's promise: a put begun at the greatest depth is inserted within its ceiling if nobody else
+/// moves. It is run with each leaf as the choice of all turns, and with choices that rise.
+fn most_accesses_of_a_put(
+    queue: &Queue,
+    machine: Machine,
+    thread: u32,
+) -> Result<u32, Disagreement> {
+    let leaves = 1 << (queue.shape().depth - 1);
+    let same = (0..leaves).map(|choice| accesses_of_a_put(queue, machine, thread, |_| choice));
+    let rising = accesses_of_a_put(queue, machine, thread, |turn| turn);
+    let all: Option<Vec<u32>> = same.chain([rising]).collect();
+    let most = all.and_then(|all| all.into_iter().max());
+    most.ok_or(Disagreement::PutTakesTooLong { thread })
+}
+
+/// The accesses of a begun put while nobody else moves, unless they are too many.
+fn accesses_of_a_put(
+    queue: &Queue,
+    machine: Machine,
+    thread: u32,
+    choice: impl Fn(u32) -> u32,
+) -> Option<u32> {
+    let mut queue = queue.clone();
+    let most = leaves::most_accesses(queue.shape().depth);
+    let mut turns = (1..=most).map(|turn| (turn, machine.turn(&mut queue, thread, choice(turn))));
+    let (accesses, answer) = turns.find(|&(_, answer)| answer != Answer::Moved)?;
+    (answer == Answer::Inserted).then_some(accesses)
 }
 
 /// The state after a step, unless the bag disagrees. The way of a turn is noted.
@@ -167,7 +213,7 @@ fn step_from(
         }
         Step::Turn { thread, choice } => {
             let answer = machine.turn(&mut queue, thread, choice);
-            ledger.turned(thread, answer, (&state.queue, &queue))?;
+            ledger.turned(thread, choice, answer, (&state.queue, &queue))?;
             explored.note(thread, answer, &state.queue, &queue);
         }
         Step::Permit(Permit { thread, permission }) => {
