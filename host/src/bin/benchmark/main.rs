@@ -19,8 +19,10 @@ const CROWDED: Shape = Shape { depth: 7, cells: 64, threads: 64, threshold: 2 };
 
 const TURNS: &str = "
 A turn in a run. The share is that of the turns that make an access; the others are idle, or
-withdrawn. Puts that find no leaf are always given the same one, which holds a lesser item, and go on
-for ever. With single permissions those who put may not take and those who take may not put.";
+withdrawn. Puts that find no leaf go round all leaves for ever, each of which holds a lesser item; no
+calls lead to such a region. A put that walks is always given the first leaf, in a tree as full as it
+gets, H 1: it tries half of the leaves, and is inserted in the last of these. With single permissions
+those who put may not take and those who take may not put.";
 
 const PAIRS_OF_CALLS: &str = "
 A put and a take by one thread, T 4, half of the cells in use: four calls, each run with just the
@@ -70,6 +72,7 @@ fn turns() {
     // The turns until all operations are answered.
     let [small, large] = [SMALL, LARGE].map(|shape| crossing(shape, 4096).accesses);
     row("D 4 T 4: puts that find no leaf", 4096, endless(SMALL));
+    walking_row("D 4 T 4: a put that walks to a free leaf", SMALL);
     row("D 4 T 4: 2 puts and 2 takes, then idle", 4096, crossing(SMALL, 4096));
     row("D 4 T 4: 2 puts and 2 takes", small, crossing(SMALL, small));
     row("D 4 T 4: the same, single permissions", small, single(SMALL, small));
@@ -77,11 +80,17 @@ fn turns() {
     let list = Work::turns_of_a_list(of_depth(10), 256);
     row("D 10 T 4: a list of 256 items", list.turns, list);
     row("D 12 T 64: puts that find no leaf", 4096, endless(LARGE));
+    walking_row("D 12 T 64: a put that walks to a free leaf", LARGE);
     row("D 12 T 64: 32 puts and 32 takes", large, crossing(LARGE, large));
     row("D 12 T 64: the same, single permissions", large, single(LARGE, large));
     row("D 12 T 64: 32 puts and 32 takes", 1, crossing(LARGE, 64).one_turn_a_run());
     let withdrawn = Work::withdrawn_operations(CROWDED);
     row("D 7 T 64: 32 puts and 32 takes, withdrawn", withdrawn.turns, withdrawn);
+}
+
+fn walking_row(name: &str, shape: Shape) {
+    let work = Work::walking_put(Shape { threshold: 1, ..shape });
+    row(name, work.turns, work);
 }
 
 fn row(name: &str, turns: u32, work: Work) {

@@ -39,6 +39,15 @@ pub const PUT: u32 = 1;
 pub const TAKE: u32 = 2;
 pub const PUT_AND_TAKE: u32 = 3;
 
+/// The greatest item.
+const GREATEST: Item = (u32::MAX - 1, 0xffff);
+
+/// Where the first leaf stands in a region: before it are the heading, 6 words, and 3 of each node above it.
+fn first_leaf_at(shape: Shape) -> usize {
+    let nodes_before = (1 << (shape.depth - 1)) - 1;
+    4 * (6 + 3 * nodes_before)
+}
+
 /// A region, and the calls made on it so far.
 pub struct Recorder {
     region: Vec<u8>,
@@ -57,12 +66,27 @@ impl Recorder {
         recorder.started()
     }
 
-    /// A queue that holds an item at each node of the leftmost path, of the keys 1, 2, .. downwards.
-    pub fn with_leftmost_path(shape: Shape) -> Recorder {
+    /// A queue of the greatest depth in which each leaf holds an item of a small key. It is the same cell
+    /// in all of them, which no calls lead to: they would leave a put a free leaf.
+    pub fn with_occupied_leaves(shape: Shape) -> Recorder {
         let mut recorder = Recorder::laid_out(shape);
         for key in 1..=shape.depth {
-            recorder.put(1, (key, 0));
-            recorder.run_until(|recorder| recorder.turn(1, 0) == Answer::Inserted);
+            recorder.put_by_choice_and_run((key, 0), 0);
+        }
+        let (_, first_leaf_on) = recorder.region.split_at_mut(first_leaf_at(shape));
+        let leaves = first_leaf_on[..12 << (shape.depth - 1)].chunks_exact_mut(12);
+        leaves.for_each(|leaf| leaf[..4].copy_from_slice(&shape.depth.to_le_bytes()));
+        recorder.started()
+    }
+
+    /// A queue as full as it gets while a put can begin, with as many leaves occupied as calls lead to while
+    /// all nodes are clean: the root and its left half hold the keys 1, 2, .., all but the last leaf of that
+    /// half.
+    pub fn with_full_left_half(shape: Shape) -> Recorder {
+        let mut recorder = Recorder::laid_out(shape);
+        let left_half = (2..=shape.depth).flat_map(|level| 1 << (level - 1)..3 << (level - 2));
+        for (key, node) in (1..shape.cells).zip([1].into_iter().chain(left_half)) {
+            recorder.put_by_choice_and_run((key, 0), node);
         }
         recorder.started()
     }
@@ -125,8 +149,16 @@ impl Recorder {
     /// Begins a put of the greatest item with every thread.
     pub fn begin_greatest_puts(&mut self) {
         for thread in 1..=self.shape.threads {
-            self.put(thread, (u32::MAX - 1, 0xffff));
+            self.put(thread, GREATEST);
         }
+    }
+
+    /// Puts the greatest item by thread 1, its choices always the first leaf; what is recorded is the run.
+    pub fn run_greatest_put(mut self) -> Recorder {
+        self.put(1, GREATEST);
+        let mut recorder = self.started();
+        recorder.run_until_inserted(0);
+        recorder
     }
 
     /// Runs this many turns of threads drawn from those that are not answered, or from all when none is
@@ -167,6 +199,16 @@ impl Recorder {
             let choice = recorder.random.next();
             recorder.turn(1, choice) == Answer::Inserted
         });
+    }
+
+    /// Puts an item by thread 1, with this choice at all turns.
+    fn put_by_choice_and_run(&mut self, item: Item, choice: u32) {
+        self.put(1, item);
+        self.run_until_inserted(choice);
+    }
+
+    fn run_until_inserted(&mut self, choice: u32) {
+        self.run_until(|recorder| recorder.turn(1, choice) == Answer::Inserted);
     }
 
     /// Takes an item by thread 1.

@@ -55,14 +55,18 @@ impl Work {
         recorder.work()
     }
 
-    /// One run of puts that never end: their choice is always the leftmost leaf, which holds a lesser
-    /// item.
+    /// One run of puts that never end: each leaf holds a lesser item.
     pub fn endless_puts(shape: Shape, turns: u32) -> Work {
-        let mut recorder = Recorder::with_leftmost_path(shape);
+        let mut recorder = Recorder::with_occupied_leaves(shape);
         recorder.begin_greatest_puts();
         let mut recorder = recorder.started();
         recorder.run_in_turn(turns);
         recorder.work()
+    }
+
+    /// The run of a put that finds its leaf by walking, in a tree as full as it gets.
+    pub fn walking_put(shape: Shape) -> Work {
+        Recorder::with_full_left_half(shape).run_greatest_put().work()
     }
 
     /// Puts and takes by thread 1, one after the other, in a queue that holds this many items.
