@@ -3,7 +3,7 @@ use Prim.Native.Nat.{ℕ, _+_, _-_, _/_, _%_, _^_, _≤_, _<_}
 use native.Mathlib.Nat.{add-mod-right, mod-eq-of-lt, mod-eq-sub-mod, mod-lt, mod-self}
 use native.Mathlib.Omega.{arith}
 use mathlib.Core.Path.{_≡_, refl, ap, _∙_}
-use mathlib.Core.Bool.{Bool, true, false}
+use mathlib.Core.Bool.{true}
 use borrow.Author.Tests.{eq-eqb, ltb-false, ltb-true}
 use lib.Dec.{eqb, ltb}
 use lib.Pow.{pow-pos}
@@ -56,18 +56,15 @@ module _ (d : ℕ) (some : 1 ≤ d) where
       omega (arith, e, h .least)
 
   pub next-chosen : (leaf : ℕ) → LeafOf d leaf → leafOf d (leaf + 1) ≡ nextLeaf d leaf
-  unfolding leafOf nextLeaf pick
-  next-chosen leaf h = go (ltb leaf (2 ^ d - 1)) refl
-    where
-      go : (q : Bool) → ltb leaf (2 ^ d - 1) ≡ q → leafOf d (leaf + 1) ≡ pick q (leaf + 1) (2 ^ (d - 1))
-      go true e =
-          let l = ltb-true leaf (2 ^ d - 1) e in
-          chosen-itself (leaf + 1) (record { least = omega (arith, h .least); most = omega arith })
-      go false e =
-          let m = 2 ^ (d - 1) in
-          let last : leaf + 1 ≡ m + m = omega (arith, ltb-false leaf (2 ^ d - 1) e, h .most, power-doubles d some) in
-          let none : (leaf + 1) % m ≡ 0 = ap (λ x. x % m) last ∙ add-mod-right m m ∙ mod-self m in
-          omega (arith, none)
+  unfolding leafOf nextLeaf
+  next-chosen leaf h =
+      let m = 2 ^ (d - 1) in
+      pick-good (λ x. leafOf d (leaf + 1) ≡ x) (ltb leaf (2 ^ d - 1))
+      (λ e. let l = ltb-true leaf (2 ^ d - 1) e in chosen-itself (leaf + 1) (record { least = omega (arith, h .least); most = omega arith }))
+      (λ e.
+      let last : leaf + 1 ≡ m + m = omega (arith, ltb-false leaf (2 ^ d - 1) e, h .most, power-doubles d some) in
+      let none : (leaf + 1) % m ≡ 0 = ap (λ x. x % m) last ∙ add-mod-right m m ∙ mod-self m in
+      omega (arith, none))
 
 -- I2 reads a leaf of level d, and a failed try leaves one in the leaf word.
 module _ (s : Shape) (t : Thread) (some : 1 ≤ t .depth) where
