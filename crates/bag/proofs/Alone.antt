@@ -1,7 +1,6 @@
 -- A thread that goes on alone, turn by turn, to an end: what others do between its turns changes neither shared memory nor its record, but for
 -- a permission. The take's figure and the put's promise both go by this. Assumes nothing.
 use Prim.Native.Nat.{ℕ, suc, _+_, _≤_, _<_}
-use native.Mathlib.Decide.{ℕ-discrete}
 use native.Mathlib.Omega.{arith}
 use mathlib.Core.Path.{_≡_, refl, sym, ap, subst, _∙_}
 use mathlib.Core.Bool.{Bool, true, false, not}
@@ -10,10 +9,10 @@ use borrow.Author.Tests.{eqb-false, eqb-true}
 use lib.Dec.{eqb}
 use lib.ListN.{length}
 use Rattle.region.specs.Answer.{counterSpent}
-use Rattle.region.specs.Pick.{pick, upd}
+use Rattle.region.specs.Pick.{pick}
 use Rattle.region.specs.Place.{placeNumber}
 use Rattle.region.specs.Shape.{between}
-use Rattle.region.specs.Shared.{Shared, setPermissionIn, sharedIn, threadIn}
+use Rattle.region.specs.Shared.{Shared, sharedIn, threadIn}
 use Rattle.region.specs.Thread.{withPermission}
 use Rattle.region.specs.declared.answer.Answer.the-variants.{Moved, Refused}
 use Rattle.region.specs.declared.frame.Frame.{Frame}
@@ -21,8 +20,7 @@ use Rattle.region.specs.declared.place.Place.{Place}
 use Rattle.region.specs.declared.record.Node.{Node}
 use Rattle.region.specs.declared.shape.Shape.{Shape}
 use Rattle.region.specs.declared.thread.Thread.{Thread}
-use Rattle.region.proofs.Picks.{upd-same, upd-other}
-use Rattle.region.proofs.Views.{shared-setPermission, threads-setPermission}
+use Rattle.region.proofs.Picks.{upd-same}
 use Rattle.region.proofs.Shapes.{above, below, between-least, between-most}
 use Rattle.access.specs.Effect.{effectShared}
 use Rattle.access.specs.Plan.{changesNothing, moved, plan, refused}
@@ -37,8 +35,9 @@ use Rattle.permission.specs.Withdraw.{isPutPlace, isTakePlace, lacksPermission,
 use Rattle.permission.proofs.Laws.{none-lacks, put-lacks, take-lacks}
 use Rattle.run.specs.Run.{Turn}
 use Rattle.machine.specs.Turn.{decide, decideAt, turnAnswer, turnBytes, turnPlan}
-use Rattle.preserved.proofs.Proved.{PermitPassed, permit-either, permit-least, permit-most, turn-keeps}
+use Rattle.preserved.proofs.Proved.{permit-either, permit-least, permit-most, turn-keeps}
 use Rattle.bag.specs.Alone.{Alone, Between, EndsAt, NoOtherMoves, NoneSpent, PermissionKept, Step, last, moved-then, permit, stepOf, stepsOf, turn}
+use Rattle.bag.proofs.Begun.{permit-shared, permit-thread}
 use Rattle.bag.proofs.Carried.{turn-decides, turn-shared, turn-stays, turn-threads}
 
 -- a comparison with a copy that still holds
@@ -76,29 +75,17 @@ module _ (f : Frame) (t : ℕ) (m : Shared) (u : Thread) where
 
   permit-still : (b : List ℕ) (k p : ℕ) → StillSo b → StillSo (permitBytesIn f b k p)
   unfolding withPermission
-  permit-still b k p h = permit-either f b k p StillSo (λ passed. set passed (ℕ-discrete t k)) (λ e. h)
-    where
-      set : PermitPassed f k p → Dec (t ≡ k) → StillSo (setPermissionIn f b k p)
-      set passed same =
-          let l = permit-least f k p passed in
-          let most = permit-most f k p passed in
-          let threads = threads-setPermission f b (h .good .framed) k p l most (omega (arith, passed .permission)) in
-          let now = go same in
-          record {
-            good = keeps-setPermission f b (h .good) k p l most (passed .permission) .good;
-            shared = shared-setPermission f b (h .good .framed) k p l most ∙ h .shared;
-            permission = now .0;
-            thread = ap (λ x. x t) threads ∙ now .1;
-          }
-        where
-          go : Dec (t ≡ k) → (n : ℕ) × (upd (threadIn f b) k (withPermission (threadIn f b k) p) t ≡ withPermission u n)
-          go (yes e) = (
-            p,
-            ap (upd (threadIn f b) k (withPermission (threadIn f b k) p)) e ∙ upd-same (threadIn f b) k _
-                ∙ ap (λ x. withPermission (threadIn f b x) p) (sym e)
-                ∙ ap (λ x. withPermission x p) (h .thread),
-          )
-          go (no n) = (h .permission, upd-other (threadIn f b) k t _ n ∙ h .thread)
+  permit-still b k p h =
+      permit-either f b k p StillSo
+      (λ passed.
+      let x = permit-thread f b (h .good) k p passed t in
+      record {
+        good = keeps-setPermission f b (h .good) k p (permit-least f k p passed) (permit-most f k p passed) (passed .permission) .good;
+        shared = permit-shared f b (h .good) k p passed ∙ h .shared;
+        permission = x .0;
+        thread = x .1 ∙ ap (λ y. withPermission y (x .0)) (h .thread);
+      })
+      (λ e. h)
 
   module _ (may : Thread → Bool) (C : List Step → Type 0)
       (now : (n : ℕ) (b : List ℕ) (c : ℕ) (xs : List Between) → Good f b → sharedIn f b ≡ m → threadIn f b t ≡ withPermission u n

@@ -1,24 +1,27 @@
--- What a beginning leaves on bytes in range under a frame, read as shared memory and threads' records. Assumes nothing.
+-- What a beginning, or a permission that is set, leaves on bytes in range under a frame, read as shared memory and threads' records. Assumes
+-- nothing.
 use Prim.Native.Nat.{ℕ}
+use native.Mathlib.Decide.{ℕ-discrete}
 use native.Mathlib.Omega.{arith}
-use mathlib.Core.Path.{_≡_, ap, _∙_}
+use mathlib.Core.Path.{_≡_, sym, ap, _∙_}
 use mathlib.Core.List.{List}
 use Rattle.words.specs.Word.{word, setWord}
 use Rattle.region.specs.Pick.{upd}
-use Rattle.region.specs.Shared.{Shared, setCell, setFree, cellIn, setCellIn, threadIn, sharedIn}
-use Rattle.region.specs.Thread.{atPlace, begunPut}
+use Rattle.region.specs.Shared.{Shared, setCell, setFree, cellIn, setCellIn, setPermissionIn, threadIn, sharedIn}
+use Rattle.region.specs.Thread.{atPlace, begunPut, withPermission}
 use Rattle.region.specs.declared.frame.Frame.{Frame}
 use Rattle.region.specs.declared.place.Place.{Place}
 use Rattle.region.specs.declared.record.Cell.{Cell}
 use Rattle.region.specs.declared.record.Item.{Item}
 use Rattle.region.specs.declared.shape.Shape.{Shape}
 use Rattle.region.specs.declared.thread.Thread.{Thread}
-use Rattle.region.proofs.Views.{shared-setCell, shared-setFree, shared-setThread, threads-setCell, threads-setFree, threads-setThread}
+use Rattle.region.proofs.Picks.{upd-same, upd-other}
+use Rattle.region.proofs.Views.{shared-setCell, shared-setFree, shared-setPermission, shared-setThread, threads-setCell, threads-setFree, threads-setPermission, threads-setThread}
 use Rattle.readable.proofs.Laws.{Good}
 use Rattle.readable.proofs.Stores.{Keeps, thread-fit}
 use Rattle.begin.specs.Begin.{BeginsAt, acceptedPut, acceptedTake}
 use Rattle.preserved.proofs.EffectsGood.{cell-fit, few-cells}
-use Rattle.preserved.proofs.Proved.{PutPassed, TakePassed, mine-good, moved-keeps, next-few, put-free, put-least, put-most, putter-good, stored-keeps, take-least, take-most, taker-good}
+use Rattle.preserved.proofs.Proved.{PermitPassed, PutPassed, TakePassed, mine-good, moved-keeps, next-few, permit-least, permit-most, put-free, put-least, put-most, putter-good, stored-keeps, take-least, take-most, taker-good}
 
 module _ (f : Frame) (b : List ℕ) (g : Good f b) where
   abbrev s : Shape
@@ -80,3 +83,23 @@ module _ (f : Frame) (b : List ℕ) (g : Good f b) where
         (put-least f b t i p) (put-most f b t i p) (thread-fit s (g .range) putter (putter-good f b t i p g))
         ∙ ap (λ y. upd y t putter)
         (threads-setCell f (setWord b (f .free) next) (moved .good .framed) c cell ∙ threads-setFree f b (g .framed) next)
+
+  -- A permission that is set: shared memory stays, and so does each thread's record but for its permission.
+  module _ (k p : ℕ) (passed : PermitPassed f k p) where
+    pub permit-shared : sharedIn f (setPermissionIn f b k p) ≡ m
+    permit-shared = shared-setPermission f b (g .framed) k p (permit-least f k p passed) (permit-most f k p passed)
+
+    pub permit-thread : (t : ℕ) → (n : ℕ) × (threadIn f (setPermissionIn f b k p) t ≡ withPermission (th t) n)
+    unfolding withPermission
+    permit-thread t =
+        let threads = threads-setPermission f b (g .framed) k p (permit-least f k p passed) (permit-most f k p passed)
+        (omega (arith, passed .permission)) in
+        let now = go (ℕ-discrete t k) in
+        (now .0, ap (λ x. x t) threads ∙ now .1)
+      where
+        go : Dec (t ≡ k) → (n : ℕ) × (upd th k (withPermission (th k) p) t ≡ withPermission (th t) n)
+        go (yes e) = (
+          p,
+          ap (upd th k (withPermission (th k) p)) e ∙ upd-same th k _ ∙ ap (λ x. withPermission (th x) p) (sym e),
+        )
+        go (no n) = (th t .permission, upd-other th k t _ n)

@@ -2,15 +2,17 @@
 -- 3 the ledger; F says of the region before a moment and of the moment how the latter follows. Assumes nothing.
 use Prim.Native.Nat.{ℕ, _/_}
 use mathlib.Core.Path.{_≡_, refl, sym, subst, _∙_}
-use mathlib.Core.Bool.{Bool, true, false}
+use mathlib.Core.Bool.{Bool, true, false, _||_}
 use mathlib.Core.List.{List, [], _∷_, _++_, append-assoc}
 use borrow.Author.Tests.{ne-eqb}
 use lib.Dec.{eqb}
 use lib.ListN.{length}
 use Rattle.region.specs.Answer.{done}
 use Rattle.region.specs.Pick.{pick}
+use Rattle.region.specs.declared.answer.Answer.{Answer}
+use Rattle.region.specs.declared.answer.Answer.the-variants.{Moved, Idle, Inserted, Took, Empty, Refused, Withdrawn}
 use Rattle.region.specs.declared.frame.Frame.{Frame}
-use Rattle.region.specs.declared.place.Place.the-variants.{ReadRoot, ListReadRoot}
+use Rattle.region.specs.declared.place.Place.the-variants.{InsertAtRoot, InsertBelow, ReadRoot, RemoveHead, MendReadNode, ListReadRoot, RemoveList}
 use Rattle.region.specs.declared.record.Item.{Item}
 use Rattle.region.specs.declared.shape.Shape.{Shape}
 use Rattle.region.proofs.Picks.{pick-good}
@@ -20,11 +22,11 @@ use Rattle.permission.specs.Permit.{permitBytes, permitRefusal}
 use Rattle.begin.specs.Begin.{putBytes, putRefusal, takeBytes, takeRefusal}
 use Rattle.run.specs.Run.{Served, Turn, runRefusal, runResult, serve, serveAll, soFar, turnsFrom}
 use Rattle.machine.specs.Turn.{turnBytes}
-use Rattle.mound.specs.Told.{Told, nothing, beginsPut, beginsTake, beginsList}
+use Rattle.mound.specs.Told.{Told, nothing, beginsPut, beginsTake, beginsList, decidesPut, decidesTake, decidesList, decidesEmpty, answersTook, withdraws}
 use Rattle.bag.specs.Calls.{Call, layout, put, take, list, permit, run, check, NoAcceptedLayout, after, refusalOf}
-use Rattle.bag.specs.History.{Event, called, turned, Moment, callMoments, history, servedMoments, servedOn, turnMoments}
+use Rattle.bag.specs.History.{Event, called, turned, Moment, ServedTurn, callMoments, history, servedMoments, servedOn, turnMoments}
 use Rattle.bag.specs.Moments.{EachMoment, regionAfter}
-use Rattle.bag.specs.Told.{callTells, tells}
+use Rattle.bag.specs.Told.{answerTells, callTells, stands, tells}
 
 refused-layout : (b : List ℕ) (x : Shape) (ps : List ℕ) → (layoutRefusal x ps (length b) ≡ done → ⊥) → layoutBytes x ps b ≡ b
 unfolding layoutBytes pick
@@ -43,6 +45,29 @@ called-so P quiet putter taker lister c r = pick-good P (eqb r done) (λ e. go c
     go (permit t p) = quiet
     go (run schedule limit answers) = quiet
     go check = quiet
+
+-- a served turn tells nothing, or by its answer and its place what was decided, answered or withdrawn
+pub turned-so : (P : Told → Type 0) (y : ServedTurn) → P nothing
+    → (y .answer ≡ Moved → stands (y .from) RemoveHead ≡ true → P (decidesTake (y .thread) (y .root)))
+    → (y .answer ≡ Moved → stands (y .from) RemoveList ≡ true → P (decidesList (y .thread) (y .list)))
+    → (y .answer ≡ Inserted → stands (y .from) InsertAtRoot || stands (y .from) InsertBelow ≡ true → P (decidesPut (y .thread)))
+    → ((i : Item) → P (answersTook (y .thread) i))
+    → (y .answer ≡ Empty → stands (y .from) ReadRoot || stands (y .from) ListReadRoot ≡ true → P (decidesEmpty (y .thread)))
+    → (y .answer ≡ Withdrawn → P (withdraws (y .thread)))
+    → P (tells (turned y))
+turned-so P y quiet takes lists inserts took empties withdrew = go (y .answer) refl
+  where
+    go : (a : Answer) → y .answer ≡ a → P (answerTells y a)
+    go Moved e =
+        pick-good P (stands (y .to) (MendReadNode 0))
+        (λ k. pick-good P (stands (y .from) RemoveHead) (takes e) (λ h. pick-good P (stands (y .from) RemoveList) (lists e) (λ r. quiet)))
+        (λ k. quiet)
+    go Idle e = quiet
+    go Inserted e = pick-good P (stands (y .from) InsertAtRoot || stands (y .from) InsertBelow) (inserts e) (λ k. quiet)
+    go (Took i) e = took i
+    go Empty e = pick-good P (stands (y .from) ReadRoot || stands (y .from) ListReadRoot) (empties e) (λ k. quiet)
+    go (Refused n) e = quiet
+    go Withdrawn e = withdrew e
 
 -- e happened and left b: what is known afterwards follows from x, and P holds of both
 pub record Next {E X : Type 0} (P : List ℕ → X → Type 0) (F : E → X → X → Type 0) (x : X) (e : E) (b : List ℕ) : Type 0 where

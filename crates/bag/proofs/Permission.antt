@@ -17,7 +17,7 @@ use Rattle.region.specs.declared.answer.Answer.{Answer}
 use Rattle.region.specs.declared.answer.Answer.the-variants.{Moved, Idle, Inserted, Took, Empty, Refused, Withdrawn}
 use Rattle.region.specs.declared.frame.Frame.{Frame}
 use Rattle.region.specs.declared.place.Place.{Place}
-use Rattle.region.specs.declared.place.Place.the-variants.{InsertAtRoot, InsertBelow, ReadRoot, RemoveHead, MendReadNode, ListReadRoot, RemoveList}
+use Rattle.region.specs.declared.place.Place.the-variants.{InsertAtRoot, InsertBelow, ReadRoot, RemoveHead, ListReadRoot, RemoveList}
 use Rattle.region.specs.declared.record.Cell.{Cell}
 use Rattle.region.specs.declared.record.Item.{Item}
 use Rattle.region.specs.declared.thread.Thread.{Thread}
@@ -46,9 +46,10 @@ use Rattle.mound.proofs.Steps.{Invariant, owns}
 use Rattle.bag.specs.History.{ServedTurn, servedOn, turned}
 use Rattle.bag.specs.Operations.{withdrawing, withdrawn}
 use Rattle.bag.specs.Permission.{FreeAgain, Granted, NotIn}
-use Rattle.bag.specs.Told.{answerTells, stands, tells}
+use Rattle.bag.specs.Told.{stands, tells}
 use Rattle.bag.proofs.Answers.{by-withdrawal}
 use Rattle.bag.proofs.Carried.{turn-shared, turn-threads}
+use Rattle.bag.proofs.Histories.{turned-so}
 
 -- A turn that lacks its permission is withdrawn or refused.
 abbrev undone : Answer → Bool
@@ -110,27 +111,18 @@ module _ (b : List ℕ) (y : ServedTurn) (th : Thread) (here : threadIn (frameIn
       (ap (λ n. between 9 n 10 || between 17 n 18) (ap placeNumber (sym from) ∙ eqb-true (placeNumber (y .from)) (placeNumber p) k) ∙ h))
       ∙ lacks u)
 
-  answer-granted : (a : Answer) → y .answer ≡ a → Granted b (answerTells y a)
+  told-granted : Granted b (tells (turned y))
   unfolding isPutPlace isTakePlace between
-  answer-granted Moved e =
-      pick-good (Granted b) (stands (y .to) (MendReadNode 0))
-      (λ k. pick-good (Granted b) (stands (y .from) RemoveHead) (λ s. may-take RemoveHead refl s (ap undone e))
-      (λ s. pick-good (Granted b) (stands (y .from) RemoveList) (λ r. may-take RemoveList refl r (ap undone e)) (λ r. tt)))
-      (λ k. tt)
-  answer-granted Idle e = tt
-  answer-granted Inserted e =
-      pick-good (Granted b) (stands (y .from) InsertAtRoot || stands (y .from) InsertBelow)
-      (λ k. or-cases (stands (y .from) InsertAtRoot) (stands (y .from) InsertBelow) k
+  told-granted =
+      turned-so (Granted b) y tt
+      (λ e k. may-take RemoveHead refl k (ap undone e))
+      (λ e k. may-take RemoveList refl k (ap undone e))
+      (λ e k. or-cases (stands (y .from) InsertAtRoot) (stands (y .from) InsertBelow) k
       (λ s. may-put InsertAtRoot refl s (ap undone e)) (λ s. may-put InsertBelow refl s (ap undone e)))
-      (λ k. tt)
-  answer-granted (Took i) e = tt
-  answer-granted Empty e =
-      pick-good (Granted b) (stands (y .from) ReadRoot || stands (y .from) ListReadRoot)
-      (λ k. or-cases (stands (y .from) ReadRoot) (stands (y .from) ListReadRoot) k
+      (λ i. tt)
+      (λ e k. or-cases (stands (y .from) ReadRoot) (stands (y .from) ListReadRoot) k
       (λ s. may-take ReadRoot refl s (ap undone e)) (λ s. may-take ListReadRoot refl s (ap undone e)))
-      (λ k. tt)
-  answer-granted (Refused n) e = tt
-  answer-granted Withdrawn e = tt
+      (λ e. tt)
 
 -- a turn that is not refused or withdrawn has its permission
 not-lacking : (f : Frame) (b : List ℕ) (t c : ℕ) → undone (turnAnswer f b t c) ≡ false → lacksPermission (threadIn f b t) ≡ false
@@ -149,35 +141,25 @@ not-lacking f b t c = go (between 1 t (f .shape .threads)) (lacksPermission (thr
 pub turn-granted : (b : List ℕ) (x : Turn) → Granted b (tells (turned (servedOn (frameIn b) b x)))
 unfolding servedOn
 turn-granted b x =
-    answer-granted b (servedOn (frameIn b) b x) (threadIn (frameIn b) b (x .thread)) refl refl
-    (not-lacking (frameIn b) b (x .thread) (x .choice)) _ refl
+    told-granted b (servedOn (frameIn b) b x) (threadIn (frameIn b) b (x .thread)) refl refl
+    (not-lacking (frameIn b) b (x .thread) (x .choice))
 
 -- A withdrawn turn.
-abbrev NotWithdrawing : ℕ → Told → Type 0
-NotWithdrawing t x = withdrawing t x ≡ false
-
-withdraws-so : (t : ℕ) (y : ServedTurn) (a : Answer) → withdrawing t (answerTells y a) ≡ true → (a ≡ Withdrawn) × (t ≡ y .thread)
-withdraws-so t y Moved h =
-    absurd (true≢false (sym h ∙
-    pick-good (NotWithdrawing t) (stands (y .to) (MendReadNode 0))
-    (λ k. pick-good (NotWithdrawing t) (stands (y .from) RemoveHead) (λ s. refl)
-    (λ s. pick-good (NotWithdrawing t) (stands (y .from) RemoveList) (λ r. refl) (λ r. refl)))
-    (λ k. refl)))
-withdraws-so t y Idle h = absurd (true≢false (sym h))
-withdraws-so t y Inserted h =
-    absurd (true≢false (sym h ∙
-    pick-good (NotWithdrawing t) (stands (y .from) InsertAtRoot || stands (y .from) InsertBelow) (λ k. refl) (λ k. refl)))
-withdraws-so t y (Took i) h = absurd (true≢false (sym h))
-withdraws-so t y Empty h =
-    absurd (true≢false (sym h ∙
-    pick-good (NotWithdrawing t) (stands (y .from) ReadRoot || stands (y .from) ListReadRoot) (λ k. refl) (λ k. refl)))
-withdraws-so t y (Refused n) h = absurd (true≢false (sym h))
-withdraws-so t y Withdrawn h = (refl, eqb-true t (y .thread) h)
+withdraws-so : (t : ℕ) (y : ServedTurn) → withdrawing t (tells (turned y)) ≡ true → (y .answer ≡ Withdrawn) × (t ≡ y .thread)
+withdraws-so t y =
+    turned-so (λ x. withdrawing t x ≡ true → (y .answer ≡ Withdrawn) × (t ≡ y .thread)) y
+    (λ h. absurd (true≢false (sym h)))
+    (λ e k h. absurd (true≢false (sym h)))
+    (λ e k h. absurd (true≢false (sym h)))
+    (λ e k h. absurd (true≢false (sym h)))
+    (λ i h. absurd (true≢false (sym h)))
+    (λ e k h. absurd (true≢false (sym h)))
+    (λ e h. (e, eqb-true t (y .thread) h))
 
 pub turn-withdrawn : (f : Frame) (b : List ℕ) (x : Turn) (t : ℕ) → withdrawn t (turned (servedOn f b x)) ≡ true
     → (turnPlan f b (x .thread) (x .choice) .answer ≡ Withdrawn) × (t ≡ x .thread)
 unfolding servedOn turnAnswer
-turn-withdrawn f b x t h = withdraws-so t (servedOn f b x) _ h
+turn-withdrawn f b x t h = withdraws-so t (servedOn f b x) h
 
 -- its plan
 module _ (t : Thread) where

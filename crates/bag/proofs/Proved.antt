@@ -191,7 +191,7 @@ module _ (s : Shape) (b : List ℕ) (l : Ledger) (g : QueueRegion s b l) where
       let y = servedOn f b x in
       subst
       (λ begun. RemembersIn f (turnBytes f b (x .thread) (x .choice)) t (pick begun false (q || tries f all b l (g .region) x t)))
-      (sym (turn-begins-none t y (y .answer))) (turned-remembers f all b l (g .region) x t q h)
+      (sym (turn-begins-none t y)) (turned-remembers f all b l (g .region) x t q h)
 
   -- in a region of the same shape
   tries-kept : (e : Event) (b′ : List ℕ) → shapeIn b′ ≡ s

@@ -2,7 +2,6 @@
 -- leaf word 0. Assumes nothing.
 use Prim.Native.Nat.{ℕ, _≤_}
 use native.Mathlib.Decide.{ℕ-discrete}
-use native.Mathlib.Omega.{arith}
 use mathlib.Core.Path.{_≡_, refl, sym, ap, subst, subst₂, _∙_}
 use mathlib.Core.Bool.{Bool, true, false, _&&_, _||_, true≢false}
 use mathlib.Core.List.{List, [], _∷_, _++_}
@@ -13,17 +12,16 @@ use Rattle.region.specs.Frame.{frameOf}
 use Rattle.region.specs.Pick.{pick, upd}
 use Rattle.region.specs.Shape.{between}
 use Rattle.region.specs.Shared.{Shared, sharedIn, threadIn}
-use Rattle.region.specs.Thread.{atPlace, begunPut, isIdle, withItem, withOwn, withPermission}
+use Rattle.region.specs.Thread.{atPlace, begunPut, isIdle, withItem, withOwn}
 use Rattle.region.specs.declared.answer.Answer.{Answer}
 use Rattle.region.specs.declared.answer.Answer.the-variants.{Moved, Idle, Inserted, Took, Empty, Refused, Withdrawn}
 use Rattle.region.specs.declared.frame.Frame.{Frame}
 use Rattle.region.specs.declared.place.Place.{Place}
-use Rattle.region.specs.declared.place.Place.the-variants.{ReadLeaf, ReadRoot, RemoveHead, RemoveList, InsertAtRoot, InsertBelow, MendReadNode, ListReadRoot}
+use Rattle.region.specs.declared.place.Place.the-variants.{ReadLeaf}
 use Rattle.region.specs.declared.record.Item.{Item}
 use Rattle.region.specs.declared.shape.Shape.{Shape}
 use Rattle.region.specs.declared.thread.Thread.{Thread}
-use Rattle.region.proofs.Picks.{pick-good, upd-same, upd-other}
-use Rattle.region.proofs.Views.{shared-setPermission, threads-setPermission}
+use Rattle.region.proofs.Picks.{upd-same, upd-other}
 use Rattle.access.specs.Effect.{effectShared}
 use Rattle.access.specs.Plan.{changesNothing}
 use Rattle.access.specs.declared.plan.Plan.{Plan}
@@ -35,20 +33,21 @@ use Rattle.begin.specs.Begin.{BeginsAt, acceptedPut, acceptedTake, one-item, pu
 use Rattle.run.specs.Run.{Turn, accessesOf}
 use Rattle.machine.specs.Turn.{turnAnswer, turnBytes, turnPlan}
 use Rattle.readable.specs.Readable.{frameIn, shapeIn}
-use Rattle.preserved.proofs.Proved.{permit-either, permit-least, permit-most, put-passed, take-passed}
+use Rattle.preserved.proofs.Proved.{permit-either, put-passed, take-passed}
 use Rattle.mound.specs.Ledger.{Ledger, Operation}
 use Rattle.mound.specs.Told.{Told, nothing, beginsPut}
-use Rattle.mound.proofs.Leaves.{Remembers, begins-untried, deeper-remembers, never-less-deep, or-none, turn-remembers}
+use Rattle.mound.proofs.Leaves.{Remembers, any-permission, begins-untried, deeper-remembers, never-less-deep, or-none, turn-remembers}
 use Rattle.mound.proofs.Plans.{Planned, moves, refuses, rests}
 use Rattle.mound.proofs.Steps.{owns}
-use Rattle.bag.specs.History.{Moment, ServedTurn}
+use Rattle.bag.specs.History.{Moment, ServedTurn, turned}
 use Rattle.bag.specs.Moments.{EachMoment, regionAfter}
 use Rattle.bag.specs.Operations.{beginning, begins}
 use Rattle.bag.specs.Permission.{threadOn}
-use Rattle.bag.specs.Told.{answerTells, stands}
+use Rattle.bag.specs.Told.{stands}
 use Rattle.bag.specs.Tries.{WordTells, triedAfter, triedSince}
-use Rattle.bag.proofs.Begun.{put-shared, put-threads, take-shared, take-threads}
+use Rattle.bag.proofs.Begun.{permit-shared, permit-thread, put-shared, put-threads, take-shared, take-threads}
 use Rattle.bag.proofs.Carried.{turn-decides, turn-least, turn-most, turn-shared, turn-stays, turn-threads}
+use Rattle.bag.proofs.Histories.{turned-so}
 use Rattle.bag.proofs.Regions.{Region, plan-fits, turn-next}
 
 -- thread t's leaf word on bytes under a frame
@@ -71,23 +70,9 @@ no-try true false c d e = refl
 no-try false b c d e = refl
 
 -- a turn begins nothing
-abbrev NotBeginning : ℕ → Told → Type 0
-NotBeginning t x = beginning t x ≡ false
-
-pub turn-begins-none : (t : ℕ) (y : ServedTurn) (a : Answer) → beginning t (answerTells y a) ≡ false
-turn-begins-none t y Moved =
-    pick-good (NotBeginning t) (stands (y .to) (MendReadNode 0))
-    (λ k. pick-good (NotBeginning t) (stands (y .from) RemoveHead) (λ s. refl)
-    (λ s. pick-good (NotBeginning t) (stands (y .from) RemoveList) (λ r. refl) (λ r. refl)))
-    (λ k. refl)
-turn-begins-none t y Idle = refl
-turn-begins-none t y Inserted =
-    pick-good (NotBeginning t) (stands (y .from) InsertAtRoot || stands (y .from) InsertBelow) (λ k. refl) (λ k. refl)
-turn-begins-none t y (Took i) = refl
-turn-begins-none t y Empty =
-    pick-good (NotBeginning t) (stands (y .from) ReadRoot || stands (y .from) ListReadRoot) (λ k. refl) (λ k. refl)
-turn-begins-none t y (Refused n) = refl
-turn-begins-none t y Withdrawn = refl
+pub turn-begins-none : (t : ℕ) (y : ServedTurn) → begins t (turned y) ≡ false
+turn-begins-none t y =
+    turned-so (λ x. beginning t x ≡ false) y refl (λ e k. refl) (λ e k. refl) (λ e k. refl) (λ i. refl) (λ e k. refl) (λ e. refl)
 
 module _ (f : Frame) (all : ℕ) (b : List ℕ) (l : Ledger) (g : Region f all b l) where
   abbrev s : Shape
@@ -250,27 +235,13 @@ module _ (f : Frame) (all : ℕ) (b : List ℕ) (l : Ledger) (g : Region f all b
 
   -- a permission, set or not
   pub permit-remembers : (k p t : ℕ) (q : Bool) → RemembersIn f b t q → RemembersIn f (permitBytesIn f b k p) t (q || false)
-  unfolding withPermission isIdle
   permit-remembers k p t q h =
       permit-either f b k p (λ x. RemembersIn f x t (q || false))
       (λ passed.
-      let l = permit-least f k p passed in
-      let most = permit-most f k p passed in
-      subst₂ (λ x y. Remembers s (x .depth) (y t) (q || false)) (sym (shared-setPermission f b (g .good .framed) k p l most))
-      (sym (threads-setPermission f b (g .good .framed) k p l most (omega (arith, passed .permission))))
-      (go (ℕ-discrete t k) (still-remembers t q h)))
+      let x = permit-thread f b (g .good) k p passed t in
+      subst₂ (λ y v. Remembers s (y .depth) v (q || false)) (sym (permit-shared f b (g .good) k p passed)) (sym (x .1))
+      (any-permission s (m .depth) (th t) (x .0) (q || false) (still-remembers t q h)))
       (λ e. still-remembers t q h)
-    where
-      go : {q : Bool} → Dec (t ≡ k) → RemembersIn f b t q → Remembers s (m .depth) (upd th k (withPermission (th k) p) t) q
-      go {q} (yes e) h =
-          subst (λ y. Remembers s (m .depth) y q) (sym (ap (upd th k (withPermission (th k) p)) e ∙ upd-same th k (withPermission (th k) p)))
-          (let x = subst (λ y. RemembersIn f b y q) e h in
-          record {
-            idle = x .idle;
-            has = λ a c. let y = x .has a c in record { full = y .full; at-full = y .at-full; leaf = y .leaf };
-            has-not = x .has-not;
-          })
-      go {q} (no n) h = subst (λ y. Remembers s (m .depth) y q) (sym (upd-other th k t (withPermission (th k) p) n)) h
 
 -- a moment, b being the region before it
 abbrev pub TriesKept : List ℕ → Moment → Type 0

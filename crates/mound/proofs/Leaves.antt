@@ -12,7 +12,7 @@ use Rattle.region.specs.Pick.{pick}
 use Rattle.region.specs.Place.{placeNumber}
 use Rattle.region.specs.Shape.{between}
 use Rattle.region.specs.Shared.{Shared}
-use Rattle.region.specs.Thread.{atPlace, goneIdle, isIdle, mending, withAfter, withCopies, withDepth, withFirst, withNode, withOwn, withResult, withSearch, withSecond, withThird}
+use Rattle.region.specs.Thread.{atPlace, goneIdle, isIdle, mending, withAfter, withCopies, withDepth, withFirst, withNode, withOwn, withPermission, withResult, withSearch, withSecond, withThird}
 use Rattle.region.specs.declared.answer.Answer.{Answer}
 use Rattle.region.specs.declared.answer.Answer.the-variants.{Moved, Refused}
 use Rattle.region.specs.declared.place.Place.{Place}
@@ -108,6 +108,16 @@ module _ (s : Shape) where
         idle = λ i. absurd (true≢false (sym i ∙ a));
         has = λ p q. absurd (true≢false (sym q));
         has-not = λ p q. ap (isLeafOf (s .depth)) e ∙ no-leaf s 0 (omega arith);
+      }
+
+  -- no fact looks at the permission
+  pub any-permission : (depth : ℕ) (t : Thread) (n : ℕ) (q : Bool) → Remembers s depth t q → Remembers s depth (withPermission t n) q
+  unfolding withPermission isIdle
+  any-permission depth t n q h =
+      record {
+        idle = h .idle;
+        has = λ p e. let x = h .has p e in record { full = x .full; at-full = x .at-full; leaf = x .leaf };
+        has-not = h .has-not;
       }
 
   -- the tree may have grown in between
