@@ -8,15 +8,15 @@ const OVERRIDE: &str = "MOUND_LIBRARY_DIR";
 
 fn main() {
     let folder = env::var_os(OVERRIDE).map_or_else(default_folder, PathBuf::from);
-    let archive = folder.join("libqueue.a");
+    let archive = folder.join("libmound.a");
     if !archive.exists() {
         let archive = archive.display();
-        println!("cargo:warning={archive} is missing: `rt staticlib queue` builds it");
+        println!("cargo:warning={archive} is missing: `rt staticlib mound` builds it");
     }
     println!("cargo:rerun-if-env-changed={OVERRIDE}");
     println!("cargo:rerun-if-changed={}", archive.display());
     println!("cargo:rustc-link-search=native={}", folder.display());
-    println!("cargo:rustc-link-lib=static=queue");
+    println!("cargo:rustc-link-lib=static=mound");
 }
 
 fn default_folder() -> PathBuf {

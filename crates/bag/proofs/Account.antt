@@ -16,9 +16,9 @@ use Rattle.region.specs.Shared.{sharedIn, threadIn}
 use Rattle.region.specs.declared.record.Item.{Item}
 use Rattle.readable.specs.Readable.{frameIn, shapeIn}
 use Rattle.begin.specs.Begin.{hasFreeCell, putRefusal, putRefusalIn}
-use Rattle.mound.specs.Ledger.{Ledger}
-use Rattle.mound.proofs.Account.{all-cells, full-without, not-full-with}
-use Rattle.mound.proofs.Steps.{Invariant}
+use Rattle.theory.specs.Ledger.{Ledger}
+use Rattle.theory.proofs.Account.{all-cells, full-without, not-full-with}
+use Rattle.theory.proofs.Steps.{Invariant}
 use Rattle.bag.specs.Account.{treeCells, begunPuts, freeCells, handCells, AllCellsAccounted, Full, NoneFreeWhenFull, NothingElseRefuses, RefusedWhenFull, PutsRefusedWhenFull}
 
 -- where nothing else refuses a put, the first free cell decides

@@ -34,8 +34,8 @@ use Rattle.run.specs.Run.{Turn}
 use Rattle.machine.specs.Inner.{isWithdrawn}
 use Rattle.machine.proofs.PlaceEffects.{plan-fits}
 use Rattle.machine.specs.Turn.{decide, decideAt, turnAnswer, turnPlan}
-use Rattle.mound.specs.Told.{nothing, decidesEmpty, decidesPut}
-use Rattle.mound.proofs.Steps.{effectTells, quietTells}
+use Rattle.theory.specs.Told.{nothing, decidesEmpty, decidesPut}
+use Rattle.theory.proofs.Steps.{effectTells, quietTells}
 use Rattle.bag.specs.Demand3.{Says, moved as says-moved, idle, refused as says-refused, inserted, empty, took, removed, list-removed, withdrawn as says-withdrawn}
 use Rattle.bag.specs.History.{ServedTurn, turned, rootItem, rootItems, servedOn}
 use Rattle.bag.specs.Told.{answerTells, stands, tells}

@@ -12,7 +12,7 @@ use Rattle.region.specs.Pick.{pick}
 use Rattle.region.specs.declared.frame.Frame.{Frame}
 use Rattle.readable.specs.Readable.{frameIn}
 use Rattle.run.specs.Run.{Served, Turn, runRefusal, runResult, serve, serveAll, soFar, turnsFrom}
-use Rattle.queue.proofs.RunAnswerTellsAll.{run-answer-tells-all}
+use Rattle.mound.proofs.RunAnswerTellsAll.{run-answer-tells-all}
 use Rattle.bag.specs.Calls.{refusalOf, after, run}
 use Rattle.bag.specs.Exported.{CallsAreExported}
 use Rattle.bag.specs.History.{Moment, servedMoments, turnMoments}

@@ -22,7 +22,7 @@ use Rattle.permission.specs.Permit.{permitBytes, permitRefusal}
 use Rattle.begin.specs.Begin.{putBytes, putRefusal, takeBytes, takeRefusal}
 use Rattle.run.specs.Run.{Served, Turn, runRefusal, runResult, serve, serveAll, soFar, turnsFrom}
 use Rattle.machine.specs.Turn.{turnBytes}
-use Rattle.mound.specs.Told.{Told, nothing, beginsPut, beginsTake, beginsList, decidesPut, decidesTake, decidesList, decidesEmpty, answersTook, withdraws}
+use Rattle.theory.specs.Told.{Told, nothing, beginsPut, beginsTake, beginsList, decidesPut, decidesTake, decidesList, decidesEmpty, answersTook, withdraws}
 use Rattle.bag.specs.Calls.{Call, layout, put, take, list, permit, run, check, NoAcceptedLayout, after, refusalOf}
 use Rattle.bag.specs.History.{Event, called, turned, Moment, ServedTurn, callMoments, history, servedMoments, servedOn, turnMoments}
 use Rattle.bag.specs.Moments.{EachMoment, regionAfter}

@@ -10,10 +10,10 @@ use Rattle.region.specs.Pick.{pick}
 use Rattle.region.specs.declared.record.Item.{Item}
 use Rattle.access.specs.Order.{itemLe, itemLt}
 use Rattle.access.proofs.OrderLaws.{item-antisym, item-by-tag, item-key, item-refl, item-total}
-use Rattle.mound.specs.Ledger.{Ledger, Least, Follows, still, put-begins, take-begins, list-begins, put-decides, take-decides, list-decides, empty-decides, take-answers, oneMore, oneLess, ends-withdrawn}
-use Rattle.mound.specs.Told.{Told, decidesList}
-use Rattle.mound.specs.Tree.{sameItem}
-use Rattle.mound.proofs.Sorted.{item-same, same-item}
+use Rattle.theory.specs.Ledger.{Ledger, Least, Follows, still, put-begins, take-begins, list-begins, put-decides, take-decides, list-decides, empty-decides, take-answers, oneMore, oneLess, ends-withdrawn}
+use Rattle.theory.specs.Told.{Told, decidesList}
+use Rattle.theory.specs.Tree.{sameItem}
+use Rattle.theory.proofs.Sorted.{item-same, same-item}
 use Rattle.bag.specs.Demand3.{Agrees, HoldsTheSame}
 use Rattle.bag.specs.History.{Moment}
 use Rattle.bag.specs.Moments.{EachMoment}

@@ -13,8 +13,8 @@ use Rattle.region.specs.declared.answer.Answer.{Answer}
 use Rattle.region.specs.declared.record.Item.{Item}
 use Rattle.region.proofs.Shapes.{and-left, and-right}
 use Rattle.access.specs.Plan.{answersOperation}
-use Rattle.mound.specs.Ledger.{Ledger, Operation, Undecided, UndecidedTake, a-put, a-take, none, one-item, owing, putting, listing, stillOwing, taking, whole-list, Follows, still, put-begins, take-begins, list-begins, put-decides, take-decides, list-decides, empty-decides, take-answers, ends-withdrawn}
-use Rattle.mound.specs.Told.{Told}
+use Rattle.theory.specs.Ledger.{Ledger, Operation, Undecided, UndecidedTake, a-put, a-take, none, one-item, owing, putting, listing, stillOwing, taking, whole-list, Follows, still, put-begins, take-begins, list-begins, put-decides, take-decides, list-decides, empty-decides, take-answers, ends-withdrawn}
+use Rattle.theory.specs.Told.{Told}
 use Rattle.bag.specs.Demand3.{AnswerSays, Says, moved, removed, list-removed, idle, inserted, took, empty, refused, withdrawn as says-withdrawn}
 use Rattle.bag.specs.History.{Event, called, turned, Moment}
 use Rattle.bag.specs.Operations.{AnsweredDecidesOnce, DecidesAtMostOnce, WithdrawnNeverDecides, answered, beginning, begins, count, deciding, decides, withdrawing, withdrawn}

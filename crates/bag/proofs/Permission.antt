@@ -37,12 +37,12 @@ use Rattle.run.specs.Run.{Turn}
 use Rattle.machine.specs.Inner.{isWithdrawn}
 use Rattle.machine.specs.Turn.{carriedOut, decide, decideAt, turnAnswer, turnBytes, turnPlan}
 use Rattle.preserved.proofs.Proved.{put-passed, take-passed}
-use Rattle.mound.specs.Ledger.{Ledger}
-use Rattle.mound.specs.Told.{Told}
-use Rattle.mound.specs.Tree.{listFrom}
-use Rattle.mound.proofs.Chains.{Chain, ends, first-owned, link}
-use Rattle.mound.proofs.Held.{free-chain, node-chain}
-use Rattle.mound.proofs.Steps.{Invariant, owns}
+use Rattle.theory.specs.Ledger.{Ledger}
+use Rattle.theory.specs.Told.{Told}
+use Rattle.theory.specs.Tree.{listFrom}
+use Rattle.theory.proofs.Chains.{Chain, ends, first-owned, link}
+use Rattle.theory.proofs.Held.{free-chain, node-chain}
+use Rattle.theory.proofs.Steps.{Invariant, owns}
 use Rattle.bag.specs.History.{ServedTurn, servedOn, turned}
 use Rattle.bag.specs.Operations.{withdrawing, withdrawn}
 use Rattle.bag.specs.Permission.{FreeAgain, Granted, NotIn}

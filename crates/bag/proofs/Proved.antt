@@ -30,12 +30,12 @@ use Rattle.begin.proofs.Laws.{put-bytes-in, put-refusal-in, take-bytes-in, take
 use Rattle.run.specs.Run.{Turn}
 use Rattle.machine.specs.Turn.{turnBytes, turnPlan}
 use Rattle.preserved.proofs.Proved.{permit-keeps, put-keeps, take-keeps, turn-keeps}
-use Rattle.queue.proofs.LaidOutIsReadable.{laid-out-is-readable, same-shape}
-use Rattle.mound.specs.Ledger.{Ledger, Follows, emptyLedger, none, still, stillOwing}
-use Rattle.mound.specs.Told.{Told, nothing, beginsPut, beginsTake, beginsList}
-use Rattle.mound.proofs.Facts.{idle-without, none-when-idle, stage}
-use Rattle.mound.proofs.Leaves.{or-none}
-use Rattle.mound.proofs.Steps.{root-sorted}
+use Rattle.mound.proofs.LaidOutIsReadable.{laid-out-is-readable, same-shape}
+use Rattle.theory.specs.Ledger.{Ledger, Follows, emptyLedger, none, still, stillOwing}
+use Rattle.theory.specs.Told.{Told, nothing, beginsPut, beginsTake, beginsList}
+use Rattle.theory.proofs.Facts.{idle-without, none-when-idle, stage}
+use Rattle.theory.proofs.Leaves.{or-none}
+use Rattle.theory.proofs.Steps.{root-sorted}
 use Rattle.bag.specs.Calls.{Call, NoAcceptedLayout, put, take, list, permit}
 use Rattle.bag.specs.Demand3.{Agrees, AnswerSays, HoldsTheSame, RegionIsABag, inTree}
 use Rattle.bag.specs.History.{Event, called, turned, Moment, history, rootItem, rootItems, servedOn}

@@ -28,9 +28,9 @@ use Rattle.begin.specs.Begin.{acceptedPut, putBytes, putRefusal}
 use Rattle.begin.proofs.Laws.{put-refusal-in}
 use Rattle.insert.proofs.Laws.{LeafOf}
 use Rattle.preserved.proofs.Proved.{PutPassed, accepted-put-keeps, put-free, put-key, put-least, put-most, put-passed, put-tag}
-use Rattle.mound.specs.Account.{anyItem}
-use Rattle.mound.specs.Tree.{inNodes}
-use Rattle.mound.proofs.Account.{list-some, some-empty}
+use Rattle.theory.specs.Account.{anyItem}
+use Rattle.theory.specs.Tree.{inNodes}
+use Rattle.theory.proofs.Account.{list-some, some-empty}
 use Rattle.bag.specs.Account.{AllCellsAccounted, freeCells, treeCells}
 use Rattle.bag.specs.Alone.{Alone, Between, EndsAt, stepsOf}
 use Rattle.bag.specs.PutCost.{PutsEnd}

@@ -33,11 +33,11 @@ use Rattle.machine.specs.Turn.{turnBytes, turnPlan}
 use Rattle.begin.proofs.Laws.{is-idle}
 use Rattle.permission.specs.Permit.{permitBytesIn}
 use Rattle.preserved.proofs.Proved.{PutPassed, TakePassed, accepted-put-keeps, accepted-take-keeps, permit-either, permit-least, permit-most, put-free, put-key, put-least, put-most, put-passed, put-tag, take-least, take-most, take-passed, turn-keeps}
-use Rattle.mound.specs.Ledger.{Operation, Ledger, Follows, still}
-use Rattle.mound.specs.Told.{Told, nothing, beginsPut, beginsTake, beginsList}
-use Rattle.mound.proofs.Facts.{At}
-use Rattle.mound.proofs.Plans.{Allowed, OwnAfter, Planned, OperationAfter, rests, refuses, moves, planned, operation-moves}
-use Rattle.mound.proofs.Steps.{Invariant, NextState, effectTells, list-begun, owns, permit-holds, put-begun, quietTells, take-begun, turn-moves}
+use Rattle.theory.specs.Ledger.{Operation, Ledger, Follows, still}
+use Rattle.theory.specs.Told.{Told, nothing, beginsPut, beginsTake, beginsList}
+use Rattle.theory.proofs.Facts.{At}
+use Rattle.theory.proofs.Plans.{Allowed, OwnAfter, Planned, OperationAfter, rests, refuses, moves, planned, operation-moves}
+use Rattle.theory.proofs.Steps.{Invariant, NextState, effectTells, list-begun, owns, permit-holds, put-begun, quietTells, take-begun, turn-moves}
 use Rattle.bag.specs.History.{rootItem, rootItems, servedOn, turned}
 use Rattle.bag.specs.Told.{tells}
 use Rattle.bag.proofs.Answers.{turn-tells}

@@ -26,18 +26,18 @@ use Rattle.access.proofs.OrderLaws.{item-refl}
 use Rattle.layout.specs.Layout.{layoutRefusal, layoutBytes}
 use Rattle.layout.proofs.Laws.{laid-shape}
 use Rattle.layout.proofs.LayoutReads.{laid-cell, laid-depth, laid-free, laid-no-thread, laid-node, laid-thread, next-in-chain, next-past, nextFree}
-use Rattle.queue.proofs.LaidOutIsReadable.{laid-good}
-use Rattle.mound.specs.Ledger.{emptyLedger, none}
-use Rattle.mound.specs.Tree.{sameItem}
-use Rattle.mound.proofs.Chains.{Chain, ends, link, among, items}
-use Rattle.mound.proofs.Counts.{inChain}
-use Rattle.mound.proofs.Effects.{Mound}
-use Rattle.mound.proofs.Facts.{At}
-use Rattle.mound.proofs.Held.{Held, counted, counts}
-use Rattle.mound.proofs.Holders.{head-free, heads, overAll}
-use Rattle.mound.proofs.Sorted.{AtMost, Sorted, valueAt}
-use Rattle.mound.proofs.Steps.{owns}
-use Rattle.mound.proofs.Sums.{sum-zero}
+use Rattle.mound.proofs.LaidOutIsReadable.{laid-good}
+use Rattle.theory.specs.Ledger.{emptyLedger, none}
+use Rattle.theory.specs.Tree.{sameItem}
+use Rattle.theory.proofs.Chains.{Chain, ends, link, among, items}
+use Rattle.theory.proofs.Counts.{inChain}
+use Rattle.theory.proofs.Effects.{Mound}
+use Rattle.theory.proofs.Facts.{At}
+use Rattle.theory.proofs.Held.{Held, counted, counts}
+use Rattle.theory.proofs.Holders.{head-free, heads, overAll}
+use Rattle.theory.proofs.Sorted.{AtMost, Sorted, valueAt}
+use Rattle.theory.proofs.Steps.{owns}
+use Rattle.theory.proofs.Sums.{sum-zero}
 use Rattle.bag.proofs.Regions.{Region}
 
 -- cells k, k + 1, .. , n of them, and the first of them

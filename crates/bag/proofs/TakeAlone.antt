@@ -42,8 +42,8 @@ use Rattle.machine.specs.Turn.{decide, turnAnswer, turnBytes, turnPlan}
 use Rattle.cost.specs.Cost.{lesserChild, levelsDown, withoutHead}
 use Rattle.cost.proofs.Laws.{goes-down, lesser-is-child, levels-same, rests-deepest, rests-there, swaps-as-placed, tests-as-placed}
 use Rattle.preserved.proofs.TreeLevels.{level-child}
-use Rattle.mound.specs.Tree.{listFrom}
-use Rattle.mound.proofs.Sorted.{valueAt}
+use Rattle.theory.specs.Tree.{listFrom}
+use Rattle.theory.proofs.Sorted.{valueAt}
 use Rattle.bag.specs.Alone.{Step}
 use Rattle.bag.specs.History.{rootItem}
 use Rattle.bag.specs.TakeCost.{LeavesList, listOf, rootHead}

@@ -30,10 +30,10 @@ use Rattle.begin.proofs.Laws.{take-refusal-in}
 use Rattle.cost.specs.Cost.{levelsDown, restLevel, takeCost, withoutHead}
 use Rattle.cost.proofs.Laws.{cost-ceiling, cost-counted, cost-empty, cost-full, levels-same, rest-most}
 use Rattle.preserved.proofs.Proved.{TakePassed, accepted-take-keeps, take-least, take-most, take-passed}
-use Rattle.mound.specs.Tree.{listFrom}
-use Rattle.mound.proofs.Chains.{list-behind, next-apart}
-use Rattle.mound.proofs.Effects.{Mound, PopAllowed, in-tree, pop-others, root-there}
-use Rattle.mound.proofs.Held.{few-cells, node-chain}
+use Rattle.theory.specs.Tree.{listFrom}
+use Rattle.theory.proofs.Chains.{list-behind, next-apart}
+use Rattle.theory.proofs.Effects.{Mound, PopAllowed, in-tree, pop-others, root-there}
+use Rattle.theory.proofs.Held.{few-cells, node-chain}
 use Rattle.bag.specs.Alone.{Alone, Between, EndsAt, Step, last, moved-then, stepsOf}
 use Rattle.bag.specs.TakeCost.{AllClean, LastAccess, TakesCost, TakesEnd, listOf, rootHead}
 use Rattle.bag.proofs.Alone.{Ends, Goal, StillSo, ends-alone}

@@ -21,10 +21,10 @@ use Rattle.layout.proofs.Laws.{laid-shape}
 use Rattle.readable.specs.Readable.{frameIn, shapeIn}
 use Rattle.readable.proofs.Laws.{good}
 use Rattle.machine.specs.Turn.{turnAnswer, turnPlan}
-use Rattle.mound.specs.Ledger.{Ledger, Operation, emptyLedger}
-use Rattle.mound.proofs.Leaves.{Remembers, gone-remembers}
-use Rattle.mound.proofs.Plans.{Planned, moves, refuses, rests, operation-moves}
-use Rattle.mound.proofs.Steps.{owns}
+use Rattle.theory.specs.Ledger.{Ledger, Operation, emptyLedger}
+use Rattle.theory.proofs.Leaves.{Remembers, gone-remembers}
+use Rattle.theory.proofs.Plans.{Planned, moves, refuses, rests, operation-moves}
+use Rattle.theory.proofs.Steps.{owns}
 use Rattle.bag.specs.History.{Moment, history}
 use Rattle.bag.specs.Moments.{EachMoment, InEveryHistory, Throughout, regionAfter}
 use Rattle.bag.specs.Theorems.{CellsAccounted, LeafWordTells, NoLeafWhenIdle, NoTurnUnreadable, NoneFree, PutsEndInTime, RefusedTenWhenFull, SmallerTagFirst, StaysReadable, TakesCostExactly, TakesEndInTime}

@@ -15,11 +15,11 @@ use Rattle.region.specs.declared.record.Item.{Item}
 use Rattle.region.proofs.Picks.{upd-same}
 use Rattle.access.specs.declared.effect.Effect.{Effect}
 use Rattle.access.specs.declared.effect.Effect.the-variants.{Nothing, Grow, Push, Pop, Exchange, Clean, Detach, Free}
-use Rattle.mound.specs.Ledger.{Ledger, Operation, Undecided, UndecidedTake, a-put, a-take, none, one-item, owing, putting, listing, stillOwing, taking, whole-list, Follows, still, put-begins, take-begins, list-begins, put-decides, take-decides, list-decides, empty-decides, take-answers, ends-withdrawn, ends-withdrawn}
-use Rattle.mound.specs.Told.{Told, nothing, beginsPut, beginsTake, beginsList, decidesPut, decidesTake, decidesList, decidesEmpty, answersTook, withdraws}
-use Rattle.mound.proofs.Facts.{stage}
-use Rattle.mound.proofs.Sorted.{Sorted}
-use Rattle.mound.proofs.Steps.{effectTells, quietTells}
+use Rattle.theory.specs.Ledger.{Ledger, Operation, Undecided, UndecidedTake, a-put, a-take, none, one-item, owing, putting, listing, stillOwing, taking, whole-list, Follows, still, put-begins, take-begins, list-begins, put-decides, take-decides, list-decides, empty-decides, take-answers, ends-withdrawn}
+use Rattle.theory.specs.Told.{Told, nothing, beginsPut, beginsTake, beginsList, decidesPut, decidesTake, decidesList, decidesEmpty, answersTook, withdraws}
+use Rattle.theory.proofs.Facts.{stage}
+use Rattle.theory.proofs.Sorted.{Sorted}
+use Rattle.theory.proofs.Steps.{effectTells, quietTells}
 use Rattle.bag.specs.Demand3.{AnswerSays, Says, moved, removed, list-removed, idle, inserted, took, empty, refused, withdrawn}
 use Rattle.bag.specs.History.{Event, called, turned, Moment}
 use Rattle.bag.specs.Moments.{regionAfter}

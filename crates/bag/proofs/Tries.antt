@@ -34,11 +34,11 @@ use Rattle.run.specs.Run.{Turn, accessesOf}
 use Rattle.machine.specs.Turn.{turnAnswer, turnBytes, turnPlan}
 use Rattle.readable.specs.Readable.{frameIn, shapeIn}
 use Rattle.preserved.proofs.Proved.{permit-either, put-passed, take-passed}
-use Rattle.mound.specs.Ledger.{Ledger, Operation}
-use Rattle.mound.specs.Told.{Told, nothing, beginsPut}
-use Rattle.mound.proofs.Leaves.{Remembers, any-permission, begins-untried, deeper-remembers, never-less-deep, or-none, turn-remembers}
-use Rattle.mound.proofs.Plans.{Planned, moves, refuses, rests}
-use Rattle.mound.proofs.Steps.{owns}
+use Rattle.theory.specs.Ledger.{Ledger, Operation}
+use Rattle.theory.specs.Told.{Told, nothing, beginsPut}
+use Rattle.theory.proofs.Leaves.{Remembers, any-permission, begins-untried, deeper-remembers, never-less-deep, or-none, turn-remembers}
+use Rattle.theory.proofs.Plans.{Planned, moves, refuses, rests}
+use Rattle.theory.proofs.Steps.{owns}
 use Rattle.bag.specs.History.{Moment, ServedTurn, turned}
 use Rattle.bag.specs.Moments.{EachMoment, regionAfter}
 use Rattle.bag.specs.Operations.{beginning, begins}

@@ -14,8 +14,8 @@ use Rattle.region.specs.declared.record.Item.{Item}
 use Rattle.readable.specs.Readable.{readable, frameIn, shapeIn}
 use Rattle.permission.specs.Grants.{mayPut}
 use Rattle.begin.specs.Begin.{isItem, putRefusal}
-use Rattle.mound.specs.Account.{anyItem, inHands, putsAmong}
-use Rattle.mound.specs.Tree.{inList, inNodes}
+use Rattle.theory.specs.Account.{anyItem, inHands, putsAmong}
+use Rattle.theory.specs.Tree.{inList, inNodes}
 
 -- "in the lists of nodes 1 to 2^D − 1, each list .. at most C of them"
 unfoldable pub treeCells : Frame → List ℕ → ℕ

@@ -10,9 +10,9 @@ use Rattle.region.specs.declared.frame.Frame.{Frame}
 use Rattle.region.specs.declared.record.Item.{Item}
 use Rattle.region.specs.declared.shape.Shape.{Shape}
 use Rattle.readable.specs.Readable.{frameIn}
-use Rattle.mound.specs.Ledger.{Ledger, Follows, emptyLedger}
-use Rattle.mound.specs.Told.{Told, nothing, decidesPut, decidesTake, decidesList, decidesEmpty, answersTook, withdraws}
-use Rattle.mound.specs.Tree.{inNodes, sameItem}
+use Rattle.theory.specs.Ledger.{Ledger, Follows, emptyLedger}
+use Rattle.theory.specs.Told.{Told, nothing, decidesPut, decidesTake, decidesList, decidesEmpty, answersTook, withdraws}
+use Rattle.theory.specs.Tree.{inNodes, sameItem}
 use Rattle.bag.specs.History.{Event, called, turned, Moment}
 use Rattle.bag.specs.Moments.{InEveryHistory, EachMoment}
 use Rattle.bag.specs.Operations.{AnsweredDecidesOnce, DecidesAtMostOnce, WithdrawnNeverDecides}

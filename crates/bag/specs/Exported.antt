@@ -12,7 +12,7 @@ use Rattle.readable.specs.Readable.{checkAnswer}
 use Rattle.begin.specs.Begin.{PutBegun, TakeBegun}
 use Rattle.permission.specs.Permit.{PermitSet}
 use Rattle.run.specs.Run.{runResult}
-use Rattle.queue.specs.Calls.{RunDone}
+use Rattle.mound.specs.Calls.{RunDone}
 use Rattle.bag.specs.Calls.{Call, layout, put, take, list, permit, run, check, refusalOf, after}
 use Rattle.bag.specs.History.{servedMoments}
 
@@ -22,7 +22,7 @@ pub record Made (b : List ℕ) (c : Call) (b′ : List ℕ) (r : ℕ) : Type 0 w
   pub region : b′ ≡ after b c
 
 -- `mound_layout`, `mound_put`, `mound_take`, `mound_list`, `mound_permit`, `mound_run` and `mound_check`, by their contracts in
--- crates/queue/src/lib.rt
+-- crates/mound/src/lib.rt
 pub record CallsAreExported : Type 0 where
   pub layout-made : (s : Shape) (permissions b b′ : List ℕ) (r : ℕ) → LaidOut s permissions b b′ r → Made b (layout s permissions) b′ r
   pub put-made : (b b′ : List ℕ) (t : ℕ) (i : Item) (r : ℕ) → PutBegun b b′ t i r → Made b (put t i) b′ r

@@ -14,7 +14,7 @@ use Rattle.region.specs.declared.record.Item.{Item}
 use Rattle.readable.specs.Readable.{frameIn}
 use Rattle.run.specs.Run.{Served, Turn, runRefusal, serve, soFar, turnsFrom}
 use Rattle.machine.specs.Turn.{turnAnswer, turnBytes}
-use Rattle.mound.specs.Tree.{itemsOf, listFrom}
+use Rattle.theory.specs.Tree.{itemsOf, listFrom}
 use Rattle.bag.specs.Calls.{Call, layout, put, take, list, permit, run, check, refusalOf, after}
 
 -- a served turn: its thread, the place where that stood and where it stands afterwards, the answer, and the item of the root's head cell and

@@ -8,7 +8,7 @@ use mathlib.Core.List.{List, [], _∷_, _++_}
 use lib.Dec.{eqb}
 use Rattle.region.specs.Pick.{pick}
 use Rattle.access.specs.Plan.{answersOperation}
-use Rattle.mound.specs.Told.{Told, nothing, beginsPut, beginsTake, beginsList, decidesPut, decidesTake, decidesList, decidesEmpty, answersTook, withdraws}
+use Rattle.theory.specs.Told.{Told, nothing, beginsPut, beginsTake, beginsList, decidesPut, decidesTake, decidesList, decidesEmpty, answersTook, withdraws}
 use Rattle.bag.specs.History.{Event, called, turned, Moment}
 use Rattle.bag.specs.Told.{tells}
 

@@ -14,8 +14,8 @@ use Rattle.region.specs.declared.thread.Thread.{Thread}
 use Rattle.permission.specs.Grants.{mayPut, mayTake}
 use Rattle.permission.specs.Withdraw.{isPutPlace}
 use Rattle.readable.specs.Readable.{frameIn}
-use Rattle.mound.specs.Told.{Told, nothing, beginsPut, beginsTake, beginsList, decidesPut, decidesTake, decidesList, decidesEmpty, answersTook, withdraws}
-use Rattle.mound.specs.Tree.{Listed, listFrom}
+use Rattle.theory.specs.Told.{Told, nothing, beginsPut, beginsTake, beginsList, decidesPut, decidesTake, decidesList, decidesEmpty, answersTook, withdraws}
+use Rattle.theory.specs.Tree.{Listed, listFrom}
 use Rattle.bag.specs.Calls.{layout, put, take, list, permit, run, check}
 use Rattle.bag.specs.History.{Event, called, turned, Moment}
 use Rattle.bag.specs.Operations.{withdrawn}

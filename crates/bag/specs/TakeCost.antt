@@ -15,7 +15,7 @@ use Rattle.readable.specs.Readable.{frameIn}
 use Rattle.permission.specs.Grants.{mayTake}
 use Rattle.begin.specs.Begin.{takeBytes, takeRefusal}
 use Rattle.cost.specs.Cost.{restLevel, takeCost}
-use Rattle.mound.specs.Tree.{Listed, listFrom}
+use Rattle.theory.specs.Tree.{Listed, listFrom}
 use Rattle.bag.specs.Alone.{Alone, Between, EndsAt, Step, stepsOf}
 use Rattle.bag.specs.History.{rootItem}
 

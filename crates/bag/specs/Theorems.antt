@@ -9,8 +9,8 @@ use Rattle.region.specs.declared.answer.Answer.the-variants.{Refused}
 use Rattle.region.specs.declared.record.Item.{Item}
 use Rattle.readable.specs.Readable.{frameIn, readable, shapeIn}
 use Rattle.machine.specs.Turn.{turnAnswer}
-use Rattle.mound.specs.Ledger.{Least}
-use Rattle.mound.specs.Told.{decidesList}
+use Rattle.theory.specs.Ledger.{Least}
+use Rattle.theory.specs.Told.{decidesList}
 use Rattle.bag.specs.Account.{AllCellsAccounted, NoneFreeWhenFull, PutsRefusedWhenFull}
 use Rattle.bag.specs.Demand3.{inTree}
 use Rattle.bag.specs.History.{Moment}

@@ -8,7 +8,7 @@ use Rattle.region.specs.declared.answer.Answer.{Answer}
 use Rattle.region.specs.declared.answer.Answer.the-variants.{Moved, Idle, Inserted, Took, Empty, Refused, Withdrawn}
 use Rattle.region.specs.declared.place.Place.{Place}
 use Rattle.region.specs.declared.place.Place.the-variants.{InsertAtRoot, InsertBelow, ReadRoot, RemoveHead, MendReadNode, ListReadRoot, RemoveList}
-use Rattle.mound.specs.Told.{Told, nothing, beginsPut, beginsTake, beginsList, decidesPut, decidesTake, decidesList, decidesEmpty, answersTook, withdraws}
+use Rattle.theory.specs.Told.{Told, nothing, beginsPut, beginsTake, beginsList, decidesPut, decidesTake, decidesList, decidesEmpty, answersTook, withdraws}
 use Rattle.bag.specs.Calls.{Call, layout, put, take, list, permit, run, check}
 use Rattle.bag.specs.History.{Event, called, turned, ServedTurn}
 

@@ -13,7 +13,7 @@ use Rattle.region.specs.declared.answer.Answer.the-variants.{Moved, Idle, Inser
 use Rattle.region.specs.declared.record.Item.{Item}
 use Rattle.access.specs.Order.{itemLe}
 use Rattle.readable.specs.Readable.{frameIn}
-use Rattle.mound.specs.Told.{Told, decidesTake, decidesList}
+use Rattle.theory.specs.Told.{Told, decidesTake, decidesList}
 use Rattle.bag.specs.History.{Event, called, turned, Moment}
 use Rattle.bag.specs.Moments.{regionAfter}
 use Rattle.bag.specs.Operations.{begins, count}

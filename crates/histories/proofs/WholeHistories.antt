@@ -10,8 +10,8 @@ use Rattle.region.specs.declared.record.Item.{Item}
 use Rattle.layout.specs.Layout.{layoutBytes}
 use Rattle.cases.specs.Row.{schedule}
 use Rattle.computes.proofs.Computes.{computes}
-use Rattle.mound.specs.Told.{Told, nothing, beginsPut, beginsTake, beginsList, decidesPut, decidesTake, decidesList, decidesEmpty, answersTook, withdraws}
-use Rattle.mound.specs.Tree.{itemsOf, listFrom}
+use Rattle.theory.specs.Told.{Told, nothing, beginsPut, beginsTake, beginsList, decidesPut, decidesTake, decidesList, decidesEmpty, answersTook, withdraws}
+use Rattle.theory.specs.Tree.{itemsOf, listFrom}
 use Rattle.bag.specs.Calls.{Call, put, take, list, permit, run, after, refusalOf}
 use Rattle.bag.specs.History.{Moment, servedOn, turnMoments, servedMoments, callMoments, history}
 use Rattle.bag.specs.Told.{tells}

@@ -1,1 +1,1 @@
-// Whole histories, computed from the definitions: two proofs, and no code.
+// Whole histories, computed from the definitions, in proofs/; this crate has no code.

@@ -1,5 +1,4 @@
--- The mound itself: what its lists and its tree hold, the bag beside it, and what an account of its cells counts. No byte.
-pub mod Account
-pub mod Ledger
-pub mod Told
-pub mod Tree
+-- The calls that the host makes.
+pub mod Calls
+pub mod Inner
+pub mod Theorems

@@ -12,7 +12,7 @@ use Rattle.region.specs.declared.place.Place.the-variants.{MendReadNode, MendCl
 use Rattle.region.specs.declared.record.Item.{Item}
 use Rattle.region.specs.declared.thread.Thread.{Thread}
 use Rattle.permission.specs.Withdraw.{isPutPlace}
-use Rattle.mound.specs.Tree.{inList}
+use Rattle.theory.specs.Tree.{inList}
 
 -- the test that every item passes, so that all cells count
 abbrev pub anyItem : Item → Bool

@@ -37,9 +37,9 @@ use Rattle.extract.specs.Extract.{afterListRemoval, afterRemoval, afterRootRead
 use Rattle.moundify.specs.Moundify.{afterChildrenRead, afterDepthRead, cleanAt, exchangeAt, exchangeWith, mendClean, mendReadDepth, mendReadLeft, mendReadNode, mendReadRight, mendSwap, placeAfter, returned, returning}
 use Rattle.permission.specs.Withdraw.{isPutPlace, isUnreadable, lacksPermission, permitted, withdrawal}
 use Rattle.machine.specs.Turn.{decide, decideAt}
-use Rattle.mound.specs.Ledger.{Operation}
-use Rattle.mound.proofs.Facts.{At}
-use Rattle.mound.proofs.Plans.{Allowed}
+use Rattle.theory.specs.Ledger.{Operation}
+use Rattle.theory.proofs.Facts.{At}
+use Rattle.theory.proofs.Plans.{Allowed}
 
 -- no effect makes the tree less deep
 pub never-less-deep : (s : Shape) (m : Shared) (own : ℕ → ℕ) (t : ℕ) (e : Effect) → Allowed s m own t e → m .depth ≤ effectShared m e .depth

@@ -10,7 +10,7 @@ use lib.ListN.{length}
 use Rattle.region.specs.Pick.{upd}
 use Rattle.region.specs.declared.record.Cell.{Cell}
 use Rattle.region.proofs.Picks.{upd-same, upd-other}
-use Rattle.mound.proofs.Chains.{Chain, ends, link, chain-left, items, items-left}
+use Rattle.theory.proofs.Chains.{Chain, ends, link, chain-left, items, items-left}
 
 -- every owner's cells, from its head
 abbrev pub Chains : (ℕ → Cell) → (ℕ → ℕ) → (ℕ → ℕ) → (ℕ → ℕ) → (ℕ → List ℕ) → Type 0

@@ -19,17 +19,17 @@ use Rattle.region.specs.declared.record.Item.{Item}
 use Rattle.region.specs.declared.shape.Shape.{Shape}
 use Rattle.region.specs.declared.thread.Thread.{Thread}
 use Rattle.permission.specs.Withdraw.{isPutPlace}
-use Rattle.mound.specs.Account.{anyItem, hasHand, inHands, putsAmong}
-use Rattle.mound.specs.Ledger.{Ledger, Operation, listing, owing, taking}
-use Rattle.mound.specs.Tree.{inList, inNodes, listFrom, passing}
-use Rattle.mound.proofs.Cells.{starts}
-use Rattle.mound.proofs.Chains.{Chain, HasItems, among, items, length-items, only-items, walk-counts}
-use Rattle.mound.proofs.Counts.{inChain}
-use Rattle.mound.proofs.Facts.{At, Purpose, Puts, Takes, for-answer, for-hands, for-list, for-take}
-use Rattle.mound.proofs.Held.{Held, counts, few-held, free-chain, thread-chain}
-use Rattle.mound.proofs.Holders.{free-holds, overAll, thread-holds}
-use Rattle.mound.proofs.Steps.{Invariant, owns}
-use Rattle.mound.proofs.Sums.{sum, sum-same}
+use Rattle.theory.specs.Account.{anyItem, hasHand, inHands, putsAmong}
+use Rattle.theory.specs.Ledger.{Ledger, Operation, listing, owing, taking}
+use Rattle.theory.specs.Tree.{inList, inNodes, listFrom, passing}
+use Rattle.theory.proofs.Cells.{starts}
+use Rattle.theory.proofs.Chains.{Chain, HasItems, among, items, length-items, only-items, walk-counts}
+use Rattle.theory.proofs.Counts.{inChain}
+use Rattle.theory.proofs.Facts.{At, Purpose, Puts, Takes, for-answer, for-hands, for-list, for-take}
+use Rattle.theory.proofs.Held.{Held, counts, few-held, free-chain, thread-chain}
+use Rattle.theory.proofs.Holders.{free-holds, overAll, thread-holds}
+use Rattle.theory.proofs.Steps.{Invariant, owns}
+use Rattle.theory.proofs.Sums.{sum, sum-same}
 
 -- every item counts
 all-count : (cell : ℕ → Cell) (cs : List ℕ) → among anyItem (items cell cs) ≡ length cs

@@ -1,8 +1,8 @@
 -- `queue::mound_run` meets its contract: the run's numbers fit, and their packing is the definition's. Assumes nothing.
 use borrow.Author.Needs.{needs}
-use Rattle.queue.proofs.mound_run.Statement.{statement}
-use Rattle.queue.proofs.Packing.{fits-outcome, run-done}
-use Rattle.queue.proofs.mound_run.Tie as tie
+use Rattle.mound.proofs.mound_run.Statement.{statement}
+use Rattle.mound.proofs.Packing.{fits-outcome, run-done}
+use Rattle.mound.proofs.mound_run.Tie as tie
 
 run-requires : tie.Need-run-requires
 run-requires c κs = search needs

@@ -21,10 +21,10 @@ use Rattle.region.specs.declared.thread.Search.{Search}
 use Rattle.region.specs.declared.thread.Thread.{Thread}
 use Rattle.access.specs.Order.{itemLe, val, valueOf}
 use Rattle.access.specs.Read.{readNode}
-use Rattle.mound.specs.Ledger.{Operation, none, putting, taking, listing, owing}
-use Rattle.mound.proofs.Chains.{HasItems, ItemsStay}
-use Rattle.mound.proofs.Effects.{Rely}
-use Rattle.mound.proofs.Sorted.{AtMost, Proper}
+use Rattle.theory.specs.Ledger.{Operation, none, putting, taking, listing, owing}
+use Rattle.theory.proofs.Chains.{HasItems, ItemsStay}
+use Rattle.theory.proofs.Effects.{Rely}
+use Rattle.theory.proofs.Sorted.{AtMost, Proper}
 
 -- a copy q of node n: counters never fall, and an equal counter means an unchanged node
 pub record Sound (m : Shared) (n : ℕ) (q : NodeCopy) : Type 0 where

@@ -12,7 +12,7 @@ use Rattle.region.specs.Pick.{pick}
 use Rattle.region.specs.Shared.{Shared}
 use Rattle.region.specs.declared.record.Cell.{Cell}
 use Rattle.region.specs.declared.record.Item.{Item}
-use Rattle.mound.specs.Tree.{inList, itemsOf, listFrom, passing}
+use Rattle.theory.specs.Tree.{inList, itemsOf, listFrom, passing}
 
 -- from cell c by next cells to 0 these cells, owned by o
 pub data Chain (cell : ℕ → Cell) (own rank : ℕ → ℕ) (o : ℕ) : ℕ → List ℕ → Type 0 where

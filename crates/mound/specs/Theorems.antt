@@ -9,7 +9,7 @@ use Rattle.region.specs.declared.shape.Shape.{Shape}
 use Rattle.layout.specs.Layout.{layoutRefusal, layoutBytes}
 use Rattle.readable.specs.Readable.{readable}
 use Rattle.run.specs.Run.{runRefusal, runResult}
-use Rattle.queue.specs.Calls.{runAnswer}
+use Rattle.mound.specs.Calls.{runAnswer}
 
 -- a laid-out region is readable: for every shape, permission list and slice that layout does not refuse
 abbrev pub LaidOutIsReadable : Type 0

@@ -13,8 +13,8 @@ use Rattle.region.specs.declared.record.Item.{Item}
 use Rattle.region.proofs.Shapes.{and-left, and-right, and-both}
 use Rattle.access.specs.Order.{itemLe, topItem}
 use Rattle.access.proofs.OrderLaws.{item-refl, item-total, item-trans}
-use Rattle.mound.specs.Tree.{sameItem}
-use Rattle.mound.proofs.Chains.{Chain, ends, link, among, items}
+use Rattle.theory.specs.Tree.{sameItem}
+use Rattle.theory.proofs.Chains.{Chain, ends, link, among, items}
 
 -- a is at most b
 abbrev pub AtMost : Item → Item → Type 0

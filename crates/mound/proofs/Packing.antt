@@ -8,8 +8,8 @@ use Rattle.run.specs.Run.{runRefusal, runResult}
 use Rattle.run.specs.Inner.{Ran}
 use Rattle.run.specs.declared.Outcome.{Outcome}
 use Rattle.run.proofs.Laws.{refusal-most, counts-most}
-use Rattle.queue.specs.Calls.{RunDone, packed, runAnswer}
-use Rattle.queue.specs.Inner.{Packable}
+use Rattle.mound.specs.Calls.{RunDone, packed, runAnswer}
+use Rattle.mound.specs.Inner.{Packable}
 
 module _ (b s : List ℕ) (limit : ℕ) (a : List ℕ) where
   pub answer-fits : Packable (runRefusal b s (length a)) (runResult b s limit a .turns) (runResult b s limit a .accesses)

@@ -11,7 +11,7 @@ use Rattle.region.specs.Shape.{nodeCount}
 use Rattle.region.specs.declared.record.Node.{Node}
 use Rattle.region.specs.declared.shape.Shape.{Shape}
 use Rattle.region.proofs.Picks.{upd-same, upd-other}
-use Rattle.mound.proofs.Sums.{sum, sum-but, sum-has, sum-same}
+use Rattle.theory.proofs.Sums.{sum, sum-but, sum-has, sum-same}
 
 -- the first cell of each
 unfoldable pub heads : ℕ → (ℕ → Node) → (ℕ → ℕ) → ℕ → ℕ

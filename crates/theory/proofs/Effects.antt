@@ -21,11 +21,11 @@ use Rattle.access.specs.Read.{readNode, updated}
 use Rattle.access.specs.declared.effect.Effect.the-variants.{Grow, Push, Pop, Exchange, Clean, Detach, Free}
 use Rattle.access.proofs.OrderLaws.{item-refl, item-trans}
 use Rattle.access.proofs.ReadLaws.{updated-counter, updated-dirty, updated-first}
-use Rattle.mound.specs.Tree.{sameItem}
-use Rattle.mound.proofs.Chains.{ItemsStay, among, items}
-use Rattle.mound.proofs.Held.{Held, counted, first-owner, own-owner, free-owner, thread-items-stay, rest-stays, held-same, counted-same, held-begin, held-push, held-pop, held-exchange, held-detach, held-free}
-use Rattle.mound.proofs.Order.{Above, Ordered, above-le, push-ordered, pop-ordered, clean-ordered, exchange-ordered}
-use Rattle.mound.proofs.Sorted.{AtMost, Proper, valueAt}
+use Rattle.theory.specs.Tree.{sameItem}
+use Rattle.theory.proofs.Chains.{ItemsStay, among, items}
+use Rattle.theory.proofs.Held.{Held, counted, first-owner, own-owner, free-owner, thread-items-stay, rest-stays, held-same, counted-same, held-begin, held-push, held-pop, held-exchange, held-detach, held-free}
+use Rattle.theory.proofs.Order.{Above, Ordered, above-le, push-ordered, pop-ordered, clean-ordered, exchange-ordered}
+use Rattle.theory.proofs.Sorted.{AtMost, Proper, valueAt}
 
 -- a clean node's value is at most that of every node below it
 abbrev pub InOrder : Shared → Type 0

@@ -25,16 +25,16 @@ use Rattle.access.specs.declared.effect.Effect.{Effect}
 use Rattle.access.specs.declared.effect.Effect.the-variants.{Nothing, Grow, Push, Pop, Exchange, Clean, Detach, Free}
 use Rattle.access.specs.declared.plan.Plan.{Plan}
 use Rattle.access.proofs.OrderLaws.{item-less, item-trans}
-use Rattle.mound.specs.Ledger.{Operation, none, putting, taking, listing, owing, stillOwing, Ledger, Follows, still, put-begins, take-begins, list-begins, put-decides, take-decides, list-decides, empty-decides, take-answers, ends-withdrawn, HoldsAll, Least, listLess, oneMore, oneLess}
-use Rattle.mound.specs.Told.{Told, nothing, beginsPut, beginsTake, beginsList, decidesPut, decidesTake, decidesList, decidesEmpty, answersTook, withdraws}
-use Rattle.mound.specs.Tree.{itemsOf, listFrom, sameItem}
-use Rattle.mound.proofs.Chains.{HasItems, ItemsStay, among, has-items, items, length-items, list-items, only-items}
-use Rattle.mound.proofs.Effects.{Keeps, Mound, in-tree, root-there, value-there, rely-same, begin-keeps, begin-counts, grow-keeps, grow-counts, push-keeps, push-counts, push-rest, pop-keeps, pop-counts, pop-items-stay, exchange-keeps, exchange-counts, clean-keeps, clean-counts, detach-keeps, detach-counts, free-keeps, free-counts, free-rest}
-use Rattle.mound.proofs.Facts.{At, Takes, any-permission, stays}
-use Rattle.mound.proofs.Held.{counted, few-cells, held-by, head-held, node-chain}
-use Rattle.mound.proofs.Order.{root-above}
-use Rattle.mound.proofs.Plans.{Allowed, OwnAfter, OperationAfter, reads, grows, swaps, cleans, inserts, removes, detaches, empties, answers, cleans-answers, hands-out, frees-withdrawn, leaves-withdrawn}
-use Rattle.mound.proofs.Sorted.{AtMost, Proper, Sorted, same-item, item-same, valueAt}
+use Rattle.theory.specs.Ledger.{Operation, none, putting, taking, listing, owing, stillOwing, Ledger, Follows, still, put-begins, take-begins, list-begins, put-decides, take-decides, list-decides, empty-decides, take-answers, ends-withdrawn, HoldsAll, Least, listLess, oneMore, oneLess}
+use Rattle.theory.specs.Told.{Told, nothing, beginsPut, beginsTake, beginsList, decidesPut, decidesTake, decidesList, decidesEmpty, answersTook, withdraws}
+use Rattle.theory.specs.Tree.{itemsOf, listFrom, sameItem}
+use Rattle.theory.proofs.Chains.{HasItems, ItemsStay, among, has-items, items, length-items, list-items, only-items}
+use Rattle.theory.proofs.Effects.{Keeps, Mound, in-tree, root-there, value-there, rely-same, begin-keeps, begin-counts, grow-keeps, grow-counts, push-keeps, push-counts, push-rest, pop-keeps, pop-counts, pop-items-stay, exchange-keeps, exchange-counts, clean-keeps, clean-counts, detach-keeps, detach-counts, free-keeps, free-counts, free-rest}
+use Rattle.theory.proofs.Facts.{At, Takes, any-permission, stays}
+use Rattle.theory.proofs.Held.{counted, few-cells, held-by, head-held, node-chain}
+use Rattle.theory.proofs.Order.{root-above}
+use Rattle.theory.proofs.Plans.{Allowed, OwnAfter, OperationAfter, reads, grows, swaps, cleans, inserts, removes, detaches, empties, answers, cleans-answers, hands-out, frees-withdrawn, leaves-withdrawn}
+use Rattle.theory.proofs.Sorted.{AtMost, Proper, Sorted, same-item, item-same, valueAt}
 
 -- each thread's own cell
 abbrev pub owns : (ℕ → Thread) → ℕ → ℕ

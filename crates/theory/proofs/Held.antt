@@ -15,13 +15,13 @@ use Rattle.region.specs.declared.record.Item.{Item}
 use Rattle.region.specs.declared.shape.Shape.{Shape}
 use Rattle.access.specs.Order.{topItem, val, valueOf}
 use Rattle.access.specs.Read.{readNode}
-use Rattle.mound.specs.Tree.{inNodes, sameItem}
-use Rattle.mound.proofs.Cells.{Chains, Moved, Exchanged, move, exchange}
-use Rattle.mound.proofs.Chains.{Chain, ItemsStay, among, first-owned, items, items-stay, no-cells, tail-stays}
-use Rattle.mound.proofs.Counts.{inChain, tree-counts}
-use Rattle.mound.proofs.Holders.{Holder, free-holds, head-free, head-node, head-still, head-thread, heads, node-holds, over-has, over-two, overAll, thread-holds}
-use Rattle.mound.proofs.Sorted.{AtMost, Proper, Sorted, from-head, head-least, head-proper, head-counted, top-value}
-use Rattle.mound.proofs.Sums.{sum, sum-same, sum-has, sum-but, sum-exchange, sum-some}
+use Rattle.theory.specs.Tree.{inNodes, sameItem}
+use Rattle.theory.proofs.Cells.{Chains, Moved, Exchanged, move, exchange}
+use Rattle.theory.proofs.Chains.{Chain, ItemsStay, among, first-owned, items, items-stay, no-cells, tail-stays}
+use Rattle.theory.proofs.Counts.{inChain, tree-counts}
+use Rattle.theory.proofs.Holders.{Holder, free-holds, head-free, head-node, head-still, head-thread, heads, node-holds, over-has, over-two, overAll, thread-holds}
+use Rattle.theory.proofs.Sorted.{AtMost, Proper, Sorted, from-head, head-least, head-proper, head-counted, top-value}
+use Rattle.theory.proofs.Sums.{sum, sum-same, sum-has, sum-but, sum-exchange, sum-some}
 
 -- m's free cells, the tree's and those in the chains from each thread's own cell: `all` together. Of C cells there may be others, which this
 -- queue does not hold; all cells are accounted for where `all` is C.

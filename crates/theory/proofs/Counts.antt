@@ -8,10 +8,10 @@ use lib.ListN.{length}
 use Rattle.region.specs.Shared.{Shared}
 use Rattle.region.specs.declared.record.Cell.{Cell}
 use Rattle.region.specs.declared.record.Item.{Item}
-use Rattle.mound.specs.Tree.{inNodes}
-use Rattle.mound.proofs.Cells.{Chains}
-use Rattle.mound.proofs.Chains.{Chain, among, items, walk-counts}
-use Rattle.mound.proofs.Sums.{sum}
+use Rattle.theory.specs.Tree.{inNodes}
+use Rattle.theory.proofs.Cells.{Chains}
+use Rattle.theory.proofs.Chains.{Chain, among, items, walk-counts}
+use Rattle.theory.proofs.Sums.{sum}
 
 -- how many items in the chain of node k pass the test
 unfoldable pub inChain : (ℕ → Cell) → (ℕ → List ℕ) → (Item → Bool) → ℕ → ℕ

@@ -44,13 +44,13 @@ use Rattle.moundify.specs.Moundify.{returning, mendReadNode, afterDepthRead, me
 use Rattle.permission.specs.Grants.{mayPut, mayTake}
 use Rattle.permission.specs.Withdraw.{isPutPlace, isTakePlace, isUnreadable, lacksPermission, permitted, withdrawal}
 use Rattle.machine.specs.Turn.{decide, decideAt}
-use Rattle.mound.specs.Ledger.{Operation, Undecided, UndecidedTake, a-put, a-take, none, one-item, owing, putting, listing, stillOwing, taking, whole-list}
-use Rattle.mound.proofs.Chains.{HasItems, some-items}
-use Rattle.mound.proofs.Effects.{Mound, PushAllowed, PopAllowed, ExchangeAllowed, CleanAllowed, DetachAllowed, FreeAllowed, in-tree}
-use Rattle.mound.proofs.Facts.{At, AnyValue, Child, ChildRead, Dirty, Hands, InTree, Inner, LevelRead, Mended, Mends, Parent, Purpose, Puts, RootRead, Searching, Sound, Swappable, Takes, Target, for-answer, for-hands, for-list, for-take, sound-read}
-use Rattle.mound.proofs.Held.{node-chain, val-top}
-use Rattle.mound.proofs.Order.{Above, below-children}
-use Rattle.mound.proofs.Sorted.{AtMost, valueAt}
+use Rattle.theory.specs.Ledger.{Operation, Undecided, UndecidedTake, a-put, a-take, none, one-item, owing, putting, listing, stillOwing, taking, whole-list}
+use Rattle.theory.proofs.Chains.{HasItems, some-items}
+use Rattle.theory.proofs.Effects.{Mound, PushAllowed, PopAllowed, ExchangeAllowed, CleanAllowed, DetachAllowed, FreeAllowed, in-tree}
+use Rattle.theory.proofs.Facts.{At, AnyValue, Child, ChildRead, Dirty, Hands, InTree, Inner, LevelRead, Mended, Mends, Parent, Purpose, Puts, RootRead, Searching, Sound, Swappable, Takes, Target, for-answer, for-hands, for-list, for-take, sound-read}
+use Rattle.theory.proofs.Held.{node-chain, val-top}
+use Rattle.theory.proofs.Order.{Above, below-children}
+use Rattle.theory.proofs.Sorted.{AtMost, valueAt}
 
 -- what an effect of thread t requires of the mound
 abbrev pub Allowed : Shape → Shared → (ℕ → ℕ) → ℕ → Effect → Type 0
