@@ -1,0 +1,83 @@
+/*
+ * A wake-up queue of two plugin threads, from C. Both put wake-ups, whose turns cross; then one takes the least, one takes the rest as a
+ * list, and one loses its permission while it puts. ./test builds this program, runs it and compares what it prints with wake_ups.out.
+ */
+#include <stdio.h>
+
+#include "mound.h"
+
+enum { DEPTH = 4, CELLS = 8, THREADS = 2, THRESHOLD = 2, MOST_TURNS = 64 };
+
+static uint8_t region[MOUND_REGION_BYTES(DEPTH, CELLS, THREADS)];
+
+/* Says what was asked for and what the call answered. */
+static void report(const char *what, uint32_t answer)
+{
+    if (answer == MOUND_DONE)
+        printf("%s\n", what);
+    else
+        printf("%s: refused %u\n", what, (unsigned)answer);
+}
+
+static void report_turn(uint32_t thread, const uint8_t *answer)
+{
+    static const char *const words[] = {"moved", "idle", "inserted", "took", "empty", "refused", "withdrawn"};
+    uint32_t code = mound_word(answer, 0);
+
+    if (code == MOUND_TOOK)
+        printf("  thread %u took key %u tag %u\n", (unsigned)thread, (unsigned)mound_word(answer, 1), (unsigned)mound_word(answer, 2));
+    else if (code == MOUND_REFUSED)
+        printf("  thread %u refused %u\n", (unsigned)thread, (unsigned)mound_word(answer, 1));
+    else if (code != MOUND_MOVED && code != MOUND_IDLE)
+        printf("  thread %u %s\n", (unsigned)thread, words[code]);
+}
+
+/* Gives the threads turns, one after the other, and reports every answer but moved and idle. */
+static void run(uint32_t turns)
+{
+    uint8_t schedule[MOST_TURNS * MOUND_TURN_BYTES];
+    uint8_t answers[MOST_TURNS * MOUND_ANSWER_BYTES];
+    uint32_t turn;
+    uint64_t done;
+
+    for (turn = 0; turn < turns; turn++) {
+        mound_set_word(schedule, 2 * turn, 1 + turn % THREADS); /* the thread */
+        mound_set_word(schedule, 2 * turn + 1, turn);           /* the choice of a leaf */
+    }
+    done = mound_run(region, sizeof region, schedule, turns * MOUND_TURN_BYTES, UINT32_MAX, answers, sizeof answers);
+    for (turn = 0; turn < mound_run_turns(done); turn++)
+        report_turn(1 + turn % THREADS, answers + turn * MOUND_ANSWER_BYTES);
+    printf("  %u turns, %u accesses\n", (unsigned)mound_run_turns(done), (unsigned)mound_run_accesses(done));
+}
+
+int main(void)
+{
+    static const uint8_t permissions[THREADS] = {MOUND_MAY_PUT_AND_TAKE, MOUND_MAY_PUT_AND_TAKE};
+    uint32_t wake_up;
+
+    printf("a region of %u bytes\n", (unsigned)sizeof region);
+    report("layout", mound_layout(region, sizeof region, DEPTH, CELLS, THREADS, THRESHOLD, permissions, sizeof permissions));
+    for (wake_up = 0; wake_up < 3; wake_up++) {
+        report("thread 1 puts", mound_put(region, sizeof region, 1, 30 - 10 * wake_up, 1));
+        report("thread 2 puts", mound_put(region, sizeof region, 2, 30 - 10 * wake_up, 2));
+        run(MOST_TURNS);
+    }
+    report("thread 1 puts a key that is too great", mound_put(region, sizeof region, 1, UINT32_MAX, 1));
+
+    report("thread 1 takes", mound_take(region, sizeof region, 1));
+    report("thread 1 takes again", mound_take(region, sizeof region, 1));
+    run(MOST_TURNS);
+    report("thread 2 lists", mound_list(region, sizeof region, 2));
+    run(MOST_TURNS);
+
+    report("thread 1 puts", mound_put(region, sizeof region, 1, 5, 1));
+    report("thread 1 may take alone", mound_permit(region, sizeof region, 1, MOUND_MAY_TAKE));
+    run(4);
+    report("thread 1 puts", mound_put(region, sizeof region, 1, 5, 1));
+
+    report("check", mound_check(region, sizeof region));
+    mound_set_word(region, 4, DEPTH + 1);
+    report("check, with a present depth that is too great", mound_check(region, sizeof region));
+    report("check of no bytes", mound_check(NULL, 0));
+    return 0;
+}
