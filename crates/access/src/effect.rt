@@ -140,7 +140,7 @@ pub fn carry_detaching(f: Frame, b: &mut [u8], effect: Effect)
     }
 }
 
-// A cell is freed (19).
+// A cell is freed (19, and the own cell of a put that is withdrawn).
 pub fn carry_freeing(f: Frame, b: &mut [u8], effect: Effect)
     requires { ⌜ Within f (length (now b)) ⌝ }
     ensures { λ r. ⌜ now (b .exit) ≡ effectBytes f (now (b .entry)) (ofKind freeing effect) ⌝ }

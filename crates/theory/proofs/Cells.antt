@@ -1,6 +1,6 @@
 -- All chains together. Owner 0 has the free chain, owner 2n the list of node n, owner 2t + 1 what thread t holds. Two changes cover every
--- effect and beginning: the head of one chain moves to the front of another (a put begins, a push, a pop), and two owners exchange
--- their chains (an exchange). Assumes nothing.
+-- effect and beginning: the head of one chain moves to the front of another (a put begins, a push, a pop, a cell freed), and two owners
+-- exchange their chains (an exchange, a list detached). Assumes nothing.
 use Prim.Native.Nat.{ℕ, suc, _≤_}
 use native.Mathlib.Decide.{ℕ-discrete}
 use native.Mathlib.Omega.{arith}

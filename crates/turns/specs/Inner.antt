@@ -25,8 +25,8 @@ pub record Stored (f : Frame) (b b′ : List ℕ) (n : ℕ) (p : Plan) (idle : B
   pub answer : r ≡ p .answer
   pub bytes : b′ ≡ recordBytes f b n p idle
 
--- Whether the record goes idle: by the answer, with which an operation ends; by the place at a hand-out, which may answer and go on. That is
--- told by its effect, since it alone frees a cell and changes no node.
+-- Whether the record goes idle: by the answer, with which an operation ends; by the place at a hand-out, which may answer and go on, and at a
+-- withdrawal, which is no answer. These two are told by the kind of effect that is carried out: they alone free a cell and change no node.
 abbrev pub idleByAnswer : Plan → Bool
 idleByAnswer p = answersOperation (p .answer)
 

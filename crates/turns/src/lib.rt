@@ -71,8 +71,8 @@ fn store_record(f: Frame, b: &mut [u8], n: u32, plan: Plan) -> Answer
     answer
 }
 
-// The same after a hand-out, which answers took and may go on: the record is idle by its place. One function for both would be
-// called and not copied into each place.
+// The same after a hand-out, which answers took and may go on, and after a withdrawal: the record is idle by its place. One function
+// for both would be called and not copied into each place.
 fn store_hand(f: Frame, b: &mut [u8], n: u32, plan: Plan) -> Answer
     requires { ⌜ Within f (length (now b)) ⌝ }
     ensures { λ r. ⌜ Stored f (now (b .entry)) (now (b .exit)) n plan (isIdle (plan .thread)) r ⌝ }
