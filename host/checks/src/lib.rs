@@ -1,0 +1,16 @@
+//! What the test programs share. Each of them uses a part of it.
+#![allow(
+    clippy::missing_errors_doc,
+    clippy::missing_panics_doc,
+    clippy::must_use_candidate,
+    clippy::return_self_not_must_use,
+    reason = "tests alone use it, and where it panics they are to fail"
+)]
+
+pub mod beginnings;
+pub mod fields;
+pub mod leaves;
+pub mod program;
+pub mod queue;
+pub mod random;
+pub mod values;

@@ -1,0 +1,11 @@
+//! The safe types: what a Rust program sees of a queue.
+#![allow(clippy::large_stack_arrays, reason = "a schedule of the most turns has 32 KiB")]
+
+use mound::{Permission, Shape};
+
+mod permits;
+mod regions;
+mod runs;
+
+const SHAPE: Shape = Shape { depth: 2, cells: 2, threads: 2, threshold: 1 };
+const BOTH: [Permission; 2] = [Permission::PUT_AND_TAKE; 2];

@@ -1,0 +1,101 @@
+//! The queue in plain Rust, written from its papers alone, for the tests and the benchmark to hold
+//! against the library.
+//!
+//! It has the types [`Shape`](mound::Shape), [`Refusal`], [`Answer`] and [`Served`](mound::Served)
+//! from the crate `mound`, and shares no code with the library. The calls are functions on a
+//! region's bytes; [`Machine`] is a region that is checked once and then used, [`turn()`] serves
+//! one turn by itself, and [`take_cost()`] tells how many accesses a take would make.
+//!
+//! ```
+//! use mound::{Answer, Refusal, Shape};
+//!
+//! let shape = Shape { depth: 1, cells: 1, threads: 1, threshold: 1 };
+//! let mut region = vec![0; shape.byte_len()?];
+//! plain::layout(&mut region, shape, &[3])?;
+//! plain::put(&mut region, 1, 5, 9)?;
+//! let answers: Vec<Answer> = (0..4).map(|_| plain::turn(&mut region, 1, 0)).collect();
+//! assert_eq!(answers, [Answer::Moved, Answer::Moved, Answer::Moved, Answer::Inserted]);
+//! assert_eq!(plain::take_cost(&mut region), Ok(5));
+//! # Ok::<(), Refusal>(())
+//! ```
+
+#![deny(missing_docs)]
+#![forbid(unsafe_code)]
+
+mod cost;
+mod extract;
+mod fields;
+mod insert;
+mod layout;
+mod machine;
+mod memory;
+mod moundify;
+mod parts;
+mod readable;
+mod record;
+mod run;
+mod sizes;
+mod turn;
+mod value;
+mod words;
+
+use mound::{Answer, Refusal};
+
+pub use layout::layout;
+pub use machine::Machine;
+pub use readable::check;
+pub use run::run;
+
+/// Begins a put of an item.
+///
+/// # Errors
+///
+/// [`Refusal::Unreadable`] first, then those of [`Machine::put`]; no byte is changed.
+pub fn put(region: &mut [u8], thread: u32, key: u32, tag: u32) -> Result<(), Refusal> {
+    Machine::open(region)?.put(thread, key, tag)
+}
+
+/// Begins a take.
+///
+/// # Errors
+///
+/// [`Refusal::Unreadable`] first, then those of [`Machine::take`]; no byte is changed.
+pub fn take(region: &mut [u8], thread: u32) -> Result<(), Refusal> {
+    Machine::open(region)?.take(thread)
+}
+
+/// Begins a list, a take of all items at the root.
+///
+/// # Errors
+///
+/// [`Refusal::Unreadable`] first, then those of [`Machine::list`]; no byte is changed.
+pub fn list(region: &mut [u8], thread: u32) -> Result<(), Refusal> {
+    Machine::open(region)?.list(thread)
+}
+
+/// Sets a thread's permission.
+///
+/// # Errors
+///
+/// [`Refusal::Unreadable`] first, then those of [`Machine::permit`]; no byte is changed.
+pub fn permit(region: &mut [u8], thread: u32, permission: u32) -> Result<(), Refusal> {
+    Machine::open(region)?.permit(thread, permission)
+}
+
+/// Serves one turn, as a run of one would: a region that is not readable is refused 7 before the
+/// thread is looked at, and otherwise the answer is that of [`Machine::turn`].
+pub fn turn(region: &mut [u8], thread: u32, choice: u32) -> Answer {
+    match Machine::open(region) {
+        Ok(mut machine) => machine.turn(thread, choice),
+        Err(refusal) => Answer::Refused(refusal),
+    }
+}
+
+/// The accesses that a take begun now makes, as [`Machine::take_cost`] says; no byte is changed.
+///
+/// # Errors
+///
+/// [`Refusal::Unreadable`] where the region is not readable.
+pub fn take_cost(region: &mut [u8]) -> Result<u32, Refusal> {
+    Ok(Machine::open(region)?.take_cost())
+}
