@@ -101,3 +101,8 @@ pub use refusal::{NotARefusal, Refusal};
 pub use region::Region;
 pub use run::{Answers, Run, Served, Turn};
 pub use shape::Shape;
+
+/// The example of the repository's README, which is run with the other examples.
+#[cfg(doctest)]
+#[doc = include_str!("../../../README.md")]
+struct Readme;
