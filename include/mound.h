@@ -96,7 +96,7 @@ uint32_t mound_list(uint8_t *region, size_t region_length, uint32_t thread);
 
 /*
  * Sets a thread's permission, be the thread busy or idle; no other byte changes. An operation that has not taken effect is withdrawn by
- * the thread's next turn if that finds the permission lacking.
+ * the thread's next turn at a place that looks at the permission and finds it lacking.
  * Refusals: 7, 3, 1. Cost: that of mound_check, then a word.
  */
 uint32_t mound_permit(uint8_t *region, size_t region_length, uint32_t thread, uint32_t permission);

@@ -5,8 +5,42 @@ use std::fs;
 use std::process::Command;
 
 use checks::program::printed;
+use mound::{Permission, Region, Shape, Turn};
 
 use crate::repository::{blocks, path};
+
+/// The queue that the reference has a picture of: each item with the choice for its put's turns.
+fn pictured_queue() -> Vec<u8> {
+    let shape = Shape { depth: 3, cells: 4, threads: 1, threshold: 1 };
+    let mut bytes = vec![0; shape.byte_len().expect("a shape in range")];
+    let mut region =
+        Region::layout(&mut bytes, shape, &[Permission::PUT_AND_TAKE]).expect("laid out");
+    for ((key, tag), choice) in [((5, 9), 0), ((7, 1), 0), ((5, 2), 0), ((9, 3), 3)] {
+        region.put(1, key, tag).expect("a free cell");
+        region.run([Turn { thread: 1, choice }; 9], u32::MAX).expect("a run");
+    }
+    bytes
+}
+
+/// In the picture `word 27   5 9 0` says what word 27 and the words behind it are.
+#[test]
+fn the_picture_of_a_queue_has_its_words() {
+    let bytes = pictured_queue();
+    let blocks = blocks("docs/REFERENCE.md", "text");
+    let picture = blocks.iter().find(|block| block.contains("node 1: (5, 2) (5, 9)"));
+    let mut compared = 0;
+    for line in picture.expect("the picture is there").lines() {
+        let (_, said) = line.split_once(" word ").expect("each line has words");
+        let mut numbers = said.split_whitespace().map_while(|part| part.parse::<usize>().ok());
+        let first = numbers.next().expect("the first word's index");
+        for (word, number) in numbers.enumerate() {
+            let there = bytes[4 * (first + word)..].first_chunk().expect("a word");
+            assert_eq!(u32::from_le_bytes(*there) as usize, number, "{line}");
+            compared += 1;
+        }
+    }
+    assert_eq!((bytes.len(), compared), (288, 27));
+}
 
 #[test]
 fn the_scripts_of_the_reference_print_what_it_says() {
