@@ -2,9 +2,10 @@
  * The mound wake-up queue for C and C++: the calls of libmound.a. docs/REFERENCE.md explains the queue.
  *
  * A queue lives in a region: bytes that the host lends to each call, little-endian 32-bit words. The queue keeps nothing elsewhere, and
- * no call keeps a pointer. Each slice is a pointer and a length in bytes; slices of one call must not overlap, none needs an alignment,
- * and one of length 0 is not looked at. A region is lent to one call at a time. Apart from that a call may be given anything at all: it
- * does its work, or answers the first refusal that applies, in the order in which its comment lists them, and changes no byte.
+ * no call keeps a pointer. Each slice is a pointer and a length in bytes, for which the pointer is valid; with length 0 it is not looked
+ * at. Slices of one call must not overlap, none needs an alignment, and a region is lent to one call at a time. Apart from that a call may
+ * be given anything at all: it does its work, or answers the first refusal that applies, in the order in which its comment lists them,
+ * and changes no byte.
  *
  * Threads, nodes and cells count from 1. An item is a key with a tag; items compare by key, then tag.
  */
@@ -21,7 +22,7 @@ extern "C" {
 /* What a call answers: done (of a check: yes), or why it is refused. */
 enum mound_refusal {
     MOUND_DONE = 0,
-    MOUND_REFUSED_SHAPE = 1,         /* a number of the shape or a permission is out of range, or not one permission a thread */
+    MOUND_REFUSED_SHAPE = 1,         /* a number of the shape or a permission is out of range, or there is not one permission for each thread */
     MOUND_REFUSED_REGION_LENGTH = 2, /* the slice does not have the exact length of the shape */
     MOUND_REFUSED_THREAD = 3,        /* there is no such thread */
     MOUND_REFUSED_ITEM = 4,          /* the key or the tag is out of range */
@@ -64,12 +65,13 @@ enum mound_permission {
 /* The bytes of a region of that shape, of a turn in a schedule, and of a turn's answer. */
 #define MOUND_REGION_BYTES(depth, cells, threads) \
     (4 * (6 + 3 * (((size_t)1 << (depth)) - 1) + 3 * (size_t)(cells) + 33 * (size_t)(threads)))
-#define MOUND_TURN_BYTES 8
-#define MOUND_ANSWER_BYTES 12
+#define MOUND_TURN_BYTES ((size_t)8)
+#define MOUND_ANSWER_BYTES ((size_t)12)
 
 /*
  * Lays the region out for an empty queue: every byte of it is set. `depth` is the tree's greatest, `cells` are the most items that are
- * held or being put, `threshold` the failed tries after which a put lets the tree grow; `permissions` has a byte for each thread.
+ * held, being put or in a list's hand, `threshold` the failed tries after which a put lets the tree grow; `permissions` has a byte for
+ * each thread.
  * Refusals: 1, 2. Cost: a store for each word.
  */
 uint32_t mound_layout(uint8_t *region, size_t region_length, uint32_t depth, uint32_t cells, uint32_t threads, uint32_t threshold,
@@ -89,7 +91,7 @@ uint32_t mound_take(uint8_t *region, size_t region_length, uint32_t thread);
 
 /*
  * Begins a take of all items at the tree's root: the thread's turns remove them at once, put the tree in order, and then answer the
- * items one by one, the least of all first.
+ * items one by one, the least of all first. Those behind it may be greater than items that stay.
  * Refusals: 7, 3, 8, 9. Cost: that of mound_check, then a thread's record.
  */
 uint32_t mound_list(uint8_t *region, size_t region_length, uint32_t thread);
@@ -103,8 +105,9 @@ uint32_t mound_permit(uint8_t *region, size_t region_length, uint32_t thread, ui
 
 /*
  * Serves the turns of the schedule, two words each (thread, choice), in order until they end or the accesses made equal `limit`, and
- * writes three words (code, key, tag) to `answers` for each turn served; bytes behind these stay. The choice names the leaf that a put
- * tries. Answers three numbers in one; the functions below take it apart.
+ * writes three words (code, key, tag) to `answers` for each turn served; bytes behind these stay. The choice, modulo the number of
+ * leaves, names the leaf that a put tries; at the greatest depth it counts once, and the put goes on from leaf to leaf. Answers three
+ * numbers in one, which the functions below take apart; a refused run has served no turn and made no access.
  * Refusals: 7, 6, 5. A turn by itself may be refused 3 or 7, withdrawn, or refused 11, looked at in this order; the run goes on.
  * Cost: that of mound_check, then for each turn one access at most, whatever the size of the region.
  */
@@ -113,7 +116,8 @@ uint64_t mound_run(uint8_t *region, size_t region_length, const uint8_t *schedul
 
 /*
  * Whether the region is readable: its length is that of its first words, and every field is in its range.
- * Refusal: 7. Cost: the words that have a range are read in order, up to the first that is out of it.
+ * Refusal: 7. Cost: the words that have a range are read in order, up to the first that is out of it; the four words of the shape are
+ * read together, and of a thread's record some words behind its last.
  */
 uint32_t mound_check(const uint8_t *region, size_t region_length);
 

@@ -1,6 +1,6 @@
 //! Says where the static library of the proved queue is: in target/staticlib at the root of the
 //! repository that this crate stands in, or in the folder that the environment variable
-//! `MOUND_LIBRARY_DIR` names.
+//! `MOUND_LIBRARY_DIR` names, an absolute path.
 
 use std::env;
 use std::path::{Path, PathBuf};

@@ -99,7 +99,7 @@ pub fn layout(
 /// Begins a put of an item by a thread: the item gets the first free cell, and turns do the rest.
 ///
 /// Refusals, in order: 7 (not readable), 3 (thread), 4 (key or tag), 8 (permission), 9 (busy),
-/// 10 (no free cell). Cost: that of [`check`], then eight words.
+/// 10 (no free cell). Cost: that of [`check`], then one record, one cell and one word.
 #[must_use = "the number says whether the call was refused"]
 pub fn put(region: &mut [u8], thread: u32, key: u32, tag: u32) -> u32 {
     // SAFETY: the pointer goes with the slice's own length. The slice is lent for the call,
@@ -110,7 +110,7 @@ pub fn put(region: &mut [u8], thread: u32, key: u32, tag: u32) -> u32 {
 /// Begins a take by a thread; turns do the rest. It removes the least item, by key and then by tag.
 ///
 /// Refusals, in order: 7 (not readable), 3 (thread), 8 (permission), 9 (busy). Cost: that of
-/// [`check`], then one word.
+/// [`check`], then one record.
 #[must_use = "the number says whether the call was refused"]
 pub fn take(region: &mut [u8], thread: u32) -> u32 {
     // SAFETY: as in `put`.
@@ -118,10 +118,11 @@ pub fn take(region: &mut [u8], thread: u32) -> u32 {
 }
 
 /// Begins a list by a thread; turns do the rest. It removes all items of the root's list at once,
-/// the least of all first among them, and hands them out in their order, one a turn.
+/// the least of all first among them, and hands them out in their order, one a turn. Those behind
+/// the first may be greater than items that stay.
 ///
 /// Refusals, in order: 7 (not readable), 3 (thread), 8 (permission, that of a take), 9 (busy).
-/// Cost: that of [`check`], then one word.
+/// Cost: that of [`check`], then one record.
 #[must_use = "the number says whether the call was refused"]
 pub fn list(region: &mut [u8], thread: u32) -> u32 {
     // SAFETY: as in `put`.
@@ -173,7 +174,8 @@ pub fn run(region: &mut [u8], schedule: &[u8], limit: u32, answers: &mut [u8]) -
 /// in its range.
 ///
 /// Refusal: 7 (not readable). Cost: the words that have a range are read in order, up to the first
-/// that is out of it.
+/// that is out of it; the four words of the shape are read together, and of a thread's record some
+/// words behind its last.
 #[must_use = "the number says whether the region is readable"]
 pub fn check(region: &[u8]) -> u32 {
     // SAFETY: the pointer goes with the slice's own length. The slice is lent for the call, in

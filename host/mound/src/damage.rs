@@ -167,7 +167,7 @@ impl OutOfRange {
         self.part
     }
 
-    /// What the word holds, by its name in the queue's papers. Counters and keys may be any number,
+    /// What the word holds, by its name in docs/REFERENCE.md. Counters and keys may be any number,
     /// so the names are
     /// - of the heading `greatest depth`, `cells`, `threads`, `threshold`, `present depth` and
     ///   `first free cell`;

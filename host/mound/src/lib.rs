@@ -1,14 +1,14 @@
 //! The proved mound wake-up queue, for Rust programs.
 //!
-//! A queue lives in a *region*: a byte slice that the host lends and whose every byte the queue's
-//! papers define. The calls are compiled from the proved source and linked as a static library;
-//! this crate gives them the types a Rust program expects and adds no rule of its own. A call that
-//! is refused says why by a [`Refusal`] and changes no byte.
+//! A queue lives in a *region*: a byte slice that the host lends and whose every byte is defined
+//! (docs/REFERENCE.md at the root of the repository). The calls are compiled from the proved source
+//! and linked as a static library; this crate gives them the types a Rust program expects and adds
+//! no rule of its own. A call that is refused says why by a [`Refusal`] and changes no byte.
 //!
-//! An item is a key with a tag. The least item leaves first: the one of the smallest key, and of
-//! equal keys the one of the smaller tag. Wholly equal items may be held beside each other. A take
-//! removes one item; a list removes several at once, the least of all first among them. Each needs
-//! the thread's permission until it takes effect: what lacks it before that is withdrawn.
+//! An item is a key with a tag. A take removes the least item: the one of the smallest key, and of
+//! equal keys the one of the smaller tag. Wholly equal items may be held beside each other. A list
+//! removes several items at once, the least of all first among them; the others may be greater than
+//! items that stay. Each operation takes effect only with the thread's permission for it.
 //!
 //! ```
 //! use mound::{Answer, Permission, Refusal, Region, Shape, Turn};
@@ -18,7 +18,7 @@
 //! let mut bytes = vec![0; shape.byte_len()?];
 //! assert_eq!(bytes.len(), 348);
 //!
-//! // Thread 1 may put and take; thread 2 lists nothing, so it may do nothing.
+//! // Thread 1 may put and take, thread 2 may do nothing.
 //! let mut region =
 //!     Region::layout(&mut bytes, shape, &[Permission::PUT_AND_TAKE, Permission::NONE])?;
 //! assert_eq!(region.put(2, 5, 9), Err(Refusal::Permission));
@@ -53,8 +53,8 @@
 //!
 //! The static library `libmound.a` is looked for in target/staticlib at the root of the repository
 //! that this crate stands in, where `rt staticlib mound` writes it, or in the folder that the
-//! environment variable `MOUND_LIBRARY_DIR` names. The crate needs no `std`, and of `alloc` only
-//! what a [`Run`] keeps; no call of the library allocates.
+//! environment variable `MOUND_LIBRARY_DIR` names, an absolute path. It is for x86-64. The crate
+//! needs no `std`, and of `alloc` only what a [`Run`] keeps; no call of the library allocates.
 //!
 //! # The calls
 //!
@@ -62,11 +62,12 @@
 //! |---|---|---|
 //! | [`Region::layout`] | 1 shape or permissions, 2 length | each byte |
 //! | [`Region::open`] | 7 not readable, as a [`Damage`] | a check |
-//! | [`Region::put`] | 3 thread, 4 item, 8 permission, 9 busy, 10 no free cell | a check, 8 words |
-//! | [`Region::take`], [`Region::list`] | 3 thread, 8 permission, 9 busy | a check, 1 word |
-//! | [`Region::permit`] | 3 thread | a check, 1 word |
+//! | [`Region::put`] | 3 thread, 4 item, 8 permission, 9 busy, 10 no free cell | a check, one record and one cell |
+//! | [`Region::take`], [`Region::list`] | 3 thread, 8 permission, 9 busy | a check, one record |
+//! | [`Region::permit`] | 3 thread | a check, one word |
 //! | [`Region::run`], [`Region::run_into`] | 6 schedule | a check, then its turns |
 //! | [`Region::check`] | none | a check |
+//! | [`Region::is_idle`], [`Region::permission`] | 3 thread | five words |
 //!
 //! A check reads the words that have a range, in order, up to the first that is out of it; so it
 //! grows with the region. A turn makes at most one access, whatever the size of the region. Inside

@@ -3,7 +3,14 @@
 use core::borrow::Borrow;
 use core::fmt;
 
+use crate::words::word;
 use crate::{calls, Damage, Permission, Refusal, Run, Served, Shape, Turn};
+
+/// Words of a thread's record.
+const PERMISSION: usize = 0;
+const PLACE: usize = 1;
+/// The place of a thread that has no operation.
+const IDLE: u32 = 0;
 
 /// A queue in bytes that the host lends for as long as this value lives.
 ///
@@ -96,8 +103,9 @@ impl<'a> Region<'a> {
     /// the thread answers so; until then it only has its cell.
     ///
     /// In a region that was laid out, a put begun when the tree has its greatest depth D is
-    /// inserted within 2^D + 7 accesses, whatever the choices, as long as no other thread makes
-    /// one, its permission is kept and no turn is refused.
+    /// inserted within 2^D + 7 accesses, whatever the choices, as long as no other operation is
+    /// begun, no other thread's turn changes the region, its permission is kept and no turn is
+    /// refused.
     ///
     /// Cost: that of [`Region::check`], then the thread's record, one cell and the first free cell
     /// are written.
@@ -167,10 +175,11 @@ impl<'a> Region<'a> {
     /// batch.
     ///
     /// The items leave the queue together, when one of the list's accesses removes them; the first
-    /// of them is then the least that the queue holds. Turns answer moved up to that access and
+    /// of them is then the least that the queue holds, and those behind it may be greater than
+    /// items that stay. Turns answer moved up to that access and
     /// while the queue is put in order after it. From then on each turn of the thread answers the
     /// next item, in their order by key and then by tag, and frees its cell; with the last the
-    /// thread is idle. Or one turn answers that the queue was empty.
+    /// thread is [idle](Region::is_idle). Or one turn answers that the queue was empty.
     ///
     /// Cost: that of [`Region::check`], then the thread's record is written.
     ///
@@ -205,11 +214,12 @@ impl<'a> Region<'a> {
     /// byte changes.
     ///
     /// An operation needs its permission up to the access by which it takes effect: a put until its
-    /// item is in the queue, a take or a list until its items are removed. A turn before that
-    /// access which finds the permission lacking makes no access and answers
+    /// item is in the queue, a take or a list until its items are removed. A turn up to that access
+    /// which finds the permission lacking makes no access and answers
     /// [`Answer::Withdrawn`](crate::Answer::Withdrawn): the thread is idle, a put's cell is free
-    /// again, and the queue holds what it held. If the permission is back before the thread's next
-    /// turn, the operation goes on. What has taken effect is finished without it: the items that
+    /// again, and the queue holds what it held. Turns of a take or a list that put the queue in
+    /// order do not look at the permission. If it is back before a turn that does, the operation
+    /// goes on. What has taken effect is finished without it: the items that
     /// were removed are answered, and nodes are put in order.
     ///
     /// Cost: that of [`Region::check`], then one word is written.
@@ -319,7 +329,9 @@ impl<'a> Region<'a> {
     /// Checks once more that the region is readable, as every call but [`Region::layout`] does
     /// before its work. For bytes that are not opened there is [`Damage::of`].
     ///
-    /// Cost: the words that have a range are read in order, up to the first that is out of it.
+    /// Cost: the words that have a range are read in order, up to the first that is out of it; the
+    /// four words of the shape are read together, and of a thread's record some words behind its
+    /// last.
     ///
     /// # Errors
     ///
@@ -332,6 +344,46 @@ impl<'a> Region<'a> {
     #[must_use]
     pub fn shape(&self) -> Shape {
         Shape::named_by(self.bytes)
+    }
+
+    /// Whether a thread, counted from 1, has no operation under way, so that one can be begun.
+    ///
+    /// Cost: five words are read.
+    ///
+    /// ```
+    /// use mound::{Answer, Permission, Refusal, Region, Shape, Turn};
+    ///
+    /// let shape = Shape { depth: 1, cells: 1, threads: 1, threshold: 1 };
+    /// let mut bytes = vec![0; shape.byte_len()?];
+    /// let mut region = Region::layout(&mut bytes, shape, &[Permission::PUT_AND_TAKE])?;
+    /// region.put(1, 5, 9)?;
+    /// while !region.is_idle(1)? {
+    ///     region.run([Turn { thread: 1, choice: 0 }], u32::MAX)?;
+    /// }
+    /// region.list(1)?;
+    /// # Ok::<(), Refusal>(())
+    /// ```
+    ///
+    /// # Errors
+    ///
+    /// [`Refusal::Thread`] where there is no such thread.
+    pub fn is_idle(&self, thread: u32) -> Result<bool, Refusal> {
+        Ok(self.thread_word(thread, PLACE)? == IDLE)
+    }
+
+    /// The permission that a thread, counted from 1, has now. Cost: five words are read.
+    ///
+    /// # Errors
+    ///
+    /// [`Refusal::Thread`] where there is no such thread.
+    pub fn permission(&self, thread: u32) -> Result<Permission, Refusal> {
+        Permission::try_from(self.thread_word(thread, PERMISSION)?)
+    }
+
+    /// A word of a thread's record.
+    fn thread_word(&self, thread: u32, index: usize) -> Result<u32, Refusal> {
+        let record = self.shape().thread_record(thread).ok_or(Refusal::Thread)?;
+        Ok(word(self.bytes, record + index))
     }
 
     /// The bytes, which are all there is of the queue. Cost: none.

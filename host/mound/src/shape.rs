@@ -29,8 +29,8 @@ const THREAD_WORDS: usize = 33;
 pub struct Shape {
     /// Greatest depth of the tree, 1 to 12.
     pub depth: u32,
-    /// Cells, one for each item held or being put: 1 to as many as the greatest depth has leaves,
-    /// which are 2^(depth − 1).
+    /// Cells, one for each item held, being put or in a list's hand: 1 to as many as the greatest
+    /// depth has leaves, which are 2^(depth − 1).
     pub cells: u32,
     /// Threads, 1 to 64.
     pub threads: u32,
@@ -89,11 +89,18 @@ impl Shape {
 
     /// The exact length of a region of this shape, for a shape in range.
     pub(crate) const fn byte_len_in_range(self) -> usize {
-        let words = HEADING_WORDS
-            + NODE_WORDS * self.nodes() as usize
-            + CELL_WORDS * self.cells as usize
-            + THREAD_WORDS * self.threads as usize;
-        WORD * words
+        WORD * (self.words_before_threads() + THREAD_WORDS * self.threads as usize)
+    }
+
+    /// The first word of a thread's record, for a shape in range; none where there is no such
+    /// thread.
+    pub(crate) fn thread_record(self, thread: u32) -> Option<usize> {
+        let others = (1..=self.threads).contains(&thread).then(|| thread as usize - 1)?;
+        Some(self.words_before_threads() + THREAD_WORDS * others)
+    }
+
+    const fn words_before_threads(self) -> usize {
+        HEADING_WORDS + NODE_WORDS * self.nodes() as usize + CELL_WORDS * self.cells as usize
     }
 
     /// The nodes of a tree of the greatest depth, for a shape in range.

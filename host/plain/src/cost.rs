@@ -9,7 +9,7 @@ impl Machine<'_> {
     /// The accesses that a take begun now makes up to its answer.
     ///
     /// They are 1 where the root is empty. Otherwise the rest of the root's list, once its head is
-    /// taken, is left at some level j: 5 × j + 2 accesses where that is above the present depth d,
+    /// taken, is left at some level j: 5 × j + 2 accesses where j is less than the present depth d,
     /// 5 × d where it is d.
     ///
     /// The figure is exact in a region that was laid out, as long as all nodes are clean, no other

@@ -1,6 +1,6 @@
 //! Regions, shapes, permissions and refusals.
 
-use mound::{Damage, NotARefusal, Permission, Refusal, Region, Shape, Turn};
+use mound::{Answer, Damage, NotARefusal, Permission, Refusal, Region, Shape, Turn};
 
 use crate::{BOTH, SHAPE};
 
@@ -47,6 +47,42 @@ fn damaged_bytes_are_not_opened() {
     );
     assert_eq!(refused(&mut bytes[..344]), "the length in bytes is 344, not 348");
     assert_eq!(refused(&mut []), "the length in bytes is 0, not 180 to 82188");
+}
+
+/// A thread is idle when its operation has ended: of a list, when the last item has been answered.
+#[test]
+fn a_region_tells_who_is_idle() -> Result<(), Refusal> {
+    let mut bytes = vec![0; SHAPE.byte_len()?];
+    let mut region = Region::layout(&mut bytes, SHAPE, &BOTH)?;
+    for tag in [9, 2] {
+        region.put(2, 5, tag)?;
+        assert_eq!((region.is_idle(1)?, region.is_idle(2)?), (true, false));
+        region.run([Turn { thread: 2, choice: 0 }; 4], u32::MAX)?;
+        assert!(region.is_idle(2)?);
+    }
+    region.list(2)?;
+    let mut answered = vec![];
+    while !region.is_idle(2)? {
+        let run = region.run([Turn { thread: 2, choice: 0 }], u32::MAX)?;
+        answered.extend(&run);
+    }
+    let [first, last] = [2, 9].map(|tag| Answer::Took { key: 5, tag });
+    assert_eq!(answered[5..], [first, last]);
+    assert_eq!([region.is_idle(0), region.is_idle(3)], [Err(Refusal::Thread); 2]);
+    Ok(())
+}
+
+#[test]
+fn a_region_tells_permissions() -> Result<(), Refusal> {
+    let mut bytes = vec![0; SHAPE.byte_len()?];
+    let mut region = Region::layout(&mut bytes, SHAPE, &[Permission::PUT, Permission::NONE])?;
+    assert_eq!(region.permission(1), Ok(Permission::PUT));
+    assert_eq!(region.permission(2), Ok(Permission::NONE));
+    region.permit(2, Permission::TAKE)?;
+    assert_eq!(region.permission(1), Ok(Permission::PUT));
+    assert_eq!(region.permission(2), Ok(Permission::TAKE));
+    assert_eq!([region.permission(0), region.permission(3)], [Err(Refusal::Thread); 2]);
+    Ok(())
 }
 
 #[test]
