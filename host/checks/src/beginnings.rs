@@ -58,7 +58,7 @@ fn beginning(set: u32, by_much: bool) -> Beginning {
     let record = region.thread(2);
     region.words[record + PERMISSION] = if applies(&Refusal::Permission) { 0 } else { 3 };
     if applies(&Refusal::Busy) {
-        region.words[record + PLACE] = if by_much { place::P19 } else { place::I1 };
+        region.words[record + PLACE] = if by_much { place::GREATEST } else { place::I1 };
     }
     if applies(&Refusal::NoFreeCell) {
         region.words[FIRST_FREE_CELL] = 0;

@@ -56,6 +56,7 @@ pub mod place {
     pub const P17: u32 = 17;
     pub const P18: u32 = 18;
     pub const P19: u32 = 19;
+    pub const GREATEST: u32 = P19;
 }
 
 /// What a word holds, and by that its range.

@@ -3,7 +3,7 @@
 
 use std::collections::BTreeMap;
 
-use checks::fields::place::{E1, E2, I1, I2, I3, I4, I5, I6, I7, I8, IDLE, M1, P17, P18, P19};
+use checks::fields::place::{E1, E2, GREATEST, I1, I2, I3, I4, I5, I6, I7, I8, IDLE, M1, P17, P18};
 use checks::fields::{Words, OWN_CELL, PERMISSION, PLACE, TRIES, WAITING};
 use checks::queue::{Queue, SMALL};
 use checks::random::Random;
@@ -284,7 +284,7 @@ fn with_thread_at(random: &mut Random, place: u32) -> Queue {
 fn turns_at_every_place_with_every_permission() {
     let random = &mut Random::new(131);
     let mut came_up = BTreeMap::<(u32, Ending), u32>::new();
-    for place in IDLE..=P19 {
+    for place in IDLE..=GREATEST {
         for _ in 0..3000 {
             let mut queue = with_thread_at(random, place);
             let permission = random.among(0..=3);
@@ -299,7 +299,7 @@ fn turns_at_every_place_with_every_permission() {
     }
     println!("{came_up:?}");
     let lacking = ENDINGS.iter().flat_map(|&(place, ends)| ends.iter().map(move |&e| (place, e)));
-    let permitted = (IDLE..=P19).map(|place| (place, Ending::Permitted));
+    let permitted = (IDLE..=GREATEST).map(|place| (place, Ending::Permitted));
     let mut all: Vec<(u32, Ending)> = lacking.chain(permitted).collect();
     all.sort_unstable();
     assert!(came_up.keys().copied().eq(all), "other endings came up");

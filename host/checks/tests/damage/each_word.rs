@@ -59,7 +59,7 @@ fn with_thread_at(random: &mut Random, shape: Shape, place: u32) -> Words {
 fn of_readable_regions_with_a_thread_at_each_place() {
     let random = &mut Random::new(61);
     for shape in SHAPES {
-        for place in place::IDLE..=place::P19 {
+        for place in place::IDLE..=place::GREATEST {
             let region = with_thread_at(random, shape, place);
             try_each_word(random, &region);
         }

@@ -57,6 +57,11 @@ fn greatest_place() -> usize {
     text("crates/region/specs/Place.antt").matches("\nplaceNumber ").count() - 1
 }
 
+#[test]
+fn the_tests_know_every_place() {
+    assert_eq!(checks::fields::place::GREATEST as usize, greatest_place());
+}
+
 /// The exported calls, in the source's order.
 fn exported() -> Vec<String> {
     let source = text("crates/mound/src/lib.rt");
