@@ -117,7 +117,7 @@ uint64_t mound_run(uint8_t *region, size_t region_length, const uint8_t *schedul
 /*
  * Whether the region is readable: its length is that of its first words, and every field is in its range.
  * Refusal: 7. Cost: the words that have a range are read in order, up to the first that is out of it; the four words of the shape are
- * read together, and of a thread's record some words behind its last.
+ * looked at together, and a thread's tries and waiting levels once more behind its record's last word.
  */
 uint32_t mound_check(const uint8_t *region, size_t region_length);
 

@@ -174,8 +174,8 @@ pub fn run(region: &mut [u8], schedule: &[u8], limit: u32, answers: &mut [u8]) -
 /// in its range.
 ///
 /// Refusal: 7 (not readable). Cost: the words that have a range are read in order, up to the first
-/// that is out of it; the four words of the shape are read together, and of a thread's record some
-/// words behind its last.
+/// that is out of it; the four words of the shape are looked at together, and a thread's tries and
+/// waiting levels once more behind its record's last word.
 #[must_use = "the number says whether the region is readable"]
 pub fn check(region: &[u8]) -> u32 {
     // SAFETY: the pointer goes with the slice's own length. The slice is lent for the call, in

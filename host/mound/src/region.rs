@@ -330,8 +330,8 @@ impl<'a> Region<'a> {
     /// before its work. For bytes that are not opened there is [`Damage::of`].
     ///
     /// Cost: the words that have a range are read in order, up to the first that is out of it; the
-    /// four words of the shape are read together, and of a thread's record some words behind its
-    /// last.
+    /// four words of the shape are looked at together, and a thread's tries and waiting levels once
+    /// more behind its record's last word.
     ///
     /// # Errors
     ///
