@@ -1,12 +1,13 @@
 //! Tables, header and crates.txt list what there is, with its numbers.
 
+use checks::fields::place;
 use mound::{Answer, Permission, Refusal, Shape, Turn};
 
 use crate::repository::text;
 
-/// The refusals, by their numbers from 1.
+/// The refusals, by their numbers.
 fn refusals() -> Vec<Refusal> {
-    (1..).map_while(|number| Refusal::try_from(number).ok()).collect()
+    (0..256).filter_map(|number| Refusal::try_from(number).ok()).collect()
 }
 
 /// The answers, by their codes from 0; took and refused with any item and refusal.
@@ -52,14 +53,12 @@ fn first_cells(document: &str, heading: &str) -> Vec<String> {
     rows.map(cell).skip(1).collect()
 }
 
-/// The greatest number of a place, counted in their definition, where idle has 0.
-fn greatest_place() -> usize {
-    text("crates/region/specs/Place.antt").matches("\nplaceNumber ").count() - 1
-}
-
-#[test]
-fn the_tests_know_every_place() {
-    assert_eq!(checks::fields::place::GREATEST as usize, greatest_place());
+/// The greatest number of a place, by their definition, where the last has it.
+fn greatest_place() -> u32 {
+    let definitions = text("crates/region/specs/Place.antt");
+    let last = definitions.lines().rfind(|line| line.starts_with("placeNumber "));
+    let number = last.and_then(|clause| clause.rsplit(" = ").next());
+    number.and_then(|number| number.parse().ok()).expect("the last place has a number")
 }
 
 /// The exported calls, in the source's order.
@@ -136,13 +135,22 @@ fn histories_have_every_call_on_a_region() {
 
 #[test]
 fn the_reference_has_every_refusal_answer_and_place() {
-    let rows = |heading| first_cells("docs/REFERENCE.md", heading);
-    let numbers = |range: std::ops::Range<usize>| range.map(|n| n.to_string()).collect::<Vec<_>>();
+    let rows = |heading| -> Vec<u32> {
+        let cells = first_cells("docs/REFERENCE.md", heading);
+        cells.iter().map(|cell| cell.parse().expect("a number")).collect()
+    };
     let mut refused = rows("## The refusals");
     refused.dedup(); // 7 has two rows: of a call and of a turn
-    assert_eq!(refused, numbers(1..refusals().len() + 1));
-    assert_eq!(rows("## The answers"), numbers(0..answers().len()));
-    assert_eq!(rows("## The places and the ways between them"), numbers(1..greatest_place() + 1));
+    assert!(refused.into_iter().eq(refusals().into_iter().map(u32::from)));
+    assert!(rows("## The answers")
+        .into_iter()
+        .eq(answers().iter().map(|answer| answer.words()[0])));
+    assert!(rows("## The places and the ways between them").into_iter().eq(1..=greatest_place()));
+}
+
+#[test]
+fn the_tests_know_every_place() {
+    assert_eq!(place::GREATEST, greatest_place());
 }
 
 #[test]
