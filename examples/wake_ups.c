@@ -45,6 +45,8 @@ static void run(uint32_t turns)
         mound_set_word(schedule, 2 * turn + 1, turn);           /* the choice of a leaf */
     }
     done = mound_run(region, sizeof region, schedule, turns * MOUND_TURN_BYTES, UINT32_MAX, answers, sizeof answers);
+    if (mound_run_refusal(done) != MOUND_DONE)
+        report("  run", mound_run_refusal(done));
     for (turn = 0; turn < mound_run_turns(done); turn++)
         report_turn(1 + turn % THREADS, answers + turn * MOUND_ANSWER_BYTES);
     printf("  %u turns, %u accesses\n", (unsigned)mound_run_turns(done), (unsigned)mound_run_accesses(done));
@@ -78,6 +80,7 @@ int main(void)
     report("check", mound_check(region, sizeof region));
     mound_set_word(region, 4, DEPTH + 1);
     report("check, with a present depth that is too great", mound_check(region, sizeof region));
+    run(4);
     report("check of no bytes", mound_check(NULL, 0));
     return 0;
 }
