@@ -7,13 +7,13 @@ use mathlib.Core.Bool.{Bool, true, false, true≢false}
 use mathlib.Core.List.{List, [], _∷_}
 use borrow.Author.Tests.{not-true}
 use Rattle.region.specs.Pick.{pick}
+use Rattle.region.specs.Record.{sameItem}
 use Rattle.region.specs.declared.record.Item.{Item}
+use Rattle.region.proofs.Items.{item-same, same-item}
 use Rattle.access.specs.Order.{itemLe, itemLt}
 use Rattle.access.proofs.OrderLaws.{item-antisym, item-by-tag, item-key, item-refl, item-total}
 use Rattle.theory.specs.Ledger.{Ledger, Least, Follows, still, put-begins, take-begins, list-begins, put-decides, take-decides, list-decides, empty-decides, take-answers, oneMore, oneLess, ends-withdrawn}
 use Rattle.theory.specs.Told.{Told, decidesList}
-use Rattle.theory.specs.Tree.{sameItem}
-use Rattle.theory.proofs.Sorted.{item-same, same-item}
 use Rattle.bag.specs.Demand3.{Agrees, HoldsTheSame}
 use Rattle.bag.specs.History.{Moment}
 use Rattle.bag.specs.Moments.{EachMoment}

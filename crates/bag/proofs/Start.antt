@@ -12,6 +12,7 @@ use lib.ListN.{length, getD}
 use Rattle.region.specs.Answer.{done}
 use Rattle.region.specs.Frame.{frameOf}
 use Rattle.region.specs.Pick.{pick}
+use Rattle.region.specs.Record.{sameItem}
 use Rattle.region.specs.Shape.{between, nodeCount}
 use Rattle.region.specs.Shared.{Shared, sharedIn, threadIn}
 use Rattle.region.specs.Thread.{idleThread}
@@ -28,7 +29,6 @@ use Rattle.layout.proofs.Laws.{laid-shape}
 use Rattle.layout.proofs.LayoutReads.{laid-cell, laid-depth, laid-free, laid-no-thread, laid-node, laid-thread, next-in-chain, next-past, nextFree}
 use Rattle.mound.proofs.LaidOutIsReadable.{laid-good}
 use Rattle.theory.specs.Ledger.{emptyLedger, none}
-use Rattle.theory.specs.Tree.{sameItem}
 use Rattle.theory.proofs.Chains.{Chain, ends, link, among, items}
 use Rattle.theory.proofs.Counts.{inChain}
 use Rattle.theory.proofs.Effects.{Mound}

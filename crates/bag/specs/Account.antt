@@ -6,6 +6,7 @@ use mathlib.Core.Path.{_≡_}
 use mathlib.Core.Bool.{true}
 use mathlib.Core.List.{List}
 use Rattle.region.specs.Answer.{done, noFreeCell}
+use Rattle.region.specs.Record.{isItem}
 use Rattle.region.specs.Shape.{between, nodeCount}
 use Rattle.region.specs.Shared.{sharedIn, threadIn}
 use Rattle.region.specs.Thread.{isIdle}
@@ -13,7 +14,7 @@ use Rattle.region.specs.declared.frame.Frame.{Frame}
 use Rattle.region.specs.declared.record.Item.{Item}
 use Rattle.readable.specs.Readable.{readable, frameIn, shapeIn}
 use Rattle.permission.specs.Grants.{mayPut}
-use Rattle.begin.specs.Begin.{isItem, putRefusal}
+use Rattle.begin.specs.Begin.{putRefusal}
 use Rattle.theory.specs.Account.{anyItem, inHands, putsAmong}
 use Rattle.theory.specs.Tree.{inList, inNodes}
 

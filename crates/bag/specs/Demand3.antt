@@ -2,6 +2,7 @@
 use Prim.Native.Nat.{ℕ}
 use mathlib.Core.Path.{_≡_}
 use mathlib.Core.List.{List, [], _∷_}
+use Rattle.region.specs.Record.{sameItem}
 use Rattle.region.specs.Shape.{nodeCount}
 use Rattle.region.specs.Shared.{sharedIn}
 use Rattle.region.specs.declared.answer.Answer.{Answer}
@@ -12,7 +13,7 @@ use Rattle.region.specs.declared.shape.Shape.{Shape}
 use Rattle.readable.specs.Readable.{frameIn}
 use Rattle.theory.specs.Ledger.{Ledger, Follows, emptyLedger}
 use Rattle.theory.specs.Told.{Told, nothing, decidesPut, decidesTake, decidesList, decidesEmpty, answersTook, withdraws}
-use Rattle.theory.specs.Tree.{inNodes, sameItem}
+use Rattle.theory.specs.Tree.{inNodes}
 use Rattle.bag.specs.History.{Event, called, turned, Moment}
 use Rattle.bag.specs.Moments.{InEveryHistory, EachMoment}
 use Rattle.bag.specs.Operations.{AnsweredDecidesOnce, DecidesAtMostOnce, WithdrawnNeverDecides}

@@ -11,7 +11,7 @@ use Rattle.words.proofs.Laws.{length-setWord}
 use Rattle.region.specs.Answer.{done, badThread, badItem, unreadable, notPermitted, threadBusy, noFreeCell, _unless_otherwise_}
 use Rattle.region.specs.Inner.{Within}
 use Rattle.region.specs.Pick.{pick}
-use Rattle.region.specs.Record.{greatestKey, greatestTag}
+use Rattle.region.specs.Record.{isItem}
 use Rattle.region.specs.Shape.{between}
 use Rattle.region.specs.Shared.{cellIn, setCellIn, threadIn, setThreadIn}
 use Rattle.region.specs.Thread.{atPlace, begunPut, isIdle}
@@ -24,17 +24,7 @@ use Rattle.region.proofs.Views.{length-setCellIn}
 use Rattle.readable.specs.Readable.{frameIn, readable}
 use Rattle.permission.specs.Grants.{mayPut, mayTake}
 use Rattle.readable.proofs.Laws.{readable-within}
-use Rattle.begin.specs.Begin.{PutBegun, PutBegunIn, TakeBegun, TakeBegunIn, isItem, acceptedPut, hasFreeCell, putBytes, putBytesIn, putRefusal, putRefusalIn, takeBytes, takeBytesIn, takeRefusal, takeRefusalIn}
-
--- What a beginning asks of a thread and an item.
-module _ (i : Item) where
-  pub no-key : greatestKey < i .key → false ≡ isItem i
-  unfolding isItem
-  no-key h = rw (lt-leb (i .key) greatestKey h) refl
-
-  pub some-key : i .key ≤ greatestKey → leb (i .tag) greatestTag ≡ isItem i
-  unfolding isItem
-  some-key h = rw (le-leb (i .key) greatestKey h) refl
+use Rattle.begin.specs.Begin.{PutBegun, PutBegunIn, TakeBegun, TakeBegunIn, acceptedPut, hasFreeCell, putBytes, putBytesIn, putRefusal, putRefusalIn, takeBytes, takeBytesIn, takeRefusal, takeRefusalIn}
 
 -- The last refusals of a put, then all: the first test that fails decides.
 abbrev lastOfPut : Frame → List ℕ → Thread → ℕ

@@ -2,14 +2,14 @@
 -- under a frame and on a whole region that holds one queue.
 use Prim.Native.Nat.{ℕ}
 use mathlib.Core.Path.{_≡_}
-use mathlib.Core.Bool.{Bool, not, _&&_}
+use mathlib.Core.Bool.{Bool, not}
 use mathlib.Core.List.{List}
-use lib.Dec.{leb, eqb}
+use lib.Dec.{eqb}
 use Rattle.words.specs.Word.{word, setWord}
 use Rattle.region.specs.Answer.{done, badThread, badItem, unreadable, notPermitted, threadBusy, noFreeCell, _unless_otherwise_}
 use Rattle.region.specs.Frame.{frameOf}
 use Rattle.region.specs.Pick.{pick}
-use Rattle.region.specs.Record.{greatestKey, greatestTag}
+use Rattle.region.specs.Record.{isItem}
 use Rattle.region.specs.Shape.{between}
 use Rattle.region.specs.Shared.{cellIn, setCellIn, threadIn, setThreadIn}
 use Rattle.region.specs.Thread.{atPlace, begunPut, isIdle}
@@ -19,10 +19,6 @@ use Rattle.region.specs.declared.place.Place.the-variants.{ReadRoot, ListReadRo
 use Rattle.region.specs.declared.record.Item.{Item}
 use Rattle.readable.specs.Readable.{frameIn, readable}
 use Rattle.permission.specs.Grants.{mayPut, mayTake}
-
--- "Keys are 0 to 4,294,967,294.", "Tags are 0 to 65,535."
-unfoldable pub isItem : Item → Bool
-isItem i = leb (i .key) greatestKey && leb (i .tag) greatestTag
 
 -- a cell is free: the chain of free cells has a first one
 unfoldable pub hasFreeCell : Frame → List ℕ → Bool

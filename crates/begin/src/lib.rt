@@ -6,7 +6,7 @@ ghost use Rattle.region.specs.Answer.{done, threadBusy, noFreeCell, _unless_oth
 ghost use Rattle.region.specs.Inner.{Within};
 ghost use Rattle.region.specs.Thread.{isIdle};
 ghost use Rattle.region.specs.declared.place.Place.the-variants.{ReadRoot, ListReadRoot};
-ghost use Rattle.begin.specs.Begin.{PutBegun, PutBegunIn, TakeBegun, TakeBegunIn, isItem, acceptedPut, hasFreeCell, putRefusalIn, takeRefusalIn};
+ghost use Rattle.begin.specs.Begin.{PutBegun, PutBegunIn, TakeBegun, TakeBegunIn, acceptedPut, hasFreeCell, putRefusalIn, takeRefusalIn};
 use region::BAD_ITEM;
 use region::BAD_THREAD;
 use region::Cell;
@@ -19,15 +19,6 @@ use region::Place;
 use region::THREAD_BUSY;
 use region::Thread;
 use region::UNREADABLE;
-
-fn is_item(i: Item) -> bool
-    ensures { λ r. ⌜ r ≡ isItem i ⌝ }
-{
-    if 4294967294 < i.key {
-        return false;
-    }
-    i.tag <= 65535
-}
 
 // The last refusals of a put, 9 and 10, or done.
 fn put_busy(f: Frame, b: &[u8], t: Thread) -> u32
@@ -52,7 +43,7 @@ fn put_refusal(f: Frame, b: &[u8], thread: u32, item: Item) -> u32
     if !region::is_between(1, thread, shape.threads) {
         return BAD_THREAD;
     }
-    if !is_item(item) {
+    if !region::is_item(item) {
         return BAD_ITEM;
     }
     let t = f.load_thread(b, thread);

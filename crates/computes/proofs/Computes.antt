@@ -4,7 +4,7 @@ use Rattle.words.specs.Word.{word, setWord}
 use Rattle.region.specs.Frame.{frameOf}
 use Rattle.region.specs.Level.{digits, level, ancestor}
 use Rattle.region.specs.Pick.{pick, upd}
-use Rattle.region.specs.Record.{nodeAt, setNodeAt, cellAt, setCellAt}
+use Rattle.region.specs.Record.{nodeAt, setNodeAt, cellAt, setCellAt, isItem}
 use Rattle.region.specs.Shape.{between, shapeFits, regionWords}
 use Rattle.region.specs.Shared.{loadEntry, storeEntry, nodeIn, setNodeIn, cellIn, setCellIn, threadIn, setThreadIn, setPermissionIn, sharedIn}
 use Rattle.region.specs.Thread.{threadAt, setThreadAt, goneIdle, atPlace, withItem, withOwn, withDepth, withSearch, withNode, withAfter, withResult, withCopies, withFirst, withSecond, withThird, begunPut, isIdle, mending}
@@ -21,7 +21,7 @@ use Rattle.readable.specs.Readable.{greatestTries, greatestWaiting, bounded, th
 use Rattle.permission.specs.Grants.{mayPut, mayTake}
 use Rattle.permission.specs.Permit.{permitRefusalIn, permitRefusal, permitBytes}
 use Rattle.permission.specs.Withdraw.{isPutPlace, isTakePlace, lacksPermission, withdrawal, permitted}
-use Rattle.begin.specs.Begin.{isItem, hasFreeCell, putRefusal, acceptedPut, putBytes, takeRefusal, takeBytes}
+use Rattle.begin.specs.Begin.{hasFreeCell, putRefusal, acceptedPut, putBytes, takeRefusal, takeBytes}
 use Rattle.run.specs.Run.{turnsFrom, serve, serveAll, runRefusal, runResult}
 use Rattle.machine.specs.Turn.{decide, turnPlan, turnAnswer, carriedOut, turnBytes}
 

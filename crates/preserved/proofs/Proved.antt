@@ -15,7 +15,7 @@ use Rattle.region.specs.Answer.{done, badThread}
 use Rattle.region.specs.Frame.{threadsOf}
 use Rattle.region.specs.Inner.{Framed, InRange}
 use Rattle.region.specs.Pick.{pick}
-use Rattle.region.specs.Record.{greatestKey, greatestTag}
+use Rattle.region.specs.Record.{greatestKey, greatestTag, isItem}
 use Rattle.region.specs.Shape.{between}
 use Rattle.region.specs.Shared.{Shared, cellIn, entry, setCellIn, setNodeIn, setPermissionIn, threadIn, setThreadIn, sharedIn}
 use Rattle.region.specs.Thread.{atPlace, begunPut, greatestPermission, idleThread, isIdle}
@@ -46,7 +46,7 @@ use Rattle.permission.specs.Grants.{mayPut, mayTake}
 use Rattle.permission.specs.Permit.{permitBytes, permitBytesIn, permitRefusalIn}
 use Rattle.permission.specs.Withdraw.{isUnreadable, lacksPermission, permitted}
 use Rattle.permission.proofs.Laws.{permit-bytes-in, permit-refusal-in}
-use Rattle.begin.specs.Begin.{BeginsAt, one-item, whole-list, isItem, acceptedPut, acceptedTake, hasFreeCell, putBytes, putBytesIn, putRefusalIn, takeBytes, takeBytesIn, takeRefusalIn}
+use Rattle.begin.specs.Begin.{BeginsAt, one-item, whole-list, acceptedPut, acceptedTake, hasFreeCell, putBytes, putBytesIn, putRefusalIn, takeBytes, takeBytesIn, takeRefusalIn}
 use Rattle.begin.proofs.Laws.{put-bytes-in, take-bytes-in}
 use Rattle.machine.specs.Turn.{carriedOut, decide, decideAt, turnBytes, turnPlan}
 use Rattle.preserved.specs.Theorems.{EmptyIsAbove, OutsideEffect, TurnKeepsReadable, PutKeepsReadable, TakeKeepsReadable, PermitKeepsReadable, TurnKeepsShape, PutKeepsShape, TakeKeepsShape, PermitKeepsShape, TurnLeavesOthers, PutLeavesOthers, TakeLeavesOthers, PermitLeavesOthers, PermitChangesOneWord, TurnLeavesWords}

@@ -76,6 +76,10 @@ noFreeCell = 10
 abbrev pub counterSpent : ℕ
 counterSpent = 11
 
+-- request 9's
+abbrev pub badRecords : ℕ
+badRecords = 12
+
 -- "the first refusal that applies": a refusal unless its test holds, otherwise the next, `done` last, read from top to bottom
 infixr 10 _unless_otherwise_
 abbrev pub _unless_otherwise_ : ℕ → Bool → ℕ → ℕ

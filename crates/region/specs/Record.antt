@@ -1,6 +1,8 @@
 -- Items, nodes, cells and node copies as words, in document 01's order ("The region").
 use Prim.Native.Nat.{ℕ, _+_}
+use mathlib.Core.Bool.{Bool, _&&_}
 use mathlib.Core.List.{List, [], _∷_, _++_}
+use lib.Dec.{leb, eqb}
 use lib.ListN.{getD}
 use Rattle.words.specs.Word.{wordsAt, setWords}
 use Rattle.region.specs.declared.record.Item.{Item}
@@ -14,6 +16,14 @@ greatestKey = 4294967294
 
 abbrev pub greatestTag : ℕ
 greatestTag = 65535
+
+-- an item's key and tag are in range
+unfoldable pub isItem : Item → Bool
+isItem i = leb (i .key) greatestKey && leb (i .tag) greatestTag
+
+-- "An item is a key with a tag."
+unfoldable pub sameItem : Item → Item → Bool
+sameItem i j = eqb (i .key) (j .key) && eqb (i .tag) (j .tag)
 
 -- the last value of a counter ("11: an update whose comparison holds meets a counter of 4,294,967,295")
 abbrev pub greatestCounter : ℕ

@@ -2,7 +2,7 @@
 ghost use mathlib.Core.Path.{_≡_};
 ghost use Prim.Native.Nat.{_+_, _*_, _≤_};
 ghost use lib.ListN.{length};
-ghost use Rattle.region.specs.Record.{nodeSize, cellSize, copySize, emptyNode, zeroCell, copyOf, nodeAt, setNodeAt, cellAt, setCellAt, copyAt, setCopyAt};
+ghost use Rattle.region.specs.Record.{nodeSize, cellSize, copySize, emptyNode, zeroCell, copyOf, nodeAt, setNodeAt, cellAt, setCellAt, copyAt, setCopyAt, isItem};
 ghost use mathlib.Core.List.{[], _∷_};
 
 // The words of a node and of a cell.
@@ -36,6 +36,16 @@ pub struct Cell {
 pub struct NodeCopy {
     pub node: Node,
     pub head: Cell,
+}
+
+// Whether key and tag are in range.
+pub fn is_item(i: Item) -> bool
+    ensures { λ r. ⌜ r ≡ isItem i ⌝ }
+{
+    if 4294967294 < i.key {
+        return false;
+    }
+    i.tag <= 65535
 }
 
 impl Node {

@@ -8,6 +8,7 @@ use mathlib.Core.Logic.{_⊎_}
 use borrow.Author.Tests.{ne-eqb}
 use lib.Pow.{pow-mono}
 use Rattle.region.specs.Pick.{pick, upd}
+use Rattle.region.specs.Record.{sameItem}
 use Rattle.region.specs.Shape.{nodeCount}
 use Rattle.region.specs.Shared.{Shared}
 use Rattle.region.specs.declared.record.Cell.{Cell}
@@ -21,7 +22,6 @@ use Rattle.access.specs.Read.{readNode, updated}
 use Rattle.access.specs.declared.effect.Effect.the-variants.{Grow, Push, Pop, Exchange, Clean, Detach, Free}
 use Rattle.access.proofs.OrderLaws.{item-refl, item-trans}
 use Rattle.access.proofs.ReadLaws.{updated-counter, updated-dirty, updated-first}
-use Rattle.theory.specs.Tree.{sameItem}
 use Rattle.theory.proofs.Chains.{ItemsStay, among, items}
 use Rattle.theory.proofs.Held.{Held, counted, first-owner, own-owner, free-owner, thread-items-stay, rest-stays, held-same, counted-same, held-begin, held-push, held-pop, held-exchange, held-detach, held-free}
 use Rattle.theory.proofs.Order.{Above, Ordered, above-le, push-ordered, pop-ordered, clean-ordered, exchange-ordered}

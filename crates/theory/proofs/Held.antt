@@ -8,6 +8,7 @@ use mathlib.Core.Bool.{Bool}
 use mathlib.Core.List.{List, [], _∷_}
 use lib.ListN.{length}
 use Rattle.region.specs.Pick.{pick}
+use Rattle.region.specs.Record.{sameItem}
 use Rattle.region.specs.Shape.{nodeCount}
 use Rattle.region.specs.Shared.{Shared}
 use Rattle.region.specs.declared.record.Cell.{Cell}
@@ -15,7 +16,7 @@ use Rattle.region.specs.declared.record.Item.{Item}
 use Rattle.region.specs.declared.shape.Shape.{Shape}
 use Rattle.access.specs.Order.{topItem, val, valueOf}
 use Rattle.access.specs.Read.{readNode}
-use Rattle.theory.specs.Tree.{inNodes, sameItem}
+use Rattle.theory.specs.Tree.{inNodes}
 use Rattle.theory.proofs.Cells.{Chains, Moved, Exchanged, move, exchange}
 use Rattle.theory.proofs.Chains.{Chain, ItemsStay, among, first-owned, items, items-stay, no-cells, tail-stays}
 use Rattle.theory.proofs.Counts.{inChain, tree-counts}

@@ -8,12 +8,12 @@ use mathlib.Core.List.{List, [], _∷_}
 use borrow.Author.Tests.{eqb-true, eq-eqb, ne-eqb}
 use lib.Dec.{eqb}
 use Rattle.region.specs.Pick.{pick}
+use Rattle.region.specs.Record.{sameItem}
 use Rattle.region.specs.declared.record.Cell.{Cell}
 use Rattle.region.specs.declared.record.Item.{Item}
-use Rattle.region.proofs.Shapes.{and-left, and-right, and-both}
+use Rattle.region.proofs.Items.{same-item, item-same}
 use Rattle.access.specs.Order.{itemLe, topItem}
 use Rattle.access.proofs.OrderLaws.{item-refl, item-total, item-trans}
-use Rattle.theory.specs.Tree.{sameItem}
 use Rattle.theory.proofs.Chains.{Chain, ends, link, among, items}
 
 -- a is at most b
@@ -35,18 +35,6 @@ Sorted (i ∷ is) = Proper i × AllFrom i is × Sorted is
 all-from : (v w : Item) (is : List Item) → AtMost v w → AllFrom w is → AllFrom v is
 all-from v w [] h a = tt
 all-from v w (i ∷ is) h a = (item-trans v w i h (a .0), all-from v w is h (a .1))
-
--- equal items are one
-pub same-item : (i j : Item) → sameItem i j ≡ true → i ≡ j
-unfolding sameItem
-same-item i j e =
-    let k = eqb-true (i .key) (j .key) (and-left (eqb (i .key) (j .key)) (eqb (i .tag) (j .tag)) e) in
-    let t = eqb-true (i .tag) (j .tag) (and-right (eqb (i .key) (j .key)) (eqb (i .tag) (j .tag)) e) in
-    λ x. record { key = k x; tag = t x }
-
-pub item-same : (i : Item) → sameItem i i ≡ true
-unfolding sameItem
-item-same i = and-both (eq-eqb (i .key) (i .key) refl) (eq-eqb (i .tag) (i .tag) refl)
 
 from-all : (v j : Item) (is : List Item) → AllFrom v is → 1 ≤ among (sameItem j) is → AtMost v j
 unfolding among pick

@@ -8,6 +8,7 @@ use mathlib.Core.Bool.{Bool, true, false, true≢false}
 use mathlib.Core.List.{List, [], _∷_}
 use lib.ListN.{length}
 use Rattle.region.specs.Pick.{pick, upd}
+use Rattle.region.specs.Record.{sameItem}
 use Rattle.region.specs.Shared.{Shared, setCell, setFree}
 use Rattle.region.specs.Thread.{atPlace, begunPut, withItem, withOwn, withPermission}
 use Rattle.region.specs.declared.answer.Answer.{Answer}
@@ -17,6 +18,7 @@ use Rattle.region.specs.declared.place.Place.the-variants.{Idle as AtRest, Read
 use Rattle.region.specs.declared.record.Item.{Item}
 use Rattle.region.specs.declared.shape.Shape.{Shape}
 use Rattle.region.specs.declared.thread.Thread.{Thread}
+use Rattle.region.proofs.Items.{same-item, item-same, same-item-either}
 use Rattle.region.proofs.Picks.{upd-same, upd-other}
 use Rattle.access.specs.Effect.{effectShared}
 use Rattle.access.specs.Order.{topItem, val, valueOf}
@@ -27,14 +29,14 @@ use Rattle.access.specs.declared.plan.Plan.{Plan}
 use Rattle.access.proofs.OrderLaws.{item-less, item-trans}
 use Rattle.theory.specs.Ledger.{Operation, none, putting, taking, listing, owing, stillOwing, Ledger, Follows, still, put-begins, take-begins, list-begins, put-decides, take-decides, list-decides, empty-decides, take-answers, ends-withdrawn, HoldsAll, Least, listLess, oneMore, oneLess}
 use Rattle.theory.specs.Told.{Told, nothing, beginsPut, beginsTake, beginsList, decidesPut, decidesTake, decidesList, decidesEmpty, answersTook, withdraws}
-use Rattle.theory.specs.Tree.{itemsOf, listFrom, sameItem}
+use Rattle.theory.specs.Tree.{itemsOf, listFrom}
 use Rattle.theory.proofs.Chains.{HasItems, ItemsStay, among, has-items, items, length-items, list-items, only-items}
 use Rattle.theory.proofs.Effects.{Keeps, Mound, in-tree, root-there, value-there, rely-same, begin-keeps, begin-counts, grow-keeps, grow-counts, push-keeps, push-counts, push-rest, pop-keeps, pop-counts, pop-items-stay, exchange-keeps, exchange-counts, clean-keeps, clean-counts, detach-keeps, detach-counts, free-keeps, free-counts, free-rest}
 use Rattle.theory.proofs.Facts.{At, Takes, any-permission, stays}
 use Rattle.theory.proofs.Held.{counted, few-cells, held-by, head-held, node-chain}
 use Rattle.theory.proofs.Order.{root-above}
 use Rattle.theory.proofs.Plans.{Allowed, OwnAfter, OperationAfter, reads, grows, swaps, cleans, inserts, removes, detaches, empties, answers, cleans-answers, hands-out, frees-withdrawn, leaves-withdrawn}
-use Rattle.theory.proofs.Sorted.{AtMost, Proper, Sorted, same-item, item-same, valueAt}
+use Rattle.theory.proofs.Sorted.{AtMost, Proper, Sorted, valueAt}
 
 -- each thread's own cell
 abbrev pub owns : (ℕ → Thread) → ℕ → ℕ
@@ -47,15 +49,6 @@ pub record Invariant (s : Shape) (m : Shared) (th : ℕ → Thread) (l : Ledger)
   pub bag : (i : Item) → l .bag i ≡ counted s m i
 
 -- the bag's counts
-pub same-item-either : (i j : Item) → sameItem i j ≡ sameItem j i
-same-item-either i j = go (sameItem i j) (sameItem j i) refl refl
-  where
-    go : (p q : Bool) → sameItem i j ≡ p → sameItem j i ≡ q → p ≡ q
-    go true true e f = refl
-    go false false e f = refl
-    go true false e f = absurd (true≢false (sym (subst (λ k. sameItem k i ≡ true) (same-item i j e) (item-same i)) ∙ f))
-    go false true e f = absurd (true≢false (sym (subst (λ k. sameItem k j ≡ true) (same-item j i f) (item-same j)) ∙ e))
-
 one-copy : (j a b : Item) → a ≡ b → pick {A = ℕ} (sameItem j a) 1 0 ≡ pick (sameItem j b) 1 0
 one-copy j a b e = ap (λ k. pick {A = ℕ} (sameItem j k) 1 0) e
 

@@ -1,17 +1,13 @@
 -- "The tree holds of each item as many copies as there are cells with that key and tag in the lists of nodes 1 to 2^D − 1, each list from
 -- its first cell by next cells to 0, at most C of them."
 use Prim.Native.Nat.{ℕ, zero, suc, _+_}
-use mathlib.Core.Bool.{Bool, _&&_}
+use mathlib.Core.Bool.{Bool}
 use mathlib.Core.List.{List, [], _∷_}
 use lib.Dec.{eqb}
 use Rattle.region.specs.Pick.{pick}
 use Rattle.region.specs.Shared.{Shared}
 use Rattle.region.specs.declared.record.Cell.{Cell}
 use Rattle.region.specs.declared.record.Item.{Item}
-
--- "An item is a key with a tag."
-unfoldable pub sameItem : Item → Item → Bool
-sameItem i j = eqb (i .key) (j .key) && eqb (i .tag) (j .tag)
 
 -- a cell of a list, with its item
 pub record Listed : Type 0 where
