@@ -7,6 +7,7 @@ ghost use Rattle.layout.specs.Layout.{LaidOut};
 ghost use Rattle.readable.specs.Readable.{checkAnswer};
 ghost use Rattle.begin.specs.Begin.{PutBegun, TakeBegun};
 ghost use Rattle.permission.specs.Permit.{PermitSet};
+ghost use Rattle.records.specs.Accepts.{recordsAnswer};
 ghost use Rattle.mound.specs.Calls.{RunDone, itemGiven, packed, shapeGiven};
 ghost use Rattle.mound.specs.Inner.{Packable};
 use region::Item;
@@ -100,4 +101,13 @@ pub extern "C" fn mound_check(region: &[u8]) -> u32
     ensures { λ r. ⌜ r ≡ checkAnswer (now (region .entry)) ⌝ }
 {
     readable::check_region(region)
+}
+
+// Whether the records of a native build are accepted, seven words for each operation (kind, thread, begin, answer, position,
+// key, tag): 0 for yes, 255 for no. Refusal 12.
+#[no_mangle]
+pub extern "C" fn mound_records(records: &[u8]) -> u32
+    ensures { λ r. ⌜ r ≡ recordsAnswer (now (records .entry)) ⌝ }
+{
+    records::check_records(records)
 }

@@ -1,0 +1,47 @@
+// Checks the records that a native build writes of its operations (document 02, request 9): refuses those that are not in range, then compares
+// times and positions and plays the bag, each in one walk over the records.
+ghost use mathlib.Core.Path.{_≡_};
+ghost use Rattle.records.specs.Accepts.{accepts, recordsAnswer};
+ghost use Rattle.records.specs.Inner.{WellFormed};
+ghost use Rattle.records.specs.Recorded.{recordedAt};
+use region::BAD_RECORDS;
+use region::DONE;
+
+mod form;
+mod order;
+mod play;
+mod times;
+
+// The number of a no.
+const REJECTED: u32 = 255;
+
+// Whether n records that are in range are accepted.
+fn is_accepted(b: &[u8], n: usize) -> bool
+    requires { ⌜ WellFormed (now b) n ⌝ }
+    ensures { λ r. ⌜ r ≡ accepts n (recordedAt (now (b .entry))) ⌝ }
+{
+    let mut order = order::no_order();
+    if !order::put_in_order(b, n, &mut order) {
+        return false;
+    }
+    let mut last = times::no_answers();
+    if !times::are_in_time(b, n, &order, &mut last) {
+        return false;
+    }
+    let mut bag = play::no_items();
+    play::is_played(b, n, &order, &mut bag)
+}
+
+// 0 if the records are accepted, 12 if they cannot be read, else 255.
+pub fn check_records(b: &[u8]) -> u32
+    ensures { λ r. ⌜ r ≡ recordsAnswer (now (b .entry)) ⌝ }
+{
+    if !form::is_well_formed(b) {
+        return BAD_RECORDS;
+    }
+    if is_accepted(b, b.len() / 28) {
+        DONE
+    } else {
+        REJECTED
+    }
+}
