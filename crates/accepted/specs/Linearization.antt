@@ -1,0 +1,30 @@
+-- Linearizability of recorded operations (Herlihy and Wing): some order of all of them respects real time, and the plain bag, played in that
+-- order, gives every answer.
+use Prim.Native.Nat.{ℕ, zero, suc, _<_}
+use mathlib.Core.Path.{_≡_}
+use mathlib.Core.List.{List, [], _∷_}
+use Rattle.theory.specs.Ledger.{emptyLedger}
+use Rattle.records.specs.declared.form.Recorded.{Recorded}
+use Rattle.accepted.specs.LedgerPlay.{FollowsAll, allTold}
+
+-- an order of n things, numbered from 0: which one comes k-th, and when the i-th comes. Each comes exactly once.
+pub record Order (n : ℕ) : Type 0 where
+  pub which : ℕ → ℕ
+  pub when : ℕ → ℕ
+  pub which-below : (k : ℕ) → k < n → which k < n
+  pub when-below : (i : ℕ) → i < n → when i < n
+  pub when-which : (k : ℕ) → k < n → when (which k) ≡ k
+  pub which-when : (i : ℕ) → i < n → which (when i) ≡ i
+
+-- m of them, from the k-th on
+unfoldable pub listed : {A : Type 0} → (ℕ → A) → ℕ → ℕ → List A
+listed f k zero = []
+listed f k (suc m) = f k ∷ listed f (suc k) m
+
+-- n recorded operations, r 0 to r (n − 1)
+pub record Linearization (n : ℕ) (r : ℕ → Recorded) : Type 0 where
+  pub order : Order n
+  -- an operation that is answered before another begins comes before it
+  pub real-time : (i j : ℕ) → i < n → j < n → r i .answer < r j .begin → order .when i < order .when j
+  -- the ledger, empty at first, follows every operation in this order
+  pub bag : FollowsAll emptyLedger (allTold (listed (λ k. r (order .which k)) 0 n))

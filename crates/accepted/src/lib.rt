@@ -1,0 +1,1 @@
+// Definitions for what accepted records mean; this crate has no code.
