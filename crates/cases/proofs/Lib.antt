@@ -7,3 +7,4 @@ pub mod Request3
 pub mod Request4
 pub mod Request5
 pub mod Request8
+pub mod Request9

@@ -11,6 +11,7 @@ use Rattle.region.specs.declared.answer.Answer.the-variants.{Moved, Inserted}
 use Rattle.region.specs.declared.place.Place.the-variants.{ReadRoot, ListReadRoot}
 use Rattle.region.specs.declared.record.Item.{Item}
 use Rattle.region.specs.declared.shape.Shape.{Shape}
+use Rattle.records.specs.Accepts.{recordsAnswer}
 use Rattle.cost.specs.Cost.{takeCost}
 use Rattle.layout.specs.Layout.{layoutRefusal, layoutBytes}
 use Rattle.readable.specs.Readable.{checkAnswer, frameIn}
@@ -35,6 +36,8 @@ pub data Does : Type 0 where
   costs : Does
   depths : Does
   shows : ℕ → ℕ → Does
+  -- a check of the records of a slice of this many bytes, which has these words from its first on; the region has no part in it
+  checksRecords : ℕ → List ℕ → Does
   -- these words are written into the region, which no call does, and it is checked
   writes : ℕ → List ℕ → Does
 
@@ -94,6 +97,7 @@ outcomeOf b (lists t) = leaving (takeBytes b t ListReadRoot) (answered (takeRefu
 outcomeOf b (permits t p) = leaving (permitBytes b t p) (answered (permitRefusal b t p))
 outcomeOf b (choosing c ts) = ran (length ts) (runResult b (scheduleOf c ts) 1000 (replicate (12 * length ts) 0))
 outcomeOf b (checks at ws) = leaving b (answered (checkAnswer (setWords b at ws)))
+outcomeOf b (checksRecords n ws) = leaving b (answered (recordsAnswer (setWords (replicate n 0) 0 ws)))
 outcomeOf b costs = leaving b (answered (takeCost (sharedIn (frameIn b) b)))
 outcomeOf b depths = leaving b (answered (word b 4))
 outcomeOf b (shows at n) = leaving b (shown (wordsAt b at n))
