@@ -67,6 +67,8 @@ module _ (n : ℕ) (r : ℕ → Recorded) (a : Accepted n r) where
   unfolding by-claims
   linearization =
       record {
+        begun = a .begun;
+        one-at-a-time = a .one-at-a-time;
         order = by-claims;
         real-time = real-time;
         bag =

@@ -17,7 +17,7 @@ pub record Beginning : Type 0 where
   pub number : ℕ
   pub item : Item
 
--- once moment k has told this
+-- once moment k has told this; takes of a list are left out
 abbrev pub begunAfter : (ℕ → Beginning) → ℕ → Told → ℕ → Beginning
 begunAfter begun k nothing = begun
 begunAfter begun k (beginsPut t i) = upd begun t (record { number = k; item = i })

@@ -2,6 +2,7 @@
 -- order, gives every answer.
 use Prim.Native.Nat.{ℕ, zero, suc, _<_}
 use mathlib.Core.Path.{_≡_}
+use mathlib.Core.Logic.{_⊎_}
 use mathlib.Core.List.{List, [], _∷_}
 use Rattle.theory.specs.Ledger.{emptyLedger}
 use Rattle.records.specs.declared.form.Recorded.{Recorded}
@@ -23,6 +24,10 @@ listed f k (suc m) = f k ∷ listed f (suc k) m
 
 -- n recorded operations, r 0 to r (n − 1)
 pub record Linearization (n : ℕ) (r : ℕ → Recorded) : Type 0 where
+  -- each begins before its answer, and a thread makes one at a time
+  pub begun : (i : ℕ) → i < n → r i .begin < r i .answer
+  pub one-at-a-time : (i j : ℕ) → i < n → j < n → (i ≡ j → ⊥) → r i .thread ≡ r j .thread
+      → (r i .answer < r j .begin) ⊎ (r j .answer < r i .begin)
   pub order : Order n
   -- an operation that is answered before another begins comes before it
   pub real-time : (i j : ℕ) → i < n → j < n → r i .answer < r j .begin → order .when i < order .when j
