@@ -1,26 +1,23 @@
 -- Records that follow one another in the order of their positions are accepted in whatever order they are in the slice. Assumes nothing.
-use Prim.Native.Nat.{ℕ, zero, suc, _+_, _-_, _*_, _/_, _%_, _≤_, _<_}
+use Prim.Native.Nat.{ℕ, zero, suc, _+_, _-_, _%_, _≤_, _<_}
 use native.Mathlib.Omega.{arith}
-use native.Mathlib.Decide.{ℕ-discrete}
 use mathlib.Core.Path.{_≡_, refl, sym, ap, subst, _∙_}
 use mathlib.Core.Bool.{Bool, true, false}
-use mathlib.Core.Logic.{_⊎_, inl, inr}
+use mathlib.Core.Logic.{inl, inr}
 use mathlib.Core.List.{List, [], _∷_}
 use borrow.Author.Tests.{eq-eqb, le-leb, ltb-true, ltb-false}
-use lib.Dec.{eqb, ltb}
+use lib.Dec.{ltb}
 use lib.ListN.{length, getD, drop, drop-of-length-le}
 use lib.Seq.{drop-cons}
 use Rattle.region.specs.Answer.{done}
 use Rattle.region.specs.Pick.{pick}
-use Rattle.region.proofs.Shapes.{and-both}
-use Rattle.records.specs.Accepts.{accepts, byPosition, claimant, fromPosition, recordsAnswer}
+use Rattle.records.specs.Accepts.{claimant, fromPosition, recordsAnswer}
 use Rattle.records.specs.Play.{plays}
 use Rattle.records.specs.Recorded.{allInRange, inRange, recordCount, recordedAt, wellFormed}
 use Rattle.records.specs.declared.form.Recorded.{Recorded}
 use Rattle.records.proofs.Accepted.{Accepted, OneByOne, all-accepted}
 use Rattle.records.proofs.Every.{of-each}
 use Rattle.records.proofs.InOrder.{claimant-is}
-use Rattle.accepted.specs.Linearization.{Order}
 use Rattle.accepted.specs.Slices.{HasRecords, noRecord}
 
 -- records in the order of their positions

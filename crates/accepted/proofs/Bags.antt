@@ -3,22 +3,22 @@
 use Prim.Native.Nat.{ℕ, _+_, _-_, _≤_}
 use native.Mathlib.Omega.{arith}
 use mathlib.Core.Path.{_≡_, refl, sym, ap, subst, _∙_}
-use mathlib.Core.Bool.{Bool, true, false, not, _&&_, _||_, true≢false}
+use mathlib.Core.Bool.{Bool, true, false, _&&_, _||_, true≢false}
 use mathlib.Core.List.{List, [], _∷_, _++_}
-use borrow.Author.Tests.{eqb-true, eqb-false, eq-eqb, not-true}
+use borrow.Author.Tests.{eqb-true, eqb-false, not-true}
 use lib.Dec.{eqb}
 use Rattle.region.specs.Pick.{pick, upd}
 use Rattle.region.specs.Record.{sameItem}
 use Rattle.region.specs.declared.record.Item.{Item}
 use Rattle.region.proofs.Items.{item-same, same-item}
 use Rattle.region.proofs.Picks.{upd-same, upd-other}
-use Rattle.region.proofs.Shapes.{and-left, and-right, and-both, between-least, between-most}
+use Rattle.region.proofs.Shapes.{and-left, and-right, and-both}
 use Rattle.access.specs.Order.{itemLe, itemLt}
 use Rattle.access.proofs.OrderLaws.{item-less, item-refl, item-total}
 use Rattle.theory.specs.Ledger.{Follows, Least, Ledger, Operation, emptyLedger, empty-decides, listing, none, one-item, oneLess, oneMore, owing, put-begins, put-decides, putting, stillOwing, take-answers, take-begins, take-decides, taking}
 use Rattle.theory.specs.Told.{Told, answersTook, beginsPut, beginsTake, decidesEmpty, decidesPut, decidesTake}
 use Rattle.records.specs.Play.{bagAfter, bagGives, holds, isEmptyBag, isLeast, noneLess, plays, without}
-use Rattle.records.specs.Recorded.{inRange, isPut, isTake}
+use Rattle.records.specs.Recorded.{isPut, isTake}
 use Rattle.records.specs.declared.form.Recorded.{Recorded}
 use Rattle.records.proofs.InHeap.{least-of, none-less}
 use Rattle.accepted.specs.LedgerPlay.{FollowsAll, allTold, toldOf}
@@ -98,24 +98,19 @@ unfolding bagOf isEmptyBag oneMore pick
 counts-empty [] z = refl
 counts-empty (i ∷ bag) z = absurd (let k = subst (λ q. pick q (bagOf bag i + 1) (bagOf bag i) ≡ 0) (item-same i) (z i) in omega (arith, k))
 
--- Whoever has no operation under way has none after one that is over.
-over : (op : ℕ → Operation) (t : ℕ) (o : Operation) → ((u : ℕ) → op u ≡ none) → (u : ℕ) → upd (upd op t o) t none u ≡ none
-over op t o h u = go (eqb u t) refl
-  where
-    go : (q : Bool) → eqb u t ≡ q → upd (upd op t o) t none u ≡ none
-    go true e = ap (upd (upd op t o) t none) (eqb-true u t e) ∙ upd-same (upd op t o) t none
-    go false e = upd-other (upd op t o) t u none (eqb-false u t e) ∙ upd-other op t u o (eqb-false u t e) ∙ h u
+-- Where no other thread has an operation under way: nor has any when thread t's changes, and none at all when it is over.
+abbrev OthersNone : (ℕ → Operation) → ℕ → Type 0
+OthersNone op t = (u : ℕ) → (u ≡ t → ⊥) → op u ≡ none
 
-over-twice : (op : ℕ → Operation) (t : ℕ) (o o′ : Operation) → ((u : ℕ) → op u ≡ none) → (u : ℕ) → upd (upd (upd op t o) t o′) t none u ≡ none
-over-twice op t o o′ h u = go (eqb u t) refl
+others : (op : ℕ → Operation) (t : ℕ) (o : Operation) → OthersNone op t → OthersNone (upd op t o) t
+others op t o h u n = upd-other op t u o n ∙ h u n
+
+over : (op : ℕ → Operation) (t : ℕ) → OthersNone op t → (u : ℕ) → upd op t none u ≡ none
+over op t h u = go (eqb u t) refl
   where
-    go : (q : Bool) → eqb u t ≡ q → upd (upd (upd op t o) t o′) t none u ≡ none
-    go true e = ap (upd (upd (upd op t o) t o′) t none) (eqb-true u t e) ∙ upd-same (upd (upd op t o) t o′) t none
-    go false e =
-        upd-other (upd (upd op t o) t o′) t u none (eqb-false u t e)
-        ∙ upd-other (upd op t o) t u o′ (eqb-false u t e)
-        ∙ upd-other op t u o (eqb-false u t e)
-        ∙ h u
+    go : (q : Bool) → eqb u t ≡ q → upd op t none u ≡ none
+    go true e = ap (upd op t none) (eqb-true u t e) ∙ upd-same op t none
+    go false e = others op t none h u (eqb-false u t e)
 
 -- a ledger between two operations, and the list of its bag's items
 pub record Between (l : Ledger) (bag : List Item) : Type 0 where
@@ -134,7 +129,7 @@ module _ (l : Ledger) (bag : List Item) (w : Between l bag) (t : ℕ) (i : Item)
         (
           l₂,
           put-decides (upd-same (l .operation) t (putting i)),
-          on l₂ (record { idle = over (l .operation) t (putting i) (w .idle); same = ap (λ b. oneMore b i) (w .same) }),
+          on l₂ (record { idle = over (upd (l .operation) t (putting i)) t (others (l .operation) t (putting i) (λ u n. w .idle u)); same = ap (λ b. oneMore b i) (w .same) }),
         ),
       )
 
@@ -156,7 +151,7 @@ module _ (l : Ledger) (bag : List Item) (w : Between l bag) (t : ℕ) (i : Item)
             l₃,
             take-answers (upd-same op₁ t (owing i [])),
             on l₃ (record {
-              idle = over-twice (l .operation) t taking (owing i []) (w .idle);
+              idle = over op₂ t (others op₁ t (owing i []) (others (l .operation) t taking (λ u n. w .idle u)));
               same = ap (λ b. oneLess b i) (w .same) ∙ sym (without-counts i bag (and-left (holds bag i) (noneLess bag i) e));
             }),
           ),
@@ -173,7 +168,7 @@ module _ (l : Ledger) (bag : List Item) (w : Between l bag) (t : ℕ) (i : Item)
         (
           l₂,
           empty-decides (upd-same (l .operation) t taking) one-item (λ j. ap (λ b. b j) (w .same) ∙ empty-counts bag e j),
-          on l₂ (record { idle = over (l .operation) t taking (w .idle); same = w .same }),
+          on l₂ (record { idle = over (upd (l .operation) t taking) t (others (l .operation) t taking (λ u n. w .idle u)); same = w .same }),
         ),
       )
 
@@ -219,7 +214,7 @@ module _ (l : Ledger) (bag : List Item) (w : Between l bag) (t : ℕ) (i : Item)
   put-followed l₁ l₂ (put-begins e) (put-decides {i = j} k) =
       let same : i ≡ j = ap (λ o. putItem o i) (sym (upd-same (l .operation) t (putting i)) ∙ k) in
       record {
-        idle = over (l .operation) t (putting i) (w .idle);
+        idle = over (upd (l .operation) t (putting i)) t (others (l .operation) t (putting i) (λ u n. w .idle u));
         same = ap (oneMore (l .bag)) (sym same) ∙ ap (λ b. oneMore b i) (w .same);
       }
 
@@ -238,14 +233,15 @@ module _ (l : Ledger) (bag : List Item) (w : Between l bag) (t : ℕ) (i : Item)
             record {
               idle = λ u.
                   ap (λ o. upd (upd (upd (l .operation) t taking) t (owing i [])) t o u) (ap stillOwing all)
-                  ∙ over-twice (l .operation) t taking (owing i []) (w .idle) u;
+                  ∙ over (upd (upd (l .operation) t taking) t (owing i [])) t
+                  (others (upd (l .operation) t taking) t (owing i []) (others (l .operation) t taking (λ v n. w .idle v))) u;
               same = ap (λ b. oneLess b i) (w .same) ∙ sym (without-counts i bag (and-left (holds bag i) (noneLess bag i) held));
             };
       }
 
   empty-followed : (l₁ l₂ : Ledger) → Follows (beginsTake t) l l₁ → Follows (decidesEmpty t) l₁ l₂ → (isEmptyBag bag ≡ true) × Between l₂ bag
   empty-followed l₁ l₂ (take-begins e) (empty-decides k u z) =
-      (counts-empty bag (λ j. ap (λ b. b j) (sym (w .same)) ∙ z j), record { idle = over (l .operation) t taking (w .idle); same = w .same })
+      (counts-empty bag (λ j. ap (λ b. b j) (sym (w .same)) ∙ z j), record { idle = over (upd (l .operation) t taking) t (others (l .operation) t taking (λ u n. w .idle u)); same = w .same })
 
 pub follows-plays : (rs : List Recorded) (l : Ledger) (bag : List Item) → Between l bag → FollowsAll l (allTold rs) → plays bag rs ≡ true
 unfolding plays allTold toldOf bagGives bagAfter pick

@@ -1,32 +1,32 @@
 -- The records of a history follow one another in the order of their positions: an operation begins before it decides and is answered no earlier,
 -- a thread's next one begins after its answer, and the bag gives what the ledger followed. Assumes nothing.
-use Prim.Native.Nat.{ℕ, zero, suc, _+_, _≤_, _<_}
+use Prim.Native.Nat.{ℕ, suc, _+_, _≤_, _<_}
 use native.Mathlib.Omega.{arith}
 use mathlib.Core.Path.{_≡_, refl, sym, ap, subst, _∙_}
-use mathlib.Core.Bool.{Bool, true, false, _&&_}
-use mathlib.Core.Logic.{_⊎_, inl, inr, ⊎-elim}
+use mathlib.Core.Bool.{Bool, true, false}
+use mathlib.Core.Logic.{_⊎_, ⊎-elim}
 use mathlib.Core.List.{List, [], _∷_, _++_}
-use lib.ListN.{length, getD}
-use Rattle.region.specs.Pick.{pick, upd}
+use lib.ListN.{length}
+use Rattle.region.specs.Pick.{pick}
 use Rattle.region.specs.Record.{isItem, sameItem, zeroItem}
 use Rattle.region.specs.Shape.{between}
 use Rattle.region.specs.declared.record.Item.{Item}
 use Rattle.region.proofs.Picks.{upd-same}
 use Rattle.region.proofs.Shapes.{and-both, and-left}
-use Rattle.theory.specs.Ledger.{Follows, Least, Ledger, Operation, UndecidedTake, empty-decides, ends-withdrawn, list-begins, list-decides, listing, none, one-item, oneLess, oneMore, owing, put-begins, put-decides, putting, still, stillOwing, take-answers, take-begins, take-decides, taking, whole-list}
-use Rattle.theory.specs.Told.{Told, answersTook, beginsList, decidesEmpty, decidesPut, decidesTake}
+use Rattle.theory.specs.Ledger.{Follows, Least, Ledger, empty-decides, ends-withdrawn, list-begins, list-decides, listing, none, one-item, oneLess, oneMore, owing, put-begins, put-decides, putting, still, take-answers, take-begins, take-decides, taking, whole-list}
+use Rattle.theory.specs.Told.{Told, answersTook, beginsList, decidesEmpty, decidesPut}
 use Rattle.theory.proofs.Facts.{stage}
 use Rattle.records.specs.Play.{bagAfter, bagGives, holds, isLeast, noneLess, plays, without}
 use Rattle.records.specs.Recorded.{inRange}
 use Rattle.records.specs.declared.form.Recorded.{Recorded}
 use Rattle.bag.specs.Demand3.{AnswerSays}
-use Rattle.bag.specs.History.{Event, Moment}
+use Rattle.bag.specs.History.{Moment}
 use Rattle.bag.specs.Operations.{answered}
 use Rattle.bag.specs.Told.{tells}
 use Rattle.bag.proofs.Operations.{Followed}
 use Rattle.accepted.specs.HistoryRecords.{Beginning, NoListBegins, begunAfter, decided, positionAfter, recordsAt, recordsFrom, untilAnswer}
 use Rattle.accepted.proofs.Bags.{bagOf, counts-empty, counts-least, without-counts}
-use Rattle.accepted.proofs.Begins.{AllBegin, BeginsInRange}
+use Rattle.accepted.proofs.Begins.{AllBegin}
 use Rattle.accepted.proofs.Steps.{EachOf, Fits, at-each, begun-later, decides-elsewhere, each-append, each-so, fits-next, none-stays, op-is, owing-stays, told-answered}
 
 -- How long until the answer.

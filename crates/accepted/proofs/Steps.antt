@@ -15,9 +15,9 @@ use Rattle.region.specs.declared.record.Item.{Item}
 use Rattle.region.proofs.Items.{same-item}
 use Rattle.region.proofs.Picks.{upd-other, upd-same}
 use Rattle.access.specs.Plan.{answersOperation}
-use Rattle.theory.specs.Ledger.{Follows, Ledger, Operation, Undecided, UndecidedTake, a-put, a-take, empty-decides, ends-withdrawn, list-begins, list-decides, listing, none, one-item, oneLess, oneMore, owing, put-begins, put-decides, putting, still, stillOwing, take-answers, take-begins, take-decides, taking, whole-list}
+use Rattle.theory.specs.Ledger.{Follows, Ledger, Operation, a-take, empty-decides, ends-withdrawn, list-begins, list-decides, listing, none, one-item, oneLess, oneMore, owing, put-begins, put-decides, putting, still, stillOwing, take-answers, take-begins, take-decides, taking, whole-list}
 use Rattle.theory.specs.Told.{Told, nothing, beginsPut, beginsTake, beginsList, decidesPut, decidesTake, decidesList, decidesEmpty, answersTook, withdraws}
-use Rattle.theory.proofs.Facts.{stage}
+use Rattle.theory.proofs.Facts.{stage, undecided-stage}
 use Rattle.records.specs.declared.form.Recorded.{Recorded}
 use Rattle.bag.specs.Demand3.{AnswerSays, Says, empty, idle, inserted, list-removed, moved, refused, removed, took, withdrawn}
 use Rattle.bag.specs.History.{Event, Moment, called, turned}
@@ -76,11 +76,6 @@ module _ (t a : ℕ) (begun : ℕ → Beginning) (k : ℕ) (later : a < begun t 
   begun-later (decidesEmpty u) = later
   begun-later (answersTook u i) = later
   begun-later (withdraws u) = later
-
-undecided-stage : (o : Operation) → Undecided o → (1 ≤ stage o) × (stage o ≤ 3)
-undecided-stage o a-put = (omega arith, omega arith)
-undecided-stage o (a-take one-item) = (omega arith, omega arith)
-undecided-stage o (a-take whole-list) = (omega arith, omega arith)
 
 -- Thread t's operation at a moment.
 module _ (t : ℕ) where

@@ -2,17 +2,14 @@
 -- what the calls refuse. Assumes nothing.
 use Prim.Native.Nat.{ℕ, zero, suc, _+_, _^_, _≤_, _<_}
 use native.Mathlib.Omega.{arith}
-use mathlib.Core.Path.{_≡_, refl, sym, ap, subst, _∙_}
+use mathlib.Core.Path.{_≡_, refl, ap}
 use mathlib.Core.Bool.{true}
 use mathlib.Core.List.{List, [], _∷_}
 use borrow.Author.Tests.{leb-true}
 use native.Mathlib.Decide.{ℕ-discrete}
 use lib.Dec.{leb}
 use lib.ListN.{length, getD}
-use Rattle.words.specs.Inner.{Fit}
 use Rattle.region.specs.Record.{greatestKey, greatestTag, isItem, zeroItem}
-use Rattle.region.specs.Shape.{between}
-use Rattle.region.specs.declared.record.Item.{Item}
 use Rattle.region.proofs.Shapes.{and-left, and-right, between-most}
 use Rattle.layout.specs.Layout.{layoutBytes}
 use Rattle.theory.specs.Ledger.{Ledger, emptyLedger}
@@ -25,7 +22,7 @@ use Rattle.bag.specs.Moments.{EachMoment, InEveryHistory}
 use Rattle.bag.proofs.Operations.{Followed}
 use Rattle.bag.proofs.Proved.{region-is-a-bag}
 use Rattle.accepted.specs.HistoryRecords.{NoListBegins, historyRecords}
-use Rattle.accepted.specs.Slices.{noRecord, recordedWords}
+use Rattle.accepted.specs.Slices.{noRecord}
 use Rattle.accepted.specs.Theorems.{BagIsTheLedgers, HistoriesAreAccepted, HistoriesCanBeWritten}
 use Rattle.accepted.proofs.Arranged.{InTurn, turn-accepted}
 use Rattle.accepted.proofs.Bags.{bagOf, between-none, follows-plays, plays-follows}

@@ -1,16 +1,15 @@
 -- A slice that is written from records has them, where their words fit. Assumes nothing.
-use Prim.Native.Nat.{ℕ, zero, suc, _+_, _*_, _^_, _≤_, _<_}
+use Prim.Native.Nat.{ℕ, zero, suc, _+_, _*_, _<_}
 use native.Mathlib.Omega.{arith}
-use mathlib.Core.Path.{_≡_, refl, sym, ap, subst, _∙_}
+use mathlib.Core.Path.{_≡_, refl, ap, _∙_}
 use mathlib.Core.List.{List, [], _∷_, _++_}
 use lib.ListN.{length, getD, replicate, length-replicate, List·getD-append}
 use lib.Seq.{getD-append-add}
 use Rattle.words.specs.Inner.{Fit}
-use Rattle.words.specs.Word.{setWords, word, wordsAt}
+use Rattle.words.specs.Word.{word}
 use Rattle.words.proofs.Laws.{length-setWords, word-stored}
 use Rattle.records.specs.Recorded.{recordedAt}
 use Rattle.records.specs.declared.form.Recorded.{Recorded}
-use Rattle.accepted.specs.Linearization.{Order}
 use Rattle.accepted.specs.Slices.{HasRecords, noRecord, recordWords, recordedWords, written}
 
 length-words : (rs : List Recorded) → length (recordWords rs) ≡ 7 * length rs

@@ -1,6 +1,5 @@
 -- Recorded operations in the words of demand 3: each one begins, decides and is answered before the next, and the ledger of
 -- crates/theory/specs/Ledger.antt follows.
-use Prim.Native.Nat.{ℕ}
 use mathlib.Core.List.{List, [], _∷_, _++_}
 use Rattle.region.specs.Pick.{pick}
 use Rattle.theory.specs.Ledger.{Follows, Ledger}

@@ -15,9 +15,9 @@ use Rattle.region.specs.declared.record.Item.{Item}
 use Rattle.region.proofs.Picks.{upd-same}
 use Rattle.access.specs.declared.effect.Effect.{Effect}
 use Rattle.access.specs.declared.effect.Effect.the-variants.{Nothing, Grow, Push, Pop, Exchange, Clean, Detach, Free}
-use Rattle.theory.specs.Ledger.{Ledger, Operation, Undecided, UndecidedTake, a-put, a-take, none, one-item, owing, putting, listing, stillOwing, taking, whole-list, Follows, still, put-begins, take-begins, list-begins, put-decides, take-decides, list-decides, empty-decides, take-answers, ends-withdrawn}
+use Rattle.theory.specs.Ledger.{Ledger, Operation, none, owing, putting, listing, stillOwing, taking, Follows, still, put-begins, take-begins, list-begins, put-decides, take-decides, list-decides, empty-decides, take-answers, ends-withdrawn}
 use Rattle.theory.specs.Told.{Told, nothing, beginsPut, beginsTake, beginsList, decidesPut, decidesTake, decidesList, decidesEmpty, answersTook, withdraws}
-use Rattle.theory.proofs.Facts.{stage}
+use Rattle.theory.proofs.Facts.{stage, take-stage, undecided-stage}
 use Rattle.theory.proofs.Sorted.{Sorted}
 use Rattle.theory.proofs.Steps.{effectTells, quietTells}
 use Rattle.bag.specs.Demand3.{AnswerSays, Says, moved, removed, list-removed, idle, inserted, took, empty, refused, withdrawn}
@@ -139,14 +139,6 @@ module _ (t : ℕ) where
         go : (q : Bool) → eqb t u ≡ q → Pays x owed (upd op u o′ t)
         go true k = absurd (not-owing owed o least most (sym here ∙ ap op (eqb-true t u k) ∙ e))
         go false k = untouched (upd op u o′ t) (elsewhere t op u o′ k)
-
-  take-stage : (o : Operation) → UndecidedTake o → (1 ≤ stage o) × (stage o ≤ 3)
-  take-stage o one-item = (omega arith, omega arith)
-  take-stage o whole-list = (omega arith, omega arith)
-
-  undecided-stage : (o : Operation) → Undecided o → (1 ≤ stage o) × (stage o ≤ 3)
-  undecided-stage o a-put = (omega arith, omega arith)
-  undecided-stage o (a-take h) = take-stage o h
 
   -- an answer took: t's own pays the first item owed
   module _ (op : ℕ → Operation) (u : ℕ) (i : Item) (is : List Item) (e : op u ≡ owing i is) where

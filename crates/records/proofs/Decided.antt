@@ -1,8 +1,7 @@
 -- What the walks tell together is acceptance, and the ways out of the two functions above them, over plain variables. Assumes nothing.
-use Prim.Native.Nat.{ℕ, suc, _-_, _/_, _≤_, _<_}
-use native.Mathlib.Omega.{arith}
-use mathlib.Core.Path.{_≡_, refl, sym, ap, subst, _∙_}
-use mathlib.Core.Bool.{Bool, true, false, not, _&&_}
+use Prim.Native.Nat.{ℕ, suc, _-_, _/_}
+use mathlib.Core.Path.{_≡_, refl, sym, ap, _∙_}
+use mathlib.Core.Bool.{Bool, true, false, not}
 use mathlib.Core.List.{List, []}
 use borrow.Author.Tests.{lt-ltb, eq-eqb, not-true, not-false}
 use lib.Dec.{eqb}
@@ -11,7 +10,7 @@ use Rattle.region.specs.Answer.{done, badRecords}
 use Rattle.region.specs.Pick.{pick}
 use Rattle.region.specs.Shape.{between}
 use Rattle.region.proofs.Shapes.{and-both, is-between}
-use Rattle.records.specs.Accepts.{accepts, beginsBeforeAnswer, byPosition, claimant, differ, eachTwo, inRealTime, isClaimed, oneByOne, positionsFit, recordsAnswer, rejected}
+use Rattle.records.specs.Accepts.{accepts, beginsBeforeAnswer, byPosition, claimant, isClaimed, positionsFit, recordsAnswer, rejected}
 use Rattle.records.specs.Inner.{AllZero, InOrder, InTime, PutInOrder, ToPlay, ToTime, WellFormed}
 use Rattle.records.specs.Play.{plays}
 use Rattle.records.specs.Recorded.{every, recordedAt, wellFormed}

@@ -1,16 +1,15 @@
 -- The bag as a heap of packed items: the top is the least item, a push adds one, a pop removes one; and the ways out of one play, over plain
 -- variables. Assumes nothing.
-use Prim.Native.Nat.{ℕ, zero, suc, _+_, _-_, _*_, _≤_, _<_}
+use Prim.Native.Nat.{ℕ, suc, _+_, _-_, _≤_}
 use native.Mathlib.Omega.{arith}
 use mathlib.Core.Path.{_≡_, refl, sym, ap, subst, _∙_}
-use mathlib.Core.Bool.{Bool, true, false, not, _&&_, _||_, true≢false}
+use mathlib.Core.Bool.{Bool, true, false, not, _||_, true≢false}
 use mathlib.Core.List.{List, [], _∷_}
-use borrow.Author.Tests.{eqb-true, eqb-false, ltb-true, ltb-false, leb-true, leb-false, lt-ltb, le-leb, eq-eqb, ne-eqb}
+use borrow.Author.Tests.{eqb-true, eqb-false, ltb-true, leb-true, lt-ltb, le-leb, eq-eqb, ne-eqb}
 use lib.Dec.{eqb, ltb, leb}
 use lib.ListN.{length, getD}
 use Rattle.region.specs.Pick.{pick}
-use Rattle.region.specs.Record.{greatestTag, isItem, sameItem, zeroItem}
-use Rattle.region.specs.Shape.{between}
+use Rattle.region.specs.Record.{greatestTag, isItem, sameItem}
 use Rattle.region.specs.declared.record.Item.{Item}
 use Rattle.region.proofs.Items.{item-same, same-item}
 use Rattle.region.proofs.Shapes.{and-left, and-right, and-both, between-least, between-most}
@@ -19,9 +18,7 @@ use Rattle.heap.specs.Heap.{Popped, Pushed, copies}
 use Rattle.heap.proofs.Laws.{Held, entry-held, held-somewhere, top-least}
 use Rattle.records.specs.Inner.{AllItems, InHeap, PlayedOne, ToPlayOne, packed, packedCopies}
 use Rattle.records.specs.Play.{bagAfter, bagGives, holds, isEmptyBag, isLeast, noneLess, without}
-use Rattle.records.specs.Recorded.{inRange, isEmpty, isPut, isTake}
 use Rattle.records.specs.declared.form.Recorded.{Recorded}
-use Rattle.records.specs.declared.play.Played.{Played}
 use Rattle.records.proofs.Every.{or-left, or-right}
 use Rattle.records.proofs.Ranges.{range-item, range-kind}
 

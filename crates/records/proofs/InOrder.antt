@@ -12,8 +12,8 @@ use lib.ListN.{length, getD, set, length-set}
 use lib.Seq.{getD-set-same, getD-set-other}
 use Rattle.region.specs.Pick.{pick}
 use Rattle.region.proofs.Shapes.{between-most}
-use Rattle.records.specs.Accepts.{accepts, claimant}
-use Rattle.records.specs.Inner.{AllZero, AtPosition, InOrder, InWalk, PutInOrder, ToOrder, WellFormed}
+use Rattle.records.specs.Accepts.{claimant}
+use Rattle.records.specs.Inner.{AtPosition, InWalk, PutInOrder, ToOrder}
 use Rattle.records.specs.Recorded.{inRange, recordedAt}
 use Rattle.records.specs.declared.form.Recorded.{Recorded}
 use Rattle.records.proofs.Accepted.{Accepted, not-accepted}

@@ -12,7 +12,7 @@ use lib.ListN.{length, getD, set, length-set}
 use lib.Seq.{getD-set-same, getD-set-other}
 use Rattle.region.specs.Pick.{pick}
 use Rattle.records.specs.Accepts.{claimant}
-use Rattle.records.specs.Inner.{AllZero, InOrder, InTime, ToTime, ended, later}
+use Rattle.records.specs.Inner.{InOrder, InTime, ToTime, ended, later}
 use Rattle.records.specs.Recorded.{recordedAt}
 use Rattle.records.specs.declared.form.Recorded.{Recorded}
 use Rattle.records.proofs.Accepted.{Accepted, InRealTime, OneByOne, all-in-real-time, all-one-by-one, not-accepted}

@@ -3,15 +3,15 @@
 use Prim.Native.Nat.{ℕ, suc, _+_, _-_, _≤_, _<_}
 use native.Mathlib.Omega.{arith}
 use native.Mathlib.Numerals.{add-one}
-use mathlib.Core.Path.{_≡_, refl, sym, ap, subst, _∙_}
-use mathlib.Core.Bool.{Bool, true, false, not, _&&_}
-use mathlib.Core.List.{List, [], _∷_}
+use mathlib.Core.Path.{_≡_, refl, sym, ap, _∙_}
+use mathlib.Core.Bool.{true, false, not, _&&_}
+use mathlib.Core.List.{List, []}
 use borrow.Author.Tests.{not-true, not-false}
 use lib.ListN.{length}
 use Rattle.region.specs.declared.record.Item.{Item}
 use Rattle.heap.specs.Heap.{copies}
 use Rattle.records.specs.Accepts.{byPosition, claimant, fromPosition}
-use Rattle.records.specs.Inner.{AllZero, InHeap, PlayedOne, ToPlay, packedCopies}
+use Rattle.records.specs.Inner.{InHeap, PlayedOne, ToPlay, packedCopies}
 use Rattle.records.specs.Play.{bagAfter, bagGives, plays}
 use Rattle.records.specs.Recorded.{recordedAt}
 use Rattle.records.specs.declared.form.Recorded.{Recorded}

@@ -1,10 +1,10 @@
 -- Records in range: what the test says, and the ways out of the functions that make it, over plain variables. Assumes nothing.
-use Prim.Native.Nat.{ℕ, zero, suc, _+_, _*_, _/_, _%_, _≤_, _<_}
+use Prim.Native.Nat.{ℕ, zero, suc, _+_, _/_, _%_, _≤_, _<_}
 use native.Mathlib.Omega.{arith}
 use mathlib.Core.Path.{_≡_, refl, sym, subst, _∙_}
 use mathlib.Core.Bool.{Bool, true, false, not, _&&_, true≢false}
 use mathlib.Core.List.{List}
-use borrow.Author.Tests.{eqb-true, eqb-false, leb-true, lt-leb, le-leb, eq-eqb, ne-eqb, not-true, not-false}
+use borrow.Author.Tests.{leb-true, lt-leb, le-leb, eq-eqb, ne-eqb, not-true, not-false}
 use lib.Dec.{eqb, leb}
 use lib.ListN.{length, getD, replicate, length-replicate}
 use Rattle.region.specs.Pick.{pick}
@@ -14,7 +14,7 @@ use Rattle.region.specs.declared.record.Item.{Item}
 use Rattle.region.proofs.Items.{same-item}
 use Rattle.region.proofs.Shapes.{and-left, and-right}
 use Rattle.records.specs.Inner.{AllZero, WellFormed}
-use Rattle.records.specs.Recorded.{allInRange, inRange, isEmpty, recordCount, recordedAt, wellFormed}
+use Rattle.records.specs.Recorded.{allInRange, inRange, isEmpty, recordedAt, wellFormed}
 use Rattle.records.specs.declared.form.Recorded.{Recorded}
 use Rattle.records.proofs.Every.{each-of, of-each, upto}
 

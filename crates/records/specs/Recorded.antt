@@ -1,6 +1,6 @@
 -- The records of a native build (document 02, request 9): "records of seven words: kind, thread, begin time, answer time, claimed position, key,
 -- tag", and the refusal of those that are not in range.
-use Prim.Native.Nat.{ℕ, zero, suc, _+_, _*_, _/_, _%_}
+use Prim.Native.Nat.{ℕ, zero, suc, _*_, _/_, _%_}
 use mathlib.Core.Bool.{Bool, true, false, _&&_, _||_}
 use mathlib.Core.List.{List}
 use lib.Dec.{leb, eqb}

@@ -21,7 +21,7 @@ use Rattle.region.specs.declared.thread.Search.{Search}
 use Rattle.region.specs.declared.thread.Thread.{Thread}
 use Rattle.access.specs.Order.{itemLe, val, valueOf}
 use Rattle.access.specs.Read.{readNode}
-use Rattle.theory.specs.Ledger.{Operation, none, putting, taking, listing, owing}
+use Rattle.theory.specs.Ledger.{Operation, Undecided, UndecidedTake, a-put, a-take, listing, none, one-item, owing, putting, taking, whole-list}
 use Rattle.theory.proofs.Chains.{HasItems, ItemsStay}
 use Rattle.theory.proofs.Effects.{Rely}
 use Rattle.theory.proofs.Sorted.{AtMost, Proper}
@@ -200,6 +200,15 @@ stage (putting i) = 1
 stage taking = 2
 stage listing = 3
 stage (owing i is) = 4
+
+-- one that has not decided
+pub take-stage : (o : Operation) → UndecidedTake o → (1 ≤ stage o) × (stage o ≤ 3)
+take-stage o one-item = (omega arith, omega arith)
+take-stage o whole-list = (omega arith, omega arith)
+
+pub undecided-stage : (o : Operation) → Undecided o → (1 ≤ stage o) × (stage o ≤ 3)
+undecided-stage o a-put = (omega arith, omega arith)
+undecided-stage o (a-take h) = take-stage o h
 
 module _ (s : Shape) (m : Shared) (t : Thread) (op : Operation) where
   puts-busy : Puts m t op → stage op ≡ 0 → ⊥

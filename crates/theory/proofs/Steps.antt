@@ -18,7 +18,7 @@ use Rattle.region.specs.declared.place.Place.the-variants.{Idle as AtRest, Read
 use Rattle.region.specs.declared.record.Item.{Item}
 use Rattle.region.specs.declared.shape.Shape.{Shape}
 use Rattle.region.specs.declared.thread.Thread.{Thread}
-use Rattle.region.proofs.Items.{same-item, item-same, same-item-either}
+use Rattle.region.proofs.Items.{item-same, same-item-either}
 use Rattle.region.proofs.Picks.{upd-same, upd-other}
 use Rattle.access.specs.Effect.{effectShared}
 use Rattle.access.specs.Order.{topItem, val, valueOf}
