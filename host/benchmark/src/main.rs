@@ -3,6 +3,7 @@
 
 mod heap;
 mod measure;
+mod native;
 mod play;
 mod record;
 mod work;
@@ -45,6 +46,11 @@ const GROWTH: &str = "
 How cost grows with D, T 4: a check looks at the whole region, a turn at one place of it. The turn
 is one of 4,096 in a run of puts that find no leaf, all of them accesses.";
 
+const RECORDS: &str = "
+A check of records from a simulated run of 8 threads, puts, takes and empties: accepted, and refused
+for the kind of the first record. The share is that of a check in relation to one of all 1,024
+records, both by the library.";
+
 fn main() {
     println!("The proved library beside the plain Rust implementation.");
     if cfg!(debug_assertions) {
@@ -60,6 +66,7 @@ fn main() {
     checks();
     permits();
     growth();
+    records();
 }
 
 /// A turn, in long runs and in runs of one.
@@ -223,6 +230,31 @@ fn growth() {
             turn.ratio
         );
     }
+}
+
+/// Checks of records by their number, and one that ends at the first of them.
+fn records() {
+    println!("{RECORDS}");
+    println!(
+        "{:>8}{:>9}{:>11}{:>10}{:>10}{:>8}{:>9}",
+        "records", "bytes", "", "library", "plain", "ratio", "share"
+    );
+    let most = Work::records(1024, 10);
+    for operations in [16, 64, 256, 1024] {
+        // Checks of few records are timed together.
+        let work = Work::records(operations, 10_240 / operations as usize);
+        records_row("accepted", operations, &work, &most);
+    }
+    records_row("refused", 1024, &Work::records(1024, 10_240).with_bad_word(0), &most);
+}
+
+fn records_row(name: &str, operations: u32, work: &Work, most: &Work) {
+    let Times { library, plain, ratio } = measure(work, work.call_count());
+    let share = share(work, most);
+    println!(
+        "{operations:>8}{:>9}{name:>11}{library:>10.1}{plain:>10.1}{ratio:>8.2}{share:>9.4}",
+        work.start.len()
+    );
 }
 
 fn of_depth(depth: u32) -> Shape {

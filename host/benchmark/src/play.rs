@@ -1,4 +1,4 @@
-//! Calls played on a region, by the library or by the plain implementation.
+//! Calls played on a region, or on records, by the library or by the plain implementation.
 
 use std::hint::black_box;
 use std::ops::Range;
@@ -10,7 +10,7 @@ use crate::work::Work;
 /// A key with a tag.
 pub type Item = (u32, u32);
 
-/// A call on a region.
+/// A call on a region, or on records.
 #[derive(Clone)]
 pub enum Call {
     Put {
@@ -30,6 +30,8 @@ pub enum Call {
     /// A run of these turns of the work's schedule, without a limit.
     Run(Range<usize>),
     Check,
+    /// A check of records, which the bytes are instead of a region.
+    Records,
 }
 
 /// An implementation of the calls. Their answers are computed and not looked at.
@@ -40,6 +42,7 @@ pub trait Queue {
     fn permit(region: &mut [u8], thread: u32, permission: u32);
     fn run(region: &mut [u8], schedule: &[u8], answers: &mut [u8]);
     fn check(region: &[u8]);
+    fn records(records: &[u8]);
 }
 
 /// The proved library.
@@ -68,6 +71,10 @@ impl Queue for Library {
 
     fn check(region: &[u8]) {
         black_box(calls::check(black_box(region)));
+    }
+
+    fn records(records: &[u8]) {
+        black_box(calls::records(black_box(records)));
     }
 }
 
@@ -98,6 +105,10 @@ impl Queue for Plain {
     fn check(region: &[u8]) {
         _ = black_box(plain::check(black_box(region)));
     }
+
+    fn records(records: &[u8]) {
+        _ = black_box(plain::check_records_by_position(black_box(records)));
+    }
 }
 
 /// Makes the calls of a work, one after the other.
@@ -112,6 +123,7 @@ pub fn play<Q: Queue>(work: &Work, region: &mut [u8], answers: &mut [u8]) {
                 Q::run(region, &work.schedule[8 * turns.start..8 * turns.end], answers);
             }
             Call::Check => Q::check(region),
+            Call::Records => Q::records(region),
         }
     }
 }

@@ -1,7 +1,8 @@
-//! What is measured: calls on a region, with the region as it stands before them.
+//! What is measured: calls on a region, with the region as it stands before them; or on records.
 
-use mound::{Permission, Shape};
+use mound::{Permission, Record, Shape, Verdict};
 
+use crate::native;
 use crate::play::Call;
 use crate::record::Recorder;
 
@@ -11,7 +12,7 @@ pub const PAIRS: u32 = 32;
 /// Calls to be made on a region.
 #[derive(Default)]
 pub struct Work {
-    /// The region before the calls.
+    /// The region before the calls, or the records.
     pub start: Vec<u8>,
     pub calls: Vec<Call>,
     /// The turns of all runs, eight bytes each.
@@ -128,7 +129,16 @@ impl Work {
         work
     }
 
-    /// The same calls on a region in which the word behind this many others is out of any range.
+    /// This many checks of the records of so many operations, which are accepted.
+    pub fn records(operations: u32, checks: usize) -> Work {
+        let records = native::records(operations);
+        let start: Vec<u8> = records.into_iter().flat_map(Record::to_bytes).collect();
+        assert_eq!(mound::check_records(&start), Ok(Verdict::Accepted));
+        assert_eq!(plain::check_records_by_position(&start), Ok(Verdict::Accepted));
+        Work { start, calls: vec![Call::Records; checks], ..Work::default() }
+    }
+
+    /// The same calls on bytes in which the word behind this many others is out of any range.
     pub fn with_bad_word(mut self, words_before: usize) -> Work {
         self.start[4 * words_before..][..4].copy_from_slice(&u32::MAX.to_le_bytes());
         self

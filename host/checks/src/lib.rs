@@ -10,7 +10,9 @@
 pub mod beginnings;
 pub mod fields;
 pub mod leaves;
+pub mod native;
 pub mod program;
 pub mod queue;
 pub mod random;
+pub mod recorder;
 pub mod values;

@@ -2,11 +2,12 @@
 //!
 //! A call may be given anything at all. It answers 0 for done or yes, and otherwise the number of
 //! the [`Refusal`](crate::Refusal) that applies first in the call's order; [`run`] answers its
-//! counts beside that number. A refused call changes no byte. All unsafe code of the crate is in
-//! this file.
+//! counts beside that number, and [`records`] 255 for a no. A refused call changes no byte. All
+//! unsafe code of the crate is in this file.
 //!
-//! A program uses [`Region`](crate::Region). These functions are for those who keep schedules and
-//! answers as bytes, or who want the refusal of bytes that are not readable from every call.
+//! A program uses [`Region`](crate::Region) and [`check_records`](crate::check_records). These
+//! functions are for those who keep schedules and answers as bytes, or who want the refusal of
+//! bytes that are not readable from every call.
 //!
 //! ```
 //! use mound::{calls, Refusal};
@@ -63,6 +64,8 @@ mod exported {
         ) -> u64;
 
         pub fn mound_check(region: *const u8, region_len: usize) -> u32;
+
+        pub fn mound_records(records: *const u8, records_len: usize) -> u32;
     }
 }
 
@@ -181,4 +184,17 @@ pub fn check(region: &[u8]) -> u32 {
     // SAFETY: the pointer goes with the slice's own length. The slice is lent for the call, in
     // which the library only reads it; it does not keep the pointer.
     unsafe { exported::mound_check(region.as_ptr(), region.len()) }
+}
+
+/// Checks the records of a queue that runs on several cores, seven words each: kind, thread, begin
+/// time, answer time, position, key, tag. Answers 0 for yes and 255 for no; what is accepted is
+/// said at [`check_records`](crate::check_records).
+///
+/// Refusal: 12 (a part of a record, over 1,024 of them, or a kind, thread, key or tag out of its
+/// range), found before anything is compared. Cost: each record is looked at four times; a put and
+/// a take compare as many items as a heap has levels.
+#[must_use = "the number says whether the records are accepted"]
+pub fn records(records: &[u8]) -> u32 {
+    // SAFETY: as in `check`.
+    unsafe { exported::mound_records(records.as_ptr(), records.len()) }
 }

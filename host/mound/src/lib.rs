@@ -44,6 +44,9 @@
 //! # }
 //! ```
 //!
+//! A queue of another make, one that runs on several cores, can have the records of its operations
+//! checked by [`check_records`]; that needs no region.
+//!
 //! # Depending on it
 //!
 //! ```toml
@@ -68,13 +71,14 @@
 //! | [`Region::run`], [`Region::run_into`] | 6 schedule | a check, then its turns |
 //! | [`Region::check`] | none | a check |
 //! | [`Region::is_idle`], [`Region::permission`] | 3 thread | five words |
+//! | [`check_records`] | 12 records | each record four times, a heap's comparisons |
 //!
 //! A check reads the words that have a range, in order, up to the first that is out of it; so it
 //! grows with the region. A turn makes at most one access, whatever the size of the region. Inside
 //! a run a turn may be refused 3 or 7, be withdrawn, or be refused 11, the first that applies; that
 //! is its [`Answer`], and the run goes on.
 //!
-//! [`Region`] is what a program uses. [`calls`] are the library's functions on plain numbers and
+//! [`Region`] is what a program uses for a queue. [`calls`] are the library's functions on plain numbers and
 //! byte slices. What the words of a region are, what each call does to them and what is proved of
 //! it is in docs/REFERENCE.md at the root of the repository.
 
@@ -89,6 +93,7 @@ mod answer;
 pub mod calls;
 mod damage;
 mod permission;
+mod records;
 mod refusal;
 mod region;
 mod run;
@@ -98,6 +103,7 @@ mod words;
 pub use answer::{Answer, NotAnAnswer};
 pub use damage::{Damage, OutOfRange, Part};
 pub use permission::Permission;
+pub use records::{check_records, Operation, Record, Verdict};
 pub use refusal::{NotARefusal, Refusal};
 pub use region::Region;
 pub use run::{Answers, Run, Served, Turn};

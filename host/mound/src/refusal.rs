@@ -44,10 +44,13 @@ pub enum Refusal {
     NoFreeCell = 10,
     /// 11: an update whose comparison holds meets a counter of 4,294,967,295.
     CounterSpent = 11,
+    /// 12: the records to check are not whole, or over 1,024; or a kind, a thread, a key or a tag
+    /// of them is outside its range.
+    Records = 12,
 }
 
 impl Refusal {
-    const ALL: [Refusal; 11] = [
+    const ALL: [Refusal; 12] = [
         Refusal::Shape,
         Refusal::RegionLength,
         Refusal::Thread,
@@ -59,6 +62,7 @@ impl Refusal {
         Refusal::Busy,
         Refusal::NoFreeCell,
         Refusal::CounterSpent,
+        Refusal::Records,
     ];
 
     /// The refusal's number, as the library answers it.
@@ -115,6 +119,9 @@ impl fmt::Display for Refusal {
             Refusal::Busy => "the thread is busy",
             Refusal::NoFreeCell => "no cell is free",
             Refusal::CounterSpent => "an update meets a counter that cannot grow",
+            Refusal::Records => {
+                "the records are not whole, or over 1,024, or a field of them is outside its range"
+            }
         };
         write!(f, "refused {}: {reason}", self.number())
     }

@@ -5,6 +5,9 @@
 //! from the crate `mound`, and shares no code with the library. The calls are functions on a
 //! region's bytes; [`Machine`] is a region that is checked once and then used, [`turn()`] serves
 //! one turn by itself, and [`take_cost()`] tells how many accesses a take would make.
+//! [`check_records`] checks records of a queue that runs on several cores, with the types
+//! [`Record`](mound::Record), [`Operation`](mound::Operation) and [`Verdict`](mound::Verdict);
+//! [`check_records_by_position`] is the same, made to be fast.
 //!
 //! ```
 //! use mound::{Answer, Refusal, Shape};
@@ -25,11 +28,14 @@
 mod cost;
 mod extract;
 mod fields;
+mod heap;
 mod insert;
 mod layout;
 mod machine;
 mod memory;
 mod moundify;
+mod native_by_position;
+mod native_records;
 mod parts;
 mod readable;
 mod record;
@@ -43,6 +49,8 @@ use mound::{Answer, Refusal};
 
 pub use layout::layout;
 pub use machine::Machine;
+pub use native_by_position::check_records_by_position;
+pub use native_records::check_records;
 pub use readable::check;
 pub use run::run;
 

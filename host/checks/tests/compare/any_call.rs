@@ -74,7 +74,7 @@ pub fn permit(random: &mut Random, region: &mut [u8], threads: u32) -> Outcome {
 }
 
 /// A thread, one in ten of which does not exist.
-fn any_thread(random: &mut Random, threads: u32) -> u32 {
+pub fn any_thread(random: &mut Random, threads: u32) -> u32 {
     match random.among(0..=9) {
         0 => random.one_of(&[0, threads + 1, 65, u32::MAX]),
         _ => random.among(1..=threads),
@@ -113,7 +113,7 @@ pub fn schedule(random: &mut Random, threads: u32, turns: u32) -> Vec<u8> {
 }
 
 /// Lays out again by a shape or permissions that are refused.
-fn refused_layout(random: &mut Random, region: &mut [u8], shape: Shape) -> u32 {
+pub fn refused_layout(random: &mut Random, region: &mut [u8], shape: Shape) -> u32 {
     let mut permissions = random.permissions(shape);
     let mut other = shape;
     match random.among(0..=3) {

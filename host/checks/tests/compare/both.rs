@@ -4,7 +4,7 @@ use std::fmt::Debug;
 use std::ops::Range;
 
 use checks::random::Random;
-use mound::{calls, Answer, Refusal, Served, Shape};
+use mound::{calls, Answer, Refusal, Served, Shape, Verdict};
 
 /// Random bytes before and after a lent slice that no call may touch.
 const GUARD: usize = 40;
@@ -175,6 +175,29 @@ pub fn is_readable(region: &[u8]) -> bool {
     number == 0
 }
 
+/// Checks records; the fast checker must answer the same as the two.
+pub fn check_records(random: &mut Random, records: &[u8]) -> u32 {
+    let due = verdict_number(plain::check_records_by_position(records));
+    let number = change(
+        random,
+        [&mut records.to_vec()],
+        || format!("check of records in {:?}", Start(records)),
+        |[records]| calls::records(records),
+        |[records]| verdict_number(plain::check_records(records)),
+    );
+    assert_eq!(number, due, "fast check of records in {:?}", Start(records));
+    number
+}
+
+/// The verdict on records as the library would number it.
+fn verdict_number(result: Result<Verdict, Refusal>) -> u32 {
+    match result {
+        Ok(Verdict::Accepted) => 0,
+        Ok(Verdict::Rejected) => 255,
+        Err(refusal) => refusal.number(),
+    }
+}
+
 /// A result as the library would number it.
 pub fn number_of(result: Result<(), Refusal>) -> u32 {
     result.map_or_else(Refusal::number, |()| 0)
@@ -194,7 +217,7 @@ fn answer(bytes: &[u8]) -> Answer {
     Answer::try_from([word(0), word(1), word(2)]).expect("an answer's words")
 }
 
-/// Shows a region's length and first bytes.
+/// Shows the length and the first bytes of a region or of records.
 struct Start<'a>(&'a [u8]);
 
 impl Debug for Start<'_> {

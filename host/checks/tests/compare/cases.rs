@@ -1,6 +1,6 @@
 //! The cases of document 01, from A to M, and those of request 3. Those of request 1 are in
 //! `lists.rs`, those of request 2 in `items.rs`, those of request 5 in `permits.rs`, those of
-//! request 8 in `leaves_tried.rs`.
+//! request 8 in `leaves_tried.rs`, those of request 9 in `native_records/cases.rs`.
 
 use checks::fields::{place, FIRST_FREE_CELL, PRESENT_DEPTH};
 use checks::queue::{Item, Queue, SMALL};

@@ -21,6 +21,7 @@ mod layout;
 mod leaves_tried;
 mod length;
 mod lists;
+mod native_records;
 mod permits;
 mod put_ceiling;
 mod readable;

@@ -21,6 +21,8 @@ pub enum Outcome {
     /// A turn that was not refused, by its answer's code.
     Turn(u32),
     RefusedTurn(u32),
+    /// A check of records, 255 for a no.
+    Records(u32),
 }
 
 /// A kind of try at the greatest depth, request 8.

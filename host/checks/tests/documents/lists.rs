@@ -1,7 +1,7 @@
 //! Tables, header and crates.txt list what there is, with its numbers.
 
 use checks::fields::place;
-use mound::{Answer, Permission, Refusal, Shape, Turn};
+use mound::{Answer, Operation, Permission, Record, Refusal, Shape, Turn};
 
 use crate::repository::text;
 
@@ -87,8 +87,12 @@ fn the_header_has_every_answer() {
 }
 
 #[test]
-fn the_header_has_permissions_and_ranges() {
+fn the_header_has_permissions_kinds_and_ranges() {
     let largest = Shape::LARGEST;
+    let kind = |operation| {
+        let record = Record { operation, thread: 1, begin: 1, answer: 2, position: 1 };
+        u64::from(record.words()[0])
+    };
     let constants = [
         ("MOUND_MAY_NOTHING", Permission::NONE.value().into()),
         ("MOUND_MAY_PUT", Permission::PUT.value().into()),
@@ -100,6 +104,10 @@ fn the_header_has_permissions_and_ranges() {
         ("MOUND_GREATEST_KEY", u64::from(u32::MAX) - 1),
         ("MOUND_GREATEST_TAG", u16::MAX.into()),
         ("MOUND_MOST_TURNS", Turn::MOST as u64),
+        ("MOUND_MOST_RECORDS", Record::MOST as u64),
+        ("MOUND_KIND_PUT", kind(Operation::Put { key: 0, tag: 0 })),
+        ("MOUND_KIND_TAKE", kind(Operation::Take { key: 0, tag: 0 })),
+        ("MOUND_KIND_EMPTY", kind(Operation::Empty)),
     ];
     for (name, value) in constants {
         assert_eq!(header_constant(name), Some(value), "{name}");
@@ -110,7 +118,7 @@ fn the_header_has_permissions_and_ranges() {
 fn header_and_reference_have_every_call() {
     let [header, reference] = ["include/mound.h", "docs/REFERENCE.md"].map(text);
     let calls = exported();
-    assert!(calls.len() >= 7, "{calls:?}");
+    assert!(calls.len() >= 8, "{calls:?}");
     for call in calls {
         assert!(header.contains(&format!(" {call}(")), "include/mound.h lacks {call}");
         assert!(reference.contains(&format!("\n### {call}\n")), "docs/REFERENCE.md lacks {call}");

@@ -63,6 +63,8 @@ pub enum Disagreement {
     /// A put begun at the greatest depth is not inserted within its ceiling, though nobody else
     /// moves.
     PutTakesTooLong { thread: u32 },
+    /// Request 9's check does not accept the records of the history.
+    RecordsNotAccepted,
 }
 
 /// A thread's operation, as far as the bag is told.

@@ -1,6 +1,7 @@
-//! Where a check ends: at the first field out of range. The bytes up to that field, or up to the
-//! end of the words that are looked at together, stand at the end of memory that may be read, the
-//! rest of the region behind it, where a read ends this program by a fault. No test measures time.
+//! Where a check ends: at the first field out of range, or at the first record. The bytes up to that
+//! field, or up to the end of the words that are looked at together, stand at the end of memory that
+//! may be read, the rest of the region behind it, where a read ends this program by a fault. No test
+//! measures time.
 #![cfg(target_os = "linux")]
 
 mod memory;
@@ -10,6 +11,7 @@ use std::os::unix::process::ExitStatusExt;
 use std::process::Command;
 
 use checks::fields::Words;
+use checks::native::{accepted_records, bytes_of, KIND};
 use checks::random::Random;
 use mound::{Refusal, Shape};
 
@@ -63,6 +65,27 @@ fn each_word_of_the_shape() {
         let bytes = region.with(at, value).bytes();
         let answer = memory.check(&bytes[..4 * SHAPE_WORDS], length);
         assert_eq!(answer, Refusal::Unreadable.number(), "word {at} set to {value}");
+    }
+}
+
+/// The records behind the first one out of range, and all of slices that are no whole records or too
+/// many of them.
+#[test]
+fn records_that_are_refused() {
+    let (memory, random) = (&mut Memory::new(), &mut Random::new(42));
+    let refused = Refusal::Records.number();
+    for count in [1, 2, 10, 1024] {
+        let records = accepted_records(random, count);
+        let bytes = bytes_of(&records);
+        assert_eq!(memory.records(&bytes, bytes.len()), 0);
+        for bad in [0, count / 2, count - 1] {
+            let mut first = records[..=bad].to_vec();
+            first[bad][KIND] = random.one_of(&[0, 4]);
+            assert_eq!(memory.records(&bytes_of(&first), bytes.len()), refused, "record {bad}");
+        }
+        for length in [bytes.len() - 1, bytes.len() + 1, 28 * 1025, 28 * 2048] {
+            assert_eq!(memory.records(&[], length), refused, "{length} bytes");
+        }
     }
 }
 

@@ -16,6 +16,7 @@ extern "C" {
     fn munmap(address: *mut c_void, length: usize) -> c_int;
 
     fn mound_check(region: *const u8, region_len: usize) -> u32;
+    fn mound_records(records: *const u8, records_len: usize) -> u32;
 }
 
 // Linux's numbers.
@@ -48,14 +49,28 @@ impl Memory {
     /// The library's check of a region of `length` bytes whose first ones are these. They end where
     /// the first half does, so that none of the others can be read.
     pub fn check(&mut self, first: &[u8], length: usize) -> u32 {
+        self.call(mound_check, first, length)
+    }
+
+    /// The same of records.
+    pub fn records(&mut self, first: &[u8], length: usize) -> u32 {
+        self.call(mound_records, first, length)
+    }
+
+    fn call(
+        &mut self,
+        call: unsafe extern "C" fn(*const u8, usize) -> u32,
+        first: &[u8],
+        length: usize,
+    ) -> u32 {
         assert!(first.len() <= length && length <= HALF);
-        // SAFETY: the bytes fit into the first half, which is this value's own, and the region into
-        // both. No reference is made to what cannot be read: the library gets a pointer, and ends
-        // this program if it reads there.
+        // SAFETY: the bytes fit into the first half, which is this value's own, and the whole slice
+        // into both. No reference is made to what cannot be read: the library gets a pointer, and
+        // ends this program if it reads there.
         unsafe {
-            let region = self.start.add(HALF - first.len());
-            region.copy_from_nonoverlapping(first.as_ptr(), first.len());
-            mound_check(region, length)
+            let slice = self.start.add(HALF - first.len());
+            slice.copy_from_nonoverlapping(first.as_ptr(), first.len());
+            call(slice, length)
         }
     }
 }

@@ -1,9 +1,10 @@
-//! The safe types: what a Rust program sees of a queue.
+//! The safe types: what a Rust program sees of a queue, and of the check of records.
 #![allow(clippy::large_stack_arrays, reason = "a schedule of the most turns has 32 KiB")]
 
 use mound::{Permission, Shape};
 
 mod permits;
+mod records;
 mod regions;
 mod runs;
 

@@ -105,16 +105,16 @@ fn the_largest_shape_has_82_188_bytes() {
 }
 
 #[test]
-fn the_refusals_are_numbered_1_to_11() {
-    for number in 1..=11 {
+fn the_refusals_are_numbered_1_to_12() {
+    for number in 1..=12 {
         let refusal = Refusal::try_from(number).expect("a refusal has that number");
         assert_eq!((refusal.number(), u32::from(refusal)), (number, number));
         assert!(refusal.to_string().starts_with(&format!("refused {number}: ")));
     }
-    for number in [0, 12, u32::MAX] {
+    for number in [0, 13, 255, u32::MAX] {
         assert_eq!(Refusal::try_from(number), Err(NotARefusal(number)));
     }
-    assert_eq!(NotARefusal(12).to_string(), "no refusal has the number 12");
+    assert_eq!(NotARefusal(13).to_string(), "no refusal has the number 13");
 }
 
 #[test]

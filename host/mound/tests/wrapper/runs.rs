@@ -87,7 +87,7 @@ fn a_run_is_used_again() -> Result<(), Refusal> {
 
 #[test]
 fn every_answer_has_words_of_its_own() {
-    let refusals = (1..=11).map(|number| Refusal::try_from(number).expect("a refusal"));
+    let refusals = (1..=12).map(|number| Refusal::try_from(number).expect("a refusal"));
     let refused = refusals.map(Answer::Refused);
     let took = [(0, 0), (5, 9), (u32::MAX, u32::MAX)].map(|(key, tag)| Answer::Took { key, tag });
     let others = [Answer::Moved, Answer::Idle, Answer::Inserted, Answer::Empty, Answer::Withdrawn];
@@ -96,7 +96,7 @@ fn every_answer_has_words_of_its_own() {
         assert_eq!(<[u32; 3]>::from(answer), answer.words());
     }
     let unused = [0, 1, 2, 4, 6].into_iter().flat_map(|code| [[code, 1, 0], [code, 0, 1]]);
-    let no_refusal = [[5, 0, 0], [5, 12, 0], [5, u32::MAX, 0], [5, 3, 1]];
+    let no_refusal = [[5, 0, 0], [5, 13, 0], [5, u32::MAX, 0], [5, 3, 1]];
     for words in unused.chain(no_refusal).chain([[7, 0, 0], [u32::MAX; 3]]) {
         assert_eq!(Answer::try_from(words), Err(NotAnAnswer(words)));
     }

@@ -3,10 +3,11 @@
 
 use checks::fields::place::{I2, I3, I5, I7, M4, M5};
 use checks::queue::{Call, Item, SMALL};
+use checks::recorder::positions_by_answer;
 use mound::{Refusal, Shape};
 
 use super::mistaken::{LeafMistake, ListMistake, Machine, Mistake, PermissionMistake};
-use super::search::{explore, Counterexample, Permit, Step, Workload};
+use super::search::{explore, is_accepted, Counterexample, Permit, Step, Workload};
 use crate::ledger::Disagreement;
 
 /// Two threads with these calls on a queue of that depth at most that holds key 5, tag 0, at its
@@ -51,6 +52,23 @@ fn an_order_by_answers() {
     }
 }
 
+/// The history of case J's takes: positions by answers are not accepted.
+#[test]
+fn records_in_the_order_of_answers() {
+    let workload = workload(2, [&[Call::Take], &[Call::Take]]);
+    let found = find(Mistake::OrderedByAnswer, &workload);
+    let records = found.recorded(&workload, Machine { mistake: None }).records();
+    assert!(is_accepted(&records), "{records:?}");
+    let records = positions_by_answer(records);
+    assert!(!is_accepted(&records), "{records:?}");
+}
+
+/// Request 9's check of the history finds the mistake, too.
+fn is_found_by_records(mistake: Mistake, workload: &Workload, found: &Counterexample) {
+    let records = found.recorded(workload, Machine { mistake: Some(mistake) }).records();
+    assert!(!is_accepted(&records), "{records:?}");
+}
+
 /// A cell that is freed and used again at the root is the same list with another item.
 #[test]
 fn a_comparison_without_the_counter() {
@@ -64,8 +82,10 @@ fn a_comparison_without_the_counter() {
 #[test]
 fn an_i8_that_does_not_test_the_parent() {
     let calls: [&[Call]; 2] = [&[Call::Put((6, 1))], &[Call::Take, Call::Take]];
-    let found = find(Mistake::ParentNotTested, &workload(2, calls));
+    let workload = workload(2, calls);
+    let found = find(Mistake::ParentNotTested, &workload);
     assert_eq!(found.disagreement, Disagreement::EmptyAnswer);
+    is_found_by_records(Mistake::ParentNotTested, &workload, &found);
 }
 
 /// Case K: with E2 the cell is free, and the take holds it no more.
@@ -85,6 +105,7 @@ const TAG_9: Item = (5, 9);
 fn find_keys_alone(at: &'static [u32], workload: &Workload) {
     let found = find(Mistake::KeysAlone { at }, workload);
     assert_eq!(found.disagreement, Disagreement::NotLeast(TAG_9));
+    is_found_by_records(Mistake::KeysAlone { at }, workload, &found);
 }
 
 /// A put comes to stand before a held item of a smaller tag.

@@ -2,5 +2,6 @@
 
 mod mistaken;
 mod mistakes;
+mod recorded;
 mod right;
 mod search;

@@ -39,7 +39,7 @@ const WAYS: [(u32, &[u32]); 19] = [
     (P19, &[IDLE, P19]),
 ];
 
-fn shape(depth: u32, threads: u32, threshold: u32) -> Shape {
+pub fn shape(depth: u32, threads: u32, threshold: u32) -> Shape {
     Shape { depth, cells: 1 << (depth - 1), threads, threshold }
 }
 
@@ -52,7 +52,12 @@ fn all_lists(bound: usize, length: u32) -> impl Iterator<Item = Vec<usize>> {
 /// All workloads on a queue of `held` items in which each thread makes one to `longest` calls:
 /// takes, lists, and puts of key 3, below all items held, or of another key. Threads differ in
 /// their number alone, so that workloads which are the same but for that are taken once.
-fn workloads(shape: Shape, held: usize, key: u32, longest: u32) -> impl Iterator<Item = Workload> {
+pub fn workloads(
+    shape: Shape,
+    held: usize,
+    key: u32,
+    longest: u32,
+) -> impl Iterator<Item = Workload> {
     let lists: Vec<_> = (1..=longest).flat_map(|length| all_lists(4, length)).collect();
     let distinct = all_lists(lists.len(), shape.threads).filter(|chosen| chosen.is_sorted());
     distinct.map(move |chosen| {
@@ -68,7 +73,7 @@ fn workloads(shape: Shape, held: usize, key: u32, longest: u32) -> impl Iterator
 
 /// The workload with one key for all items and their keys as tags: threads then put items that
 /// wholly equal each other's, and some that equal items held.
-fn with_one_key(mut workload: Workload) -> Workload {
+pub fn with_one_key(mut workload: Workload) -> Workload {
     let put = workload.calls.iter_mut().flatten().filter_map(|call| match call {
         Call::Put(item) => Some(item),
         Call::Take | Call::List => None,
@@ -79,7 +84,7 @@ fn with_one_key(mut workload: Workload) -> Workload {
     workload
 }
 
-fn has_lists(workload: &Workload) -> bool {
+pub fn has_lists(workload: &Workload) -> bool {
     workload.calls.iter().flatten().any(|&call| call == Call::List)
 }
 
@@ -107,7 +112,7 @@ fn two_threads_with_two_calls_at_depth_3() -> impl Iterator<Item = Workload> {
     (0..=4).flat_map(|held| workloads(shape(3, 2, 1), held, 6, 2))
 }
 
-fn calls_in(workload: &Workload) -> usize {
+pub fn calls_in(workload: &Workload) -> usize {
     workload.calls.iter().flatten().count()
 }
 
@@ -120,7 +125,7 @@ fn has_four_calls_and_lists(workload: &Workload) -> bool {
 const TAKEN_AWAY: [[u32; 2]; 2] = [[0, 3], [1, 2]];
 
 /// The workload with each of these beside it, for each of its threads.
-fn with_permits(workload: Workload) -> impl Iterator<Item = Workload> {
+pub fn with_permits(workload: Workload) -> impl Iterator<Item = Workload> {
     let beside = (1..=workload.shape.threads)
         .flat_map(|thread| TAKEN_AWAY.map(|permissions| (thread, permissions)));
     beside.map(move |(thread, permissions)| Workload {

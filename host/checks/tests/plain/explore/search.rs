@@ -7,7 +7,8 @@ use std::hash::{BuildHasher, BuildHasherDefault, DefaultHasher};
 use checks::fields::{place, D};
 use checks::leaves::{self, Try};
 use checks::queue::{Call, Item, Queue};
-use mound::{Answer, Refusal, Shape};
+use checks::recorder::Recorder;
+use mound::{Answer, Record, Refusal, Shape, Verdict};
 
 use super::mistaken::Machine;
 use crate::ledger::{look_at_takes, Disagreement, Ledger};
@@ -52,6 +53,8 @@ pub struct Explored {
     pub tries: BTreeSet<Try>,
     /// The most accesses of a put that was begun at the greatest depth and run alone.
     pub most_of_a_put: u32,
+    /// The states of histories in which operations that overlap have decided.
+    pub overlapping: usize,
 }
 
 impl Explored {
@@ -73,6 +76,7 @@ impl Explored {
         self.withdrawn_at.extend(other.withdrawn_at);
         self.tries.extend(other.tries);
         self.most_of_a_put = self.most_of_a_put.max(other.most_of_a_put);
+        self.overlapping += other.overlapping;
     }
 }
 
@@ -83,6 +87,32 @@ pub struct Counterexample {
     pub disagreement: Disagreement,
 }
 
+impl Counterexample {
+    /// The history of these steps, made once more.
+    pub fn recorded(&self, workload: &Workload, machine: Machine) -> Recorder {
+        let State { mut queue, .. } = State::start(workload, machine);
+        let mut recorder = Recorder::of_puts(&workload.held);
+        for &step in &self.steps {
+            let before = queue.clone();
+            match step {
+                Step::Begin { thread, call } => {
+                    let result = machine.begin(&mut queue, thread, call);
+                    recorder.called(thread, call, result.is_ok());
+                }
+                Step::Turn { thread, choice } => {
+                    let answer = machine.turn(&mut queue, thread, choice);
+                    recorder.turned(thread, answer, (&before, &queue));
+                }
+                Step::Permit(Permit { thread, permission }) => {
+                    machine.permit(&mut queue, thread, permission).expect("permissions in range");
+                    recorder.called_otherwise();
+                }
+            }
+        }
+        recorder
+    }
+}
+
 #[derive(Clone, Hash)]
 struct State {
     queue: Queue,
@@ -90,6 +120,18 @@ struct State {
     /// How many of its calls each thread has made, and how many permissions have been set.
     made: Vec<usize>,
     permits_made: usize,
+    /// Where histories are told apart.
+    recorder: Option<Recorder>,
+}
+
+impl State {
+    /// The state in which nothing of the workload has happened.
+    fn start(workload: &Workload, machine: Machine) -> State {
+        let queue = Queue::laid_out(workload.shape, &workload.permissions).holding(&workload.held);
+        let ledger = Ledger::of(&queue, machine.order());
+        let made = vec![0; workload.calls.len()];
+        State { queue, ledger, made, permits_made: 0, recorder: None }
+    }
 }
 
 /// More states than any workload here has: a machine that never ends has no last state.
@@ -98,9 +140,23 @@ const MOST_STATES: usize = 10_000_000;
 /// Goes through every state that the workload can reach. In each of them a take that makes no
 /// mistake has to cost its figure, and a put begun at the greatest depth has to end in time.
 pub fn explore(workload: &Workload, machine: Machine) -> Result<Explored, Counterexample> {
-    let queue = Queue::laid_out(workload.shape, &workload.permissions).holding(&workload.held);
-    let ledger = Ledger::of(&queue, machine.order());
-    let start = State { queue, ledger, made: vec![0; workload.calls.len()], permits_made: 0 };
+    explore_from(State::start(workload, machine), workload, machine)
+}
+
+/// Goes through every history of a workload without lists. At each of its moments request 9's check
+/// has to accept the records. Histories are told apart by the order of what is recorded, so that
+/// there are more states.
+pub fn explore_histories(workload: &Workload) -> Result<Explored, Counterexample> {
+    let machine = Machine { mistake: None };
+    let recorder = Some(Recorder::of_puts(&workload.held));
+    explore_from(State { recorder, ..State::start(workload, machine) }, workload, machine)
+}
+
+fn explore_from(
+    start: State,
+    workload: &Workload,
+    machine: Machine,
+) -> Result<Explored, Counterexample> {
     let mut explored = Explored::default();
     look_at(&start, machine, &mut explored)
         .map_err(|disagreement| Counterexample { steps: vec![], disagreement })?;
@@ -151,8 +207,12 @@ fn steps(workload: &Workload, state: &State) -> Vec<Step> {
     steps
 }
 
-/// What has to hold of a state by itself. The most accesses of a put are noted.
+/// What has to hold of a state by itself: of its history, where there is one, or of the queue. The
+/// most accesses of a put are noted.
 fn look_at(state: &State, machine: Machine, explored: &mut Explored) -> Result<(), Disagreement> {
+    if let Some(recorder) = &state.recorder {
+        return look_at_records(recorder, explored);
+    }
     state.ledger.look_at(&state.queue)?;
     look_at_takes(&state.queue)?;
     if state.queue.is_of_greatest_depth() {
@@ -163,6 +223,31 @@ fn look_at(state: &State, machine: Machine, explored: &mut Explored) -> Result<(
         }
     }
     Ok(())
+}
+
+/// Request 9: the check accepts the records of a history. Overlaps are noted.
+fn look_at_records(recorder: &Recorder, explored: &mut Explored) -> Result<(), Disagreement> {
+    let records = recorder.records();
+    explored.overlapping += usize::from(has_overlaps(&records));
+    if is_accepted(&records) {
+        Ok(())
+    } else {
+        Err(Disagreement::RecordsNotAccepted)
+    }
+}
+
+/// Whether an operation begins, and another later, before the first is answered.
+fn has_overlaps(records: &[Record]) -> bool {
+    let begins_in = |one: &Record| {
+        records.iter().any(|other| (one.begin + 1..one.answer).contains(&other.begin))
+    };
+    records.iter().any(begins_in)
+}
+
+/// Whether the plain checker accepts these records.
+pub fn is_accepted(records: &[Record]) -> bool {
+    let bytes: Vec<u8> = records.iter().flat_map(|record| record.to_bytes()).collect();
+    plain::check_records(&bytes) == Ok(Verdict::Accepted)
 }
 
 /// Request 8's promise: a put begun at the greatest depth is inserted within its ceiling if nobody
@@ -201,11 +286,14 @@ fn step_from(
     step: Step,
     explored: &mut Explored,
 ) -> Result<State, Disagreement> {
-    let State { mut queue, mut ledger, mut made, mut permits_made } = state.clone();
+    let State { mut queue, mut ledger, mut made, mut permits_made, mut recorder } = state.clone();
     match step {
         Step::Begin { thread, call } => {
             let result = machine.begin(&mut queue, thread, call);
             ledger.called(thread, call, result, (&state.queue, &queue))?;
+            if let Some(recorder) = &mut recorder {
+                recorder.called(thread, call, result.is_ok());
+            }
             // A put that finds no cell is tried again later.
             if result != Err(Refusal::NoFreeCell) {
                 made[thread as usize - 1] += 1;
@@ -213,16 +301,23 @@ fn step_from(
         }
         Step::Turn { thread, choice } => {
             let answer = machine.turn(&mut queue, thread, choice);
-            ledger.turned(thread, choice, answer, (&state.queue, &queue))?;
+            let change = (&state.queue, &queue);
+            ledger.turned(thread, choice, answer, change)?;
+            if let Some(recorder) = &mut recorder {
+                recorder.turned(thread, answer, change);
+            }
             explored.note(thread, answer, &state.queue, &queue);
         }
         Step::Permit(Permit { thread, permission }) => {
             let result = machine.permit(&mut queue, thread, permission);
             ledger.permitted(thread, permission, result, (&state.queue, &queue))?;
+            if let Some(recorder) = &mut recorder {
+                recorder.called_otherwise();
+            }
             permits_made += 1;
         }
     }
-    Ok(State { queue, ledger, made, permits_made })
+    Ok(State { queue, ledger, made, permits_made, recorder })
 }
 
 /// The steps to a state, and one more.
