@@ -1,6 +1,7 @@
 /*
  * A wake-up queue of two plugin threads, from C. Both put wake-ups, whose turns cross; then one takes the least, one takes the rest as a
- * list, and one loses its permission while it puts. ./test builds this program, runs it and compares what it prints with wake_ups.out.
+ * list, and one loses its permission while it puts. Then records of threads that ran at the same time are checked. ./test builds this
+ * program, runs it and compares what it prints with wake_ups.out.
  */
 #include <stdio.h>
 
@@ -52,6 +53,29 @@ static void run(uint32_t turns)
     printf("  %u turns, %u accesses\n", (unsigned)mound_run_turns(done), (unsigned)mound_run_accesses(done));
 }
 
+/*
+ * Checks what two threads say that they did: thread 1 put an item from time 1 to time 4, thread 2 took it from time 2 to time 3. The
+ * positions say which came first.
+ */
+static void check_records(const char *what, uint32_t put_position, uint32_t take_position, size_t bytes)
+{
+    const uint32_t words[] = {
+        MOUND_KIND_PUT, 1, 1, 4, put_position, 5, 9, /* kind, thread, begin, answer, position, key, tag */
+        MOUND_KIND_TAKE, 2, 2, 3, take_position, 5, 9
+    };
+    uint8_t records[2 * MOUND_RECORD_BYTES];
+    size_t word;
+    uint32_t answer;
+
+    for (word = 0; word < sizeof words / sizeof *words; word++)
+        mound_set_word(records, word, words[word]);
+    answer = mound_records(records, bytes);
+    if (answer == MOUND_REJECTED)
+        printf("%s: rejected\n", what);
+    else
+        report(what, answer);
+}
+
 int main(void)
 {
     static const uint8_t permissions[THREADS] = {MOUND_MAY_PUT_AND_TAKE, MOUND_MAY_PUT_AND_TAKE};
@@ -82,5 +106,9 @@ int main(void)
     report("check, with a present depth that is too great", mound_check(region, sizeof region));
     run(4);
     report("check of no bytes", mound_check(NULL, 0));
+
+    check_records("records, the put first", 1, 2, 2 * MOUND_RECORD_BYTES);
+    check_records("records, the take first", 2, 1, 2 * MOUND_RECORD_BYTES);
+    check_records("records, cut short", 1, 2, 2 * MOUND_RECORD_BYTES - 1);
     return 0;
 }

@@ -22,17 +22,18 @@ extern "C" {
 /* What a call answers: done (of a check: yes), or why it is refused. */
 enum mound_refusal {
     MOUND_DONE = 0,
-    MOUND_REFUSED_SHAPE = 1,         /* a number of the shape or a permission is out of range, or there is not one permission for each thread */
-    MOUND_REFUSED_REGION_LENGTH = 2, /* the slice does not have the exact length of the shape */
-    MOUND_REFUSED_THREAD = 3,        /* there is no such thread */
-    MOUND_REFUSED_ITEM = 4,          /* the key or the tag is out of range */
-    MOUND_REFUSED_ANSWER_LENGTH = 5, /* the answers have less than 12 bytes a turn */
-    MOUND_REFUSED_SCHEDULE = 6,      /* the schedule is not whole turns of 8 bytes, or more than 4,096 */
-    MOUND_REFUSED_UNREADABLE = 7,    /* the region is not readable; or a turn's step names what does not exist */
-    MOUND_REFUSED_PERMISSION = 8,    /* the thread lacks the permission */
-    MOUND_REFUSED_BUSY = 9,          /* the thread has an operation under way */
-    MOUND_REFUSED_NO_FREE_CELL = 10, /* no cell is free */
-    MOUND_REFUSED_COUNTER_SPENT = 11 /* only of a turn: its update meets a counter that cannot grow */
+    MOUND_REFUSED_SHAPE = 1,          /* a number of the shape or a permission is out of range, or there is not one permission for each thread */
+    MOUND_REFUSED_REGION_LENGTH = 2,  /* the slice does not have the exact length of the shape */
+    MOUND_REFUSED_THREAD = 3,         /* there is no such thread */
+    MOUND_REFUSED_ITEM = 4,           /* the key or the tag is out of range */
+    MOUND_REFUSED_ANSWER_LENGTH = 5,  /* the answers have less than 12 bytes a turn */
+    MOUND_REFUSED_SCHEDULE = 6,       /* the schedule is not whole turns of 8 bytes, or more than 4,096 */
+    MOUND_REFUSED_UNREADABLE = 7,     /* the region is not readable; or a turn's step names what does not exist */
+    MOUND_REFUSED_PERMISSION = 8,     /* the thread lacks the permission */
+    MOUND_REFUSED_BUSY = 9,           /* the thread has an operation under way */
+    MOUND_REFUSED_NO_FREE_CELL = 10,  /* no cell is free */
+    MOUND_REFUSED_COUNTER_SPENT = 11, /* only of a turn: its update meets a counter that cannot grow */
+    MOUND_REFUSED_RECORDS = 12        /* a part of a record, more than 1,024, or a kind, thread, key or tag out of range */
 };
 
 /* What a turn answers: the first of its three words. The other two are 0, but for took and refused. */
@@ -54,6 +55,16 @@ enum mound_permission {
     MOUND_MAY_PUT_AND_TAKE = 3
 };
 
+/* The first word of a record. */
+enum mound_kind {
+    MOUND_KIND_PUT = 1,
+    MOUND_KIND_TAKE = 2, /* a take that was answered with its item */
+    MOUND_KIND_EMPTY = 3 /* a take that was answered empty; its key and tag are 0 */
+};
+
+/* What a check of records answers for those that it rejects; no refusal has this number. */
+#define MOUND_REJECTED 255u
+
 /* The greatest numbers; each shape has 1 or more of everything, and 1 to 2^(depth - 1) cells. Keys and tags start at 0. */
 #define MOUND_GREATEST_DEPTH 12u
 #define MOUND_GREATEST_THREADS 64u
@@ -61,12 +72,14 @@ enum mound_permission {
 #define MOUND_GREATEST_KEY 4294967294u
 #define MOUND_GREATEST_TAG 65535u
 #define MOUND_MOST_TURNS 4096u
+#define MOUND_MOST_RECORDS 1024u
 
-/* The bytes of a region of that shape, of a turn in a schedule, and of a turn's answer. */
+/* The bytes of a region of that shape, of a turn in a schedule, of a turn's answer, and of a record. */
 #define MOUND_REGION_BYTES(depth, cells, threads) \
     (4 * (6 + 3 * (((size_t)1 << (depth)) - 1) + 3 * (size_t)(cells) + 33 * (size_t)(threads)))
 #define MOUND_TURN_BYTES ((size_t)8)
 #define MOUND_ANSWER_BYTES ((size_t)12)
+#define MOUND_RECORD_BYTES ((size_t)28)
 
 /*
  * Lays the region out for an empty queue: every byte of it is set. `depth` is the tree's greatest, `cells` are the most items that are
@@ -121,6 +134,16 @@ uint64_t mound_run(uint8_t *region, size_t region_length, const uint8_t *schedul
  */
 uint32_t mound_check(const uint8_t *region, size_t region_length);
 
+/*
+ * Whether what threads of a native build did was what a queue may do. A record is seven words: kind, thread (1 to 64), begin time,
+ * answer time, claimed position, key, tag. Done if each begins before its answer; of two operations of a thread one is answered
+ * before the other begins; the positions are 1 to the number of records, each claimed once; an operation that is answered before
+ * another begins has the smaller position; and a bag, played in the order of the positions, gives every answer: a put adds its item,
+ * a take has the least one, which leaves, an empty finds none. Else MOUND_REJECTED. The records may stand in any order.
+ * Refusal: 12. Cost: each record is read four times; at most 1,024 of them, each with a place in a heap.
+ */
+uint32_t mound_records(const uint8_t *records, size_t records_length);
+
 #ifdef __cplusplus
 }
 #endif
@@ -130,7 +153,7 @@ static inline uint32_t mound_run_refusal(uint64_t run) { return (uint32_t)(run &
 static inline uint32_t mound_run_turns(uint64_t run) { return (uint32_t)(run >> 16 & 65535u); }
 static inline uint32_t mound_run_accesses(uint64_t run) { return (uint32_t)(run >> 32); }
 
-/* The word of that index, counted from 0, in a region, a schedule or answers; and the word set. */
+/* The word of that index, counted from 0, in a region, a schedule, answers or records; and the word set. */
 static inline uint32_t mound_word(const uint8_t *bytes, size_t index)
 {
     const uint8_t *at = bytes + 4 * index;
