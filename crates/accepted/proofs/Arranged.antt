@@ -11,7 +11,7 @@ use lib.ListN.{length, getD, drop, drop-of-length-le}
 use lib.Seq.{drop-cons}
 use Rattle.region.specs.Answer.{done}
 use Rattle.region.specs.Pick.{pick}
-use Rattle.records.specs.Accepts.{claimant, fromPosition, recordsAnswer}
+use Rattle.records.specs.Accepts.{claimant, inPlace, listed, recordsAnswer}
 use Rattle.records.specs.Play.{plays}
 use Rattle.records.specs.Recorded.{allInRange, inRange, recordCount, recordedAt, wellFormed}
 use Rattle.records.specs.declared.form.Recorded.{Recorded}
@@ -60,12 +60,12 @@ module _ (rs : List Recorded) (o : InTurn rs) (few : length rs ≤ 1024) (b : Li
       (let p = position-of j m in let q = h .order .when-which k l in omega (arith, p, e, q)))
 
   -- what is left from position k on
-  by-turn : (k m : ℕ) → k + m ≡ n → fromPosition n r k m ≡ drop k rs
-  unfolding fromPosition
+  by-turn : (k m : ℕ) → k + m ≡ n → listed (inPlace n r) k m ≡ drop k rs
+  unfolding listed
   by-turn k zero e = let l : n ≤ k = omega (arith, e) in sym (drop-of-length-le rs l)
   by-turn k (suc m) e =
       let l : k < n = omega (arith, e) in
-      ap (λ x. x ∷ fromPosition n r (suc k) m) (ap r (claim k l) ∙ h .each k l)
+      ap (λ x. x ∷ listed (inPlace n r) (suc k) m) (ap r (claim k l) ∙ h .each k l)
       ∙ ap (λ ys. getD rs k noRecord ∷ ys) (by-turn (suc k) m (omega (arith, e)))
       ∙ sym (drop-cons rs k noRecord l)
 

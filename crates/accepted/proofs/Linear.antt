@@ -1,29 +1,22 @@
 -- Accepted records are linearizable: the order is that of the claimed positions. Assumes nothing.
-use Prim.Native.Nat.{ℕ, zero, suc, _-_, _<_}
+use Prim.Native.Nat.{ℕ, suc, _-_, _<_}
 use native.Mathlib.Omega.{arith}
 use mathlib.Core.Path.{_≡_, refl, sym, ap, subst, _∙_}
 use mathlib.Core.Bool.{Bool, true, false}
-use mathlib.Core.List.{[], _∷_}
+use mathlib.Core.List.{[]}
 use borrow.Author.Tests.{eqb-true, eqb-false}
 use lib.Dec.{eqb}
 use Rattle.region.specs.Answer.{badRecords, done}
 use Rattle.region.specs.Pick.{pick}
 use Rattle.theory.specs.Ledger.{emptyLedger}
-use Rattle.records.specs.Accepts.{accepts, byPosition, claimant, fromPosition, recordsAnswer, rejected}
+use Rattle.records.specs.Accepts.{accepts, byPosition, claimant, recordsAnswer, rejected}
 use Rattle.records.specs.Recorded.{recordCount, recordedAt, wellFormed}
 use Rattle.records.specs.declared.form.Recorded.{Recorded}
 use Rattle.records.proofs.Accepted.{Accepted, accepted-all}
 use Rattle.records.proofs.InOrder.{claimant-is}
-use Rattle.accepted.specs.LedgerPlay.{FollowsAll, allTold}
-use Rattle.accepted.specs.Linearization.{Linearization, Order, listed}
+use Rattle.accepted.specs.Linearization.{AsClaimed, Linearization, Order}
 use Rattle.accepted.specs.Theorems.{AcceptedIsLinearizable}
 use Rattle.accepted.proofs.Bags.{between-none, plays-follows}
-
--- the records by position, as a list by numbers
-pub positions-listed : (n : ℕ) (r : ℕ → Recorded) (k m : ℕ) → fromPosition n r k m ≡ listed (λ k. r (claimant n r (suc k))) k m
-unfolding fromPosition listed
-positions-listed n r k zero = refl
-positions-listed n r k (suc m) = ap (λ rs. r (claimant n r (suc k)) ∷ rs) (positions-listed n r (suc k) m)
 
 module _ (n : ℕ) (r : ℕ → Recorded) (a : Accepted n r) where
   same-claim : (i j : ℕ) → i < n → j < n → r i .position ≡ r j .position → i ≡ j
@@ -71,8 +64,7 @@ module _ (n : ℕ) (r : ℕ → Recorded) (a : Accepted n r) where
         order = by-claims;
         real-time = real-time;
         bag =
-            subst (λ rs. FollowsAll emptyLedger (allTold rs)) (positions-listed n r 0 n)
-            (plays-follows (byPosition n r) emptyLedger [] between-none (a .played));
+            plays-follows (byPosition n r) emptyLedger [] between-none (a .played);
       }
     where
       real-time : (i j : ℕ) → i < n → j < n → r i .answer < r j .begin → r i .position - 1 < r j .position - 1
@@ -88,6 +80,10 @@ module _ (n : ℕ) (r : ℕ → Recorded) (a : Accepted n r) where
               let f = a .first i hi in
               omega (arith, p, f)
 
+  pub as-claimed : AsClaimed n r
+  unfolding linearization by-claims
+  as-claimed = record { linearization = linearization; claimed = λ i h. let p = a .first i h in omega (arith, p) }
+
 -- an answer of 0 is neither the refusal nor a no
 answered-done : (w a : Bool) → pick w (pick a done rejected) badRecords ≡ done → a ≡ true
 unfolding pick
@@ -98,5 +94,5 @@ answered-done false a e = absurd (omega (arith, e))
 pub accepted-is-linearizable : AcceptedIsLinearizable
 unfolding recordsAnswer
 accepted-is-linearizable b e =
-    linearization (recordCount b) (recordedAt b)
+    as-claimed (recordCount b) (recordedAt b)
     (accepted-all (recordCount b) (recordedAt b) (answered-done (wellFormed b) (accepts (recordCount b) (recordedAt b)) e))

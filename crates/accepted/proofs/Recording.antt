@@ -6,7 +6,6 @@ use mathlib.Core.Path.{_≡_, refl, sym, ap, subst, _∙_}
 use mathlib.Core.Bool.{Bool, true, false}
 use mathlib.Core.Logic.{_⊎_, ⊎-elim}
 use mathlib.Core.List.{List, [], _∷_, _++_}
-use lib.ListN.{length}
 use Rattle.region.specs.Pick.{pick}
 use Rattle.region.specs.Record.{isItem, sameItem, zeroItem}
 use Rattle.region.specs.Shape.{between}
@@ -24,21 +23,12 @@ use Rattle.bag.specs.History.{Moment}
 use Rattle.bag.specs.Operations.{answered}
 use Rattle.bag.specs.Told.{tells}
 use Rattle.bag.proofs.Operations.{Followed}
-use Rattle.accepted.specs.HistoryRecords.{Beginning, NoListBegins, begunAfter, decided, positionAfter, recordsAt, recordsFrom, untilAnswer}
+use Rattle.accepted.specs.HistoryRecords.{Beginning, NoListBegins, begunAfter, decidedRecord, positionAfter, recordsAt, recordsFrom, untilAnswer}
 use Rattle.accepted.proofs.Bags.{bagOf, counts-empty, counts-least, without-counts}
 use Rattle.accepted.proofs.Begins.{AllBegin}
 use Rattle.accepted.proofs.Steps.{EachOf, Fits, at-each, begun-later, decides-elsewhere, each-append, each-so, fits-next, none-stays, op-is, owing-stays, told-answered}
 
 -- How long until the answer.
-until-most : (t : ℕ) (ms : List Moment) → untilAnswer t ms ≤ length ms
-unfolding untilAnswer pick
-until-most t [] = omega arith
-until-most t (m ∷ ms) = go (answered t (m .event)) (until-most t ms)
-  where
-    go : (q : Bool) → untilAnswer t ms ≤ length ms → pick q 0 (suc (untilAnswer t ms)) ≤ suc (length ms)
-    go true h = omega arith
-    go false h = omega arith
-
 until-step : (t : ℕ) (m : Moment) (ms : List Moment) → untilAnswer t (m ∷ ms) ≤ suc (untilAnswer t ms)
 unfolding untilAnswer pick
 until-step t m ms = go (answered t (m .event))
@@ -114,52 +104,48 @@ abbrev pub Pairs : (Recorded → Recorded → Type 0) → List Recorded → Type
 Pairs P [] = Unit
 Pairs P (r ∷ rs) = EachOf (P r) rs × Pairs P rs
 
--- the records from moment k on, up to the number `last`; p positions came before, and l is the ledger then
-pub record Recording (l : Ledger) (k last p : ℕ) (rs : List Recorded) : Type 0 where
+-- the records from moment k on; p positions came before, and l is the ledger then
+pub record Recording (l : Ledger) (k p : ℕ) (rs : List Recorded) : Type 0 where
   pub ranged : EachOf (λ r. inRange r ≡ true) rs
   pub numbered : Numbered p rs
   pub begun : EachOf (λ r. r .begin < r .answer) rs
   pub after : EachOf (λ r. k ≤ r .answer) rs
-  pub until : EachOf (λ r. r .answer ≤ last) rs
   pub in-time : Pairs (λ a c. a .begin ≤ c .answer) rs
   pub one-by-one : Pairs (λ a c. a .thread ≡ c .thread → a .answer < c .begin) rs
   pub played : (bag : List Item) → l .bag ≡ bagOf bag → plays bag rs ≡ true
 
 -- a moment that decides nothing
-quiet : {l l′ : Ledger} {k last p : ℕ} {rs : List Recorded} → l .bag ≡ l′ .bag → Recording l′ (suc k) last p rs → Recording l k last p rs
-quiet {l} {l′} {k} {last} {p} {rs} e r =
+quiet : {l l′ : Ledger} {k p : ℕ} {rs : List Recorded} → l .bag ≡ l′ .bag → Recording l′ (suc k) p rs → Recording l k p rs
+quiet {l} {l′} {k} {p} {rs} e r =
     record {
       ranged = r .ranged;
       numbered = r .numbered;
       begun = r .begun;
       after = each-so (λ x. suc k ≤ x .answer) (λ x. k ≤ x .answer) rs (λ x h. omega (arith, h)) (r .after);
-      until = r .until;
       in-time = r .in-time;
       one-by-one = r .one-by-one;
       played = λ bag h. r .played bag (sym e ∙ h);
     }
 
 -- one that decides
-record Decides (l l′ : Ledger) (k last p : ℕ) (r : Recorded) (rs : List Recorded) : Type 0 where
+record Decides (l l′ : Ledger) (k p : ℕ) (r : Recorded) (rs : List Recorded) : Type 0 where
   ranged : inRange r ≡ true
   position : r .position ≡ suc p
   begun : r .begin < k
   after : k ≤ r .answer
-  until : r .answer ≤ last
   later : EachOf (After (r .thread) (r .answer)) rs
   given : (bag : List Item) → l .bag ≡ bagOf bag → bagGives bag r ≡ true
   left : (bag : List Item) → l .bag ≡ bagOf bag → l′ .bag ≡ bagOf (bagAfter bag r)
 
-more : {l l′ : Ledger} {k last p : ℕ} {r : Recorded} {rs : List Recorded} → Decides l l′ k last p r rs → Recording l′ (suc k) last (suc p) rs
-    → Recording l k last p (r ∷ rs)
+more : {l l′ : Ledger} {k p : ℕ} {r : Recorded} {rs : List Recorded} → Decides l l′ k p r rs → Recording l′ (suc k) (suc p) rs
+    → Recording l k p (r ∷ rs)
 unfolding plays
-more {l} {l′} {k} {last} {p} {r} {rs} d t =
+more {l} {l′} {k} {p} {r} {rs} d t =
     record {
       ranged = (d .ranged, t .ranged);
       numbered = (d .position, t .numbered);
       begun = (omega (arith, d .begun, d .after), t .begun);
       after = (d .after, each-so (λ x. suc k ≤ x .answer) (λ x. k ≤ x .answer) rs (λ x h. omega (arith, h)) (t .after));
-      until = (d .until, t .until);
       in-time = (each-so (λ x. suc k ≤ x .answer) (λ x. r .begin ≤ x .answer) rs (λ x h. omega (arith, h, d .begun)) (t .after), t .in-time);
       one-by-one = (each-so (After (r .thread) (r .answer)) (λ c. r .thread ≡ c .thread → r .answer < c .begin) rs (λ c h e. h (sym e)) (d .later), t .one-by-one);
       played = λ bag h. and-both (d .given bag h) (t .played (bagAfter bag r) (d .left bag h));
@@ -168,14 +154,8 @@ more {l} {l′} {k} {last} {p} {r} {rs} d t =
 -- The three kinds of deciding access.
 module _ (l : Ledger) (begun : ℕ → Beginning) (k p : ℕ) (g : Fits l begun k) (m : Moment) (ms : List Moment) (l′ : Ledger)
     (says : AnswerSays (m .event)) (f : Followed l′ ms) (n : NoListBegins ms) where
-  abbrev last : ℕ
-  last = k + suc (length ms)
-
   abbrev tail : List Recorded
   tail = recordsFrom begun (suc k) (suc p) ms
-
-  answer-until : (t : ℕ) → k + untilAnswer t (m ∷ ms) ≤ last
-  answer-until t = let h = until-most t (m ∷ ms) in omega (arith, h)
 
   -- answered at once
   ends-now : (t : ℕ) (x : Told) → tells (m .event) ≡ x → answered t (m .event) ≡ true → l′ .operation t ≡ none
@@ -184,7 +164,7 @@ module _ (l : Ledger) (begun : ℕ → Beginning) (k p : ℕ) (g : Fits l begun 
       none-after t (k + untilAnswer t (m ∷ ms)) ms l′ begun (suc k) (suc p) f n e (let z = until-now t m ms a in omega (arith, z))
 
   put-decided : (t : ℕ) (i : Item) → tells (m .event) ≡ decidesPut t → l .operation t ≡ putting i → l′ .operation t ≡ none
-      → l′ .bag ≡ oneMore (l .bag) i → Decides l l′ k last p (decided begun k p (m ∷ ms) 1 t (begun t .item)) tail
+      → l′ .bag ≡ oneMore (l .bag) i → Decides l l′ k p (decidedRecord begun k p (m ∷ ms) 1 t (begun t .item)) tail
   unfolding inRange between pick bagGives bagAfter bagOf
   put-decided t i ex e e′ eb =
       let o = op-is l begun k g t (putting i) e in
@@ -193,14 +173,13 @@ module _ (l : Ledger) (begun : ℕ → Beginning) (k p : ℕ) (g : Fits l begun 
         position = refl;
         begun = o .3;
         after = omega arith;
-        until = answer-until t;
         later = ends-now t (decidesPut t) ex (told-answered (m .event) says (decidesPut t) ex refl) e′;
         given = λ bag h. refl;
         left = λ bag h. eb ∙ ap (λ b. oneMore b i) h ∙ ap (oneMore (bagOf bag)) (sym (o .2));
       }
 
   take-decided : (t : ℕ) (i : Item) → l .operation t ≡ taking → l′ .operation t ≡ owing i [] → Least (l .bag) i
-      → l′ .bag ≡ oneLess (l .bag) i → Decides l l′ k last p (decided begun k p (m ∷ ms) 2 t i) tail
+      → l′ .bag ≡ oneLess (l .bag) i → Decides l l′ k p (decidedRecord begun k p (m ∷ ms) 2 t i) tail
   unfolding inRange between pick bagGives bagAfter
   take-decided t i e e′ least eb =
       let o = op-is l begun k g t taking e in
@@ -209,7 +188,6 @@ module _ (l : Ledger) (begun : ℕ → Beginning) (k p : ℕ) (g : Fits l begun 
         position = refl;
         begun = o .1;
         after = omega arith;
-        until = answer-until t;
         later =
             each-so (After t (suc k + untilAnswer t ms)) (After t (k + untilAnswer t (m ∷ ms))) tail
             (λ r h s. let v = h s in let w = until-step t m ms in omega (arith, v, w)) (owing-after t i ms l′ begun (suc k) (suc p) f n e′);
@@ -222,7 +200,7 @@ module _ (l : Ledger) (begun : ℕ → Beginning) (k p : ℕ) (g : Fits l begun 
       is-least bag h = counts-least bag i (subst (λ b. Least b i) h least)
 
   empty-decided : (t : ℕ) → tells (m .event) ≡ decidesEmpty t → l .operation t ≡ taking → l′ .operation t ≡ none → ((j : Item) → l .bag j ≡ 0)
-      → l′ .bag ≡ l .bag → Decides l l′ k last p (decided begun k p (m ∷ ms) 3 t zeroItem) tail
+      → l′ .bag ≡ l .bag → Decides l l′ k p (decidedRecord begun k p (m ∷ ms) 3 t zeroItem) tail
   unfolding inRange between pick bagGives bagAfter sameItem
   empty-decided t ex e e′ z eb =
       let o = op-is l begun k g t taking e in
@@ -231,7 +209,6 @@ module _ (l : Ledger) (begun : ℕ → Beginning) (k p : ℕ) (g : Fits l begun 
         position = refl;
         begun = o .1;
         after = omega arith;
-        until = answer-until t;
         later = ends-now t (decidesEmpty t) ex (told-answered (m .event) says (decidesEmpty t) ex refl) e′;
         given = λ bag h. counts-empty bag (λ j. ap (λ b. b j) (sym h) ∙ z j);
         left = λ bag h. eb ∙ h;
@@ -241,9 +218,9 @@ module _ (l : Ledger) (begun : ℕ → Beginning) (k p : ℕ) (g : Fits l begun 
 module _ (begun : ℕ → Beginning) (k p : ℕ) (m : Moment) (ms : List Moment) (says : AnswerSays (m .event)) (n : NoListBegins ms) where
   one : (x : Told) → tells (m .event) ≡ x → (l l′ : Ledger) → Follows x l l′ → Fits l begun k → Followed l′ ms
       → ((t : ℕ) → x ≡ beginsList t → ⊥)
-      → Recording l′ (suc k) (k + suc (length ms)) (positionAfter p (recordsAt begun k p (m ∷ ms) x))
+      → Recording l′ (suc k) (positionAfter p (recordsAt begun k p (m ∷ ms) x))
       (recordsFrom (begunAfter begun k x) (suc k) (positionAfter p (recordsAt begun k p (m ∷ ms) x)) ms)
-      → Recording l k (k + suc (length ms)) p
+      → Recording l k p
       (recordsAt begun k p (m ∷ ms) x
       ++ recordsFrom (begunAfter begun k x) (suc k) (positionAfter p (recordsAt begun k p (m ∷ ms) x)) ms)
   one x ex l l′ still g f never r = quiet refl r
@@ -262,7 +239,7 @@ module _ (begun : ℕ → Beginning) (k p : ℕ) (m : Moment) (ms : List Moment)
   one x ex l l′ (ends-withdrawn e un) g f never r = quiet refl r
 
 pub recording : (ms : List Moment) (l : Ledger) (begun : ℕ → Beginning) (k p : ℕ) → Followed l ms → AllBegin ms → NoListBegins ms → Fits l begun k
-    → Recording l k (k + length ms) p (recordsFrom begun k p ms)
+    → Recording l k p (recordsFrom begun k p ms)
 unfolding recordsFrom plays
 recording [] l begun k p f b n g =
     record {
@@ -270,7 +247,6 @@ recording [] l begun k p f b n g =
       numbered = tt;
       begun = tt;
       after = tt;
-      until = tt;
       in-time = tt;
       one-by-one = tt;
       played = λ bag h. refl;
@@ -279,6 +255,5 @@ recording (m ∷ ms) l begun k p f b n g =
     let x = tells (m .event) in
     let p′ = positionAfter p (recordsAt begun k p (m ∷ ms) x) in
     one begun k p m ms (f .2) (n .1) x refl l (f .0) (f .1) g (f .3) (n .0)
-    (subst (λ last. Recording (f .0) (suc k) last p′ (recordsFrom (begunAfter begun k x) (suc k) p′ ms)) (omega arith)
     (recording ms (f .0) (begunAfter begun k x) (suc k) p′ (f .3) (b .1) (n .1)
-    (fits-next l begun k g x (f .0) (f .1) (b .0) (n .0))))
+    (fits-next l begun k g x (f .0) (f .1) (b .0) (n .0)))

@@ -24,7 +24,7 @@ use Rattle.bag.specs.History.{Event, Moment, called, turned}
 use Rattle.bag.specs.Operations.{answered, beginning}
 use Rattle.bag.specs.Told.{tells}
 use Rattle.bag.proofs.Histories.{called-so}
-use Rattle.accepted.specs.HistoryRecords.{Beginning, begunAfter, decided, recordsAt}
+use Rattle.accepted.specs.HistoryRecords.{Beginning, begunAfter, decidedRecord, recordsAt}
 use Rattle.accepted.proofs.Bags.{owedRest}
 use Rattle.accepted.proofs.Begins.{BeginsInRange}
 
@@ -43,7 +43,7 @@ each-so P Q (r ∷ rs) h a = (h r (a .0), each-so P Q rs h (a .1))
 
 -- whatever is recorded at a moment, what holds of every deciding access's record holds of it
 pub at-each : (P : Recorded → Type 0) (begun : ℕ → Beginning) (k p : ℕ) (ms : List Moment)
-    → ((kind t : ℕ) (i : Item) → P (decided begun k p ms kind t i)) → (x : Told) → EachOf P (recordsAt begun k p ms x)
+    → ((kind t : ℕ) (i : Item) → P (decidedRecord begun k p ms kind t i)) → (x : Told) → EachOf P (recordsAt begun k p ms x)
 at-each P begun k p ms h nothing = tt
 at-each P begun k p ms h (beginsPut t i) = tt
 at-each P begun k p ms h (beginsTake t) = tt

@@ -22,14 +22,14 @@ use Rattle.bag.specs.Moments.{EachMoment, InEveryHistory}
 use Rattle.bag.proofs.Operations.{Followed}
 use Rattle.bag.proofs.Proved.{region-is-a-bag}
 use Rattle.accepted.specs.HistoryRecords.{NoListBegins, historyRecords}
-use Rattle.accepted.specs.Slices.{noRecord}
+use Rattle.accepted.specs.Slices.{TimesFit, noRecord}
 use Rattle.accepted.specs.Theorems.{BagIsTheLedgers, HistoriesAreAccepted, HistoriesCanBeWritten}
 use Rattle.accepted.proofs.Arranged.{InTurn, turn-accepted}
 use Rattle.accepted.proofs.Bags.{bagOf, between-none, follows-plays, plays-follows}
 use Rattle.accepted.proofs.Begins.{history-begins}
 use Rattle.accepted.proofs.Recording.{Numbered, Pairs, Recording, recording}
 use Rattle.accepted.proofs.Steps.{EachOf, Fits}
-use Rattle.accepted.proofs.Written.{AllFit, has-written}
+use Rattle.accepted.proofs.Written.{AllFit, has-written, written-bytes}
 pub use Rattle.accepted.proofs.Linear.{accepted-is-linearizable}
 
 pub bag-is-the-ledgers : BagIsTheLedgers
@@ -57,9 +57,9 @@ numbered-at p [] n k l = absurd (omega arith)
 numbered-at p (r ∷ rs) n zero l = let e = n .0 in omega (arith, e)
 numbered-at p (r ∷ rs) n (suc k) l = let e = numbered-at (suc p) rs (n .1) k (omega arith) in omega (arith, e)
 
-in-turn : (last : ℕ) (rs : List Recorded) → Recording emptyLedger 1 last 0 rs → InTurn rs
+in-turn : (rs : List Recorded) → Recording emptyLedger 1 0 rs → InTurn rs
 unfolding bagOf
-in-turn last rs r =
+in-turn rs r =
     record {
       ranged = each-at (λ x. inRange x ≡ true) rs (r .ranged);
       numbered = λ k l. let e = numbered-at 0 rs (r .numbered) k l in omega (arith, e);
@@ -82,21 +82,21 @@ item-fits r e = go (ℕ-discrete (r .kind) 3)
         let tag = leb-true (r .item .tag) greatestTag (and-right (leb (r .item .key) greatestKey) (leb (r .item .tag) greatestTag) i) in
         (omega (arith, key), omega (arith, tag))
 
-words-fit : (last p : ℕ) (rs : List Recorded) → last < 2 ^ 32 → p + length rs ≤ 1024 → EachOf (λ r. inRange r ≡ true) rs → Numbered p rs
-    → EachOf (λ r. r .begin < r .answer) rs → EachOf (λ r. r .answer ≤ last) rs → AllFit rs
-words-fit last p [] l few ranged numbered begun until = tt
-words-fit last p (r ∷ rs) l few ranged numbered begun until =
+words-fit : (p : ℕ) (rs : List Recorded) → p + length rs ≤ 1024 → EachOf (λ r. inRange r ≡ true) rs → Numbered p rs
+    → EachOf (λ r. r .begin < r .answer) rs → TimesFit rs → AllFit rs
+words-fit p [] few ranged numbered begun times = tt
+words-fit p (r ∷ rs) few ranged numbered begun times =
     let kind = between-most 1 (r .kind) 3 (range-kind r (ranged .0)) in
     let thread = between-most 1 (r .thread) 64 (range-thread r (ranged .0)) in
     let b = begun .0 in
-    let u = until .0 in
+    let u = times .0 in
     let n = numbered .0 in
     let item = item-fits r (ranged .0) in (
       (
         omega (arith, kind),
-        (omega (arith, thread), (omega (arith, b, u, l), (omega (arith, u, l), (omega (arith, n, few), (item .0, (item .1, tt)))))),
+        (omega (arith, thread), (omega (arith, b, u), (u, (omega (arith, n, few), (item .0, (item .1, tt)))))),
       ),
-      words-fit last (suc p) rs l (omega (arith, few)) (ranged .1) (numbered .1) (begun .1) (until .1),
+      words-fit (suc p) rs (omega (arith, few)) (ranged .1) (numbered .1) (begun .1) (times .1),
     )
 
 -- Demand 3's ledger, moment by moment.
@@ -108,7 +108,7 @@ followed (m ∷ ms) b l a s =
 no-operation : Fits emptyLedger (λ t. record { number = 0; item = zeroItem }) 1
 no-operation = record { op = λ t. tt; items = λ i h. absurd (omega (arith, h)) }
 
-recorded : InEveryHistory λ s permissions b ms. NoListBegins ms → Recording emptyLedger 1 (1 + length ms) 0 (historyRecords ms)
+recorded : InEveryHistory λ s permissions b ms. NoListBegins ms → Recording emptyLedger 1 0 (historyRecords ms)
 recorded s ps b e calls n lists =
     let laid = layoutBytes s ps b in
     let ms = history laid calls in
@@ -119,11 +119,10 @@ recorded s ps b e calls n lists =
 pub histories-are-accepted : HistoriesAreAccepted
 histories-are-accepted s ps b e calls n lists few records has =
     let ms = history (layoutBytes s ps b) calls in
-    turn-accepted (historyRecords ms) (in-turn (1 + length ms) (historyRecords ms) (recorded s ps b e calls n lists)) few records has
+    turn-accepted (historyRecords ms) (in-turn (historyRecords ms) (recorded s ps b e calls n lists)) few records has
 
 pub histories-can-be-written : HistoriesCanBeWritten
 histories-can-be-written s ps b e calls n lists few fit =
     let ms = history (layoutBytes s ps b) calls in
     let r = recorded s ps b e calls n lists in
-    has-written (historyRecords ms)
-    (words-fit (1 + length ms) 0 (historyRecords ms) (omega (arith, fit)) (omega (arith, few)) (r .ranged) (r .numbered) (r .begun) (r .until))
+    (has-written (historyRecords ms) (words-fit 0 (historyRecords ms) (omega (arith, few)) (r .ranged) (r .numbered) (r .begun) fit), written-bytes (historyRecords ms))

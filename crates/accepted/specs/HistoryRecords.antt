@@ -1,5 +1,7 @@
--- The records of a history of the queue, as a recorder would write them (document 02, request 9): one for each deciding access, begin and answer
--- as numbers of moments, the position by the order of the deciding accesses.
+-- The records of a history of the queue in which no list begins, as a recorder would write them (document 02, request 9): one for each deciding
+-- access, begin and answer as numbers of moments, the position by the order of the deciding accesses. An answered operation has exactly one
+-- deciding access (`answered-once` of demand 3), and what a take removes there is what it answers (`take-answers` of the ledger): so these are the
+-- records of the answered operations, and of those that have decided and are not answered yet.
 use Prim.Native.Nat.{ℕ, suc, _+_}
 use mathlib.Core.Path.{_≡_}
 use mathlib.Core.List.{List, [], _∷_, _++_}
@@ -17,7 +19,7 @@ pub record Beginning : Type 0 where
   pub number : ℕ
   pub item : Item
 
--- once moment k has told this; takes of a list are left out
+-- each thread's last beginning, once moment k has told this; lists are left out
 abbrev pub begunAfter : (ℕ → Beginning) → ℕ → Told → ℕ → Beginning
 begunAfter begun k nothing = begun
 begunAfter begun k (beginsPut t i) = upd begun t (record { number = k; item = i })
@@ -30,14 +32,14 @@ begunAfter begun k (decidesEmpty t) = begun
 begunAfter begun k (answersTook t i) = begun
 begunAfter begun k (withdraws t) = begun
 
--- how many moments come before the first that answers thread t. One that has not been answered counts as answered after the last.
+-- how many moments come before the first that answers thread t. An operation that has not been answered counts as answered after the last.
 unfoldable pub untilAnswer : ℕ → List Moment → ℕ
 untilAnswer t [] = 0
 untilAnswer t (m ∷ ms) = pick (answered t (m .event)) 0 (suc (untilAnswer t ms))
 
 -- the record of a deciding access of thread t: `ms` are the moments from its own on, which has the number k, and p deciding accesses came before
-abbrev pub decided : (ℕ → Beginning) → ℕ → ℕ → List Moment → ℕ → ℕ → Item → Recorded
-decided begun k p ms kind t i =
+abbrev pub decidedRecord : (ℕ → Beginning) → ℕ → ℕ → List Moment → ℕ → ℕ → Item → Recorded
+decidedRecord begun k p ms kind t i =
     record {
       kind = kind;
       thread = t;
@@ -52,10 +54,10 @@ recordsAt begun k p ms nothing = []
 recordsAt begun k p ms (beginsPut t i) = []
 recordsAt begun k p ms (beginsTake t) = []
 recordsAt begun k p ms (beginsList t) = []
-recordsAt begun k p ms (decidesPut t) = decided begun k p ms 1 t (begun t .item) ∷ []
-recordsAt begun k p ms (decidesTake t i) = decided begun k p ms 2 t i ∷ []
+recordsAt begun k p ms (decidesPut t) = decidedRecord begun k p ms 1 t (begun t .item) ∷ []
+recordsAt begun k p ms (decidesTake t i) = decidedRecord begun k p ms 2 t i ∷ []
 recordsAt begun k p ms (decidesList t is) = []
-recordsAt begun k p ms (decidesEmpty t) = decided begun k p ms 3 t zeroItem ∷ []
+recordsAt begun k p ms (decidesEmpty t) = decidedRecord begun k p ms 3 t zeroItem ∷ []
 recordsAt begun k p ms (answersTook t i) = []
 recordsAt begun k p ms (withdraws t) = []
 

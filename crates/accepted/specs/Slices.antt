@@ -1,5 +1,5 @@
 -- A slice that has given records, in any order, and one that is written from them.
-use Prim.Native.Nat.{ℕ, _*_, _<_}
+use Prim.Native.Nat.{ℕ, _*_, _^_, _<_}
 use mathlib.Core.Path.{_≡_}
 use mathlib.Core.List.{List, [], _∷_, _++_}
 use lib.ListN.{length, getD, replicate}
@@ -18,14 +18,19 @@ pub record HasRecords (b : List ℕ) (rs : List Recorded) : Type 0 where
   pub order : Order (length rs)
   pub each : (k : ℕ) → k < length rs → recordedAt b (order .which k) ≡ getD rs k noRecord
 
--- the seven words of a record, and of all records, one behind the other
-abbrev pub recordedWords : Recorded → List ℕ
-recordedWords r = r .kind ∷ r .thread ∷ r .begin ∷ r .answer ∷ r .position ∷ r .item .key ∷ r .item .tag ∷ []
+-- the seven words of a record, and those of all records, one record behind the other
+abbrev pub recordWords : Recorded → List ℕ
+recordWords r = r .kind ∷ r .thread ∷ r .begin ∷ r .answer ∷ r .position ∷ r .item .key ∷ r .item .tag ∷ []
 
-unfoldable pub recordWords : List Recorded → List ℕ
-recordWords [] = []
-recordWords (r ∷ rs) = recordedWords r ++ recordWords rs
+unfoldable pub allWords : List Recorded → List ℕ
+allWords [] = []
+allWords (r ∷ rs) = recordWords r ++ allWords rs
 
 -- a slice of these words
 abbrev pub written : List Recorded → List ℕ
-written rs = setWords (replicate (28 * length rs) 0) 0 (recordWords rs)
+written rs = setWords (replicate (28 * length rs) 0) 0 (allWords rs)
+
+-- the answers' times fit a word, and so do the beginnings', which are before them
+abbrev pub TimesFit : List Recorded → Type 0
+TimesFit [] = Unit
+TimesFit (r ∷ rs) = (r .answer < 2 ^ 32) × TimesFit rs

@@ -40,12 +40,13 @@ overlapping =
     ∷ (records (put 1 1 4 2 5 0 ++ take 2 2 3 1 5 0), answered rejected)
     ∷ [])
 
--- "an operation answered before another begins has the smaller position": an empty that overlaps a put may come before it, one that begins
--- behind its answer may not
+-- "an operation answered before another begins has the smaller position": an empty that overlaps a put may come before it, and so may one that
+-- begins at the time of its answer; one that begins later may not
 abbrev pub real-time : Row
 real-time =
     judged
     ((records (put 1 1 4 2 5 0 ++ empty 2 2 3 1), answered done)
+    ∷ (records (put 1 1 2 2 5 0 ++ empty 2 2 3 1), answered done)
     ∷ (records (put 1 1 2 2 5 0 ++ empty 2 3 4 1), answered rejected)
     ∷ [])
 
@@ -77,11 +78,13 @@ out-of-range =
     ∷ (checksRecords 29 (put 1 1 2 1 5 0), answered badRecords)
     ∷ (records (0 ∷ 1 ∷ 1 ∷ 2 ∷ 1 ∷ 5 ∷ 0 ∷ []), answered badRecords)
     ∷ (records (4 ∷ 1 ∷ 1 ∷ 2 ∷ 1 ∷ 5 ∷ 0 ∷ []), answered badRecords)
+    ∷ (records (put 0 1 2 1 5 0), answered badRecords)
     ∷ (records (put 64 1 2 1 5 0), answered done)
     ∷ (records (put 65 1 2 1 5 0), answered badRecords)
     ∷ (records (put 1 1 2 1 4294967294 65535), answered done)
     ∷ (records (put 1 1 2 1 4294967295 0), answered badRecords)
     ∷ (records (put 1 2 1 7 5 65536), answered badRecords)
+    ∷ (records (3 ∷ 1 ∷ 1 ∷ 2 ∷ 1 ∷ 1 ∷ 0 ∷ []), answered badRecords)
     ∷ (records (3 ∷ 1 ∷ 1 ∷ 2 ∷ 1 ∷ 0 ∷ 1 ∷ []), answered badRecords)
     ∷ [])
 

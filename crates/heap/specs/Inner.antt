@@ -4,7 +4,7 @@ use mathlib.Core.Path.{_≡_}
 use mathlib.Core.List.{List}
 use lib.ListN.{getD}
 
--- c is a child of entry i among the entries to m, and none of its children is less
+-- c is a child of entry i among the entries to m, and no child of i is less
 pub record LeastChild (h : List ℕ) (m i c : ℕ) : Type 0 where
   pub child : c / 2 ≡ i
   pub within : c ≤ m

@@ -1,5 +1,5 @@
 // A binary heap of numbers in a lent slice, the least on top: its entries are 1 to its size, entry 0 is not used.
-// Both functions move a hole to where the number in hand belongs, and store that once.
+// Both functions move a hole to where the number to be stored belongs, and store it once.
 ghost use Prim.Native.Nat.{_+_, _*_, _≤_, _<_};
 ghost use lib.ListN.{length};
 ghost use Rattle.heap.specs.Heap.{Pushed, Popped};

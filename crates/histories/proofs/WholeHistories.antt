@@ -20,7 +20,7 @@ use Rattle.bag.specs.Told.{tells}
 use Rattle.records.specs.Accepts.{recordsAnswer}
 use Rattle.records.specs.declared.form.Recorded.{Recorded}
 use Rattle.accepted.specs.HistoryRecords.{historyRecords, recordsFrom, untilAnswer}
-use Rattle.accepted.specs.Slices.{recordWords, written}
+use Rattle.accepted.specs.Slices.{allWords, written}
 
 -- a run of these threads' turns, with an answer slice for it
 abbrev runs : List ℕ → Call
@@ -75,7 +75,7 @@ unfolding records-of-J laid calls five computes after refusalOf servedOn turnMom
 case-J-recorded = refl
 
 pub case-J-accepted : recordsAnswer (written records-of-J) ≡ done
-unfolding records-of-J five computes recordWords
+unfolding records-of-J five computes allWords
 case-J-accepted = refl
 
 -- a list of two items

@@ -11,7 +11,7 @@ use lib.Dec.{eqb, ltb}
 use lib.ListN.{length, getD, set, length-set}
 use lib.Seq.{getD-set-same, getD-set-other}
 use Rattle.region.specs.Pick.{pick}
-use Rattle.records.specs.Accepts.{claimant}
+use Rattle.records.specs.Accepts.{claimant, inPlace}
 use Rattle.records.specs.Inner.{InOrder, InTime, ToTime, ended, later}
 use Rattle.records.specs.Recorded.{recordedAt}
 use Rattle.records.specs.declared.form.Recorded.{Recorded}
@@ -34,32 +34,28 @@ pub one-yet : (last begin : ℕ) → (last ≡ 0 → ⊥) → ltb last begin ≡
 unfolding ended
 one-yet last begin n = rw (ne-eqb last 0 n) refl
 
--- the record that claims position k + 1
-abbrev pub at : ℕ → (ℕ → Recorded) → ℕ → Recorded
-at n r k = r (claimant n r (suc k))
-
 -- a record before position k + 1 with this begin; one of thread t with this answer
 pub record Began (n : ℕ) (r : ℕ → Recorded) (k time : ℕ) : Type 0 where
   pub which : ℕ
   pub before : which < k
-  pub begin : at n r which .begin ≡ time
+  pub begin : inPlace n r which .begin ≡ time
 
 pub record Answered (n : ℕ) (r : ℕ → Recorded) (k t time : ℕ) : Type 0 where
   pub which : ℕ
   pub before : which < k
-  pub thread : at n r which .thread ≡ t
-  pub answer : at n r which .answer ≡ time
+  pub thread : inPlace n r which .thread ≡ t
+  pub answer : inPlace n r which .answer ≡ time
 
 -- the first k positions are in time: `latest` is their greatest begin, and `last` has the last answer of each thread
 pub record Timing (n : ℕ) (r : ℕ → Recorded) (latest : ℕ) (last : List ℕ) (k : ℕ) : Type 0 where
   pub within : k ≤ n
   pub long : length last ≡ 65
-  pub latest-most : (a : ℕ) → a < k → at n r a .begin ≤ latest
+  pub latest-most : (a : ℕ) → a < k → inPlace n r a .begin ≤ latest
   pub latest-one : (latest ≡ 0) ⊎ Began n r k latest
-  pub in-time : (c : ℕ) → c < k → (a : ℕ) → a < c → at n r a .begin ≤ at n r c .answer
-  pub last-most : (a : ℕ) → a < k → at n r a .answer ≤ getD last (at n r a .thread) 0
+  pub in-time : (c : ℕ) → c < k → (a : ℕ) → a < c → inPlace n r a .begin ≤ inPlace n r c .answer
+  pub last-most : (a : ℕ) → a < k → inPlace n r a .answer ≤ getD last (inPlace n r a .thread) 0
   pub last-one : (t : ℕ) → (getD last t 0 ≡ 0) ⊎ Answered n r k t (getD last t 0)
-  pub one-by-one : (c : ℕ) → c < k → (a : ℕ) → a < c → at n r a .thread ≡ at n r c .thread → at n r a .answer < at n r c .begin
+  pub one-by-one : (c : ℕ) → c < k → (a : ℕ) → a < c → inPlace n r a .thread ≡ inPlace n r c .thread → inPlace n r a .answer < inPlace n r c .begin
 
 pub times-start : {b : List ℕ} {n : ℕ} {order last : List ℕ} → ToTime b n order last → Timing n (recordedAt b) 0 last 0
 times-start {b} {n} {order} {last} t =
@@ -80,20 +76,20 @@ module _ {n : ℕ} {r : ℕ → Recorded} {order : List ℕ} (o : InOrder n r or
   apart a c l h e = omega (arith, l, o .claims a (omega arith), o .claims c h, ap (λ y. r y .position) e)
 
   -- the later one is answered before the earlier begins
-  out-of-time : (a c : ℕ) → a < c → c < n → at n r c .answer < at n r a .begin → Accepted n r → ⊥
+  out-of-time : (a c : ℕ) → a < c → c < n → inPlace n r c .answer < inPlace n r a .begin → Accepted n r → ⊥
   out-of-time a c l h t w =
       let g = w .real-time (claimant n r (suc c)) (claimant n r (suc a)) (o .there c h) (o .there a (omega arith))
       (λ e. apart a c l h (sym e)) t in
       omega (arith, g, o .claims a (omega arith), o .claims c h)
 
   -- both are of one thread, and the earlier is not answered before the later begins
-  crossing : (a c : ℕ) → a < c → c < n → at n r a .thread ≡ at n r c .thread → at n r c .begin ≤ at n r a .answer → Accepted n r → ⊥
+  crossing : (a c : ℕ) → a < c → c < n → inPlace n r a .thread ≡ inPlace n r c .thread → inPlace n r c .begin ≤ inPlace n r a .answer → Accepted n r → ⊥
   crossing a c l h e t w =
       ⊎-elim (λ g. omega (arith, g, t)) (λ g. out-of-time a c l h g w)
       (w .one-at-a-time (claimant n r (suc a)) (claimant n r (suc c)) (o .there a (omega arith)) (o .there c h) (apart a c l h) e)
 
   module _ {latest : ℕ} {last : List ℕ} {k : ℕ} (f : Timing n r latest last k) (h : k < n) (x : Recorded)
-      (here : x ≡ at n r k) where
+      (here : x ≡ inPlace n r k) where
     fails : (Accepted n r → ⊥) → InTime n r false
     fails g =
         record {
@@ -142,9 +138,9 @@ module _ {n : ℕ} {r : ℕ → Recorded} {order : List ℕ} (o : InOrder n r or
         begun : x .begin < x .answer
         begun = subst (λ y. y .begin < y .answer) (sym here) (o .begun (claimant n r (suc k)) (o .there k h))
 
-        ends-before : (a : ℕ) → a < k → at n r a .thread ≡ x .thread → at n r a .answer < x .begin
+        ends-before : (a : ℕ) → a < k → inPlace n r a .thread ≡ x .thread → inPlace n r a .answer < x .begin
         ends-before a l e =
-            let m = subst (λ t. at n r a .answer ≤ getD last t 0) e (f .last-most a l) in
+            let m = subst (λ t. inPlace n r a .answer ≤ getD last t 0) e (f .last-most a l) in
             let some = o .begun (claimant n r (suc a)) (o .there a (omega (arith, l, h))) in
             ⊎-elim (λ z. absurd (omega (arith, m, some, z))) (λ g. omega (arith, m, g)) after-last
 
@@ -155,19 +151,19 @@ module _ {n : ℕ} {r : ℕ → Recorded} {order : List ℕ} (o : InOrder n r or
               within = omega arith;
               long = length-set last (x .thread) (x .answer) ∙ f .long;
               latest-most =
-                  upto k (λ a. at n r a .begin ≤ next) (λ a l. let m = f .latest-most a l in omega (arith, m, least .0))
+                  upto k (λ a. inPlace n r a .begin ≤ next) (λ a l. let m = f .latest-most a l in omega (arith, m, least .0))
                   (subst (λ y. y .begin ≤ next) here (least .1));
               latest-one = one (ltb latest (x .begin)) en;
               in-time =
-                  upto k (λ c. (a : ℕ) → a < c → at n r a .begin ≤ at n r c .answer) (f .in-time)
+                  upto k (λ c. (a : ℕ) → a < c → inPlace n r a .begin ≤ inPlace n r c .answer) (f .in-time)
                   (λ a l. let m = f .latest-most a l in omega (arith, m, early, ap (λ y. y .answer) here));
               last-most =
-                  upto k (λ a. at n r a .answer ≤ getD last′ (at n r a .thread) 0) last-most
+                  upto k (λ a. inPlace n r a .answer ≤ getD last′ (inPlace n r a .thread) 0) last-most
                   (subst (λ y. y .answer ≤ getD last′ (y .thread) 0) here (omega (arith, now)));
               last-one = last-one;
               one-by-one =
-                  upto k (λ c. (a : ℕ) → a < c → at n r a .thread ≡ at n r c .thread → at n r a .answer < at n r c .begin) (f .one-by-one)
-                  (λ a l e. subst (λ y. at n r a .answer < y .begin) here (ends-before a l (e ∙ sym (ap (λ y. y .thread) here))));
+                  upto k (λ c. (a : ℕ) → a < c → inPlace n r a .thread ≡ inPlace n r c .thread → inPlace n r a .answer < inPlace n r c .begin) (f .one-by-one)
+                  (λ a l e. subst (λ y. inPlace n r a .answer < y .begin) here (ends-before a l (e ∙ sym (ap (λ y. y .thread) here))));
             }
           where
             last′ : List ℕ
@@ -189,17 +185,17 @@ module _ {n : ℕ} {r : ℕ → Recorded} {order : List ℕ} (o : InOrder n r or
                 ⊎-elim (λ z. inl (g ∙ z))
                 (λ b. inr (record { which = b .which; before = omega (arith, b .before); begin = b .begin ∙ sym g })) (f .latest-one)
 
-            last-most : (a : ℕ) → a < k → at n r a .answer ≤ getD last′ (at n r a .thread) 0
-            last-most a l = go (eqb (at n r a .thread) (x .thread)) refl
+            last-most : (a : ℕ) → a < k → inPlace n r a .answer ≤ getD last′ (inPlace n r a .thread) 0
+            last-most a l = go (eqb (inPlace n r a .thread) (x .thread)) refl
               where
-                go : (q : Bool) → eqb (at n r a .thread) (x .thread) ≡ q → at n r a .answer ≤ getD last′ (at n r a .thread) 0
+                go : (q : Bool) → eqb (inPlace n r a .thread) (x .thread) ≡ q → inPlace n r a .answer ≤ getD last′ (inPlace n r a .thread) 0
                 go true e =
-                    let t = eqb-true (at n r a .thread) (x .thread) e in
+                    let t = eqb-true (inPlace n r a .thread) (x .thread) e in
                     let m = ends-before a l t in
-                    subst (λ y. at n r a .answer ≤ getD last′ y 0) (sym t) (omega (arith, m, begun, now))
+                    subst (λ y. inPlace n r a .answer ≤ getD last′ y 0) (sym t) (omega (arith, m, begun, now))
                 go false e =
                     let m = f .last-most a l in
-                    rw (getD-set-other last (x .thread) (at n r a .thread) (x .answer) 0 (eqb-false (at n r a .thread) (x .thread) e)) m
+                    rw (getD-set-other last (x .thread) (inPlace n r a .thread) (x .answer) 0 (eqb-false (inPlace n r a .thread) (x .thread) e)) m
 
             last-one : (t : ℕ) → (getD last′ t 0 ≡ 0) ⊎ Answered n r (k + 1) t (getD last′ t 0)
             last-one t = go (eqb t (x .thread)) refl
@@ -228,34 +224,34 @@ module _ {n : ℕ} {r : ℕ → Recorded} {order : List ℕ} (o : InOrder n r or
         no = λ e. absurd (true≢false e);
       }
     where
-      place : (i : ℕ) → i < n → at n r (r i .position - 1) ≡ r i
+      place : (i : ℕ) → i < n → inPlace n r (r i .position - 1) ≡ r i
       place i l =
           let e = o .first i l in ap (λ p. r (claimant n r p)) (omega (arith, e)) ∙ ap r (o .by-claim i l)
 
       by-position : (P : Recorded → Recorded → Type 0) (i j : ℕ) → i < n → j < n → (i ≡ j → ⊥)
-          → ((a c : ℕ) → a < c → c < n → P (at n r a) (at n r c)) → ((a c : ℕ) → a < c → c < n → P (at n r c) (at n r a)) → P (r i) (r j)
+          → ((a c : ℕ) → a < c → c < n → P (inPlace n r a) (inPlace n r c)) → ((a c : ℕ) → a < c → c < n → P (inPlace n r c) (inPlace n r a)) → P (r i) (r j)
       by-position P i j hi hj ne first second = go (ltb (r i .position) (r j .position)) refl
         where
           go : (q : Bool) → ltb (r i .position) (r j .position) ≡ q → P (r i) (r j)
           go true e =
               let l = ltb-true (r i .position) (r j .position) e in
-              subst (λ y. P y (r j)) (place i hi) (subst (P (at n r (r i .position - 1))) (place j hj)
+              subst (λ y. P y (r j)) (place i hi) (subst (P (inPlace n r (r i .position - 1))) (place j hj)
               (first (r i .position - 1) (r j .position - 1) (omega (arith, l, o .first i hi)) (omega (arith, o .first j hj, o .last j hj))))
           go false e =
               let l = ltb-false (r i .position) (r j .position) e in
               let d : r i .position ≡ r j .position → ⊥
               = λ z. ne (sym (o .by-claim i hi) ∙ ap (claimant n r) z ∙ o .by-claim j hj) in
-              subst (λ y. P y (r j)) (place i hi) (subst (P (at n r (r i .position - 1))) (place j hj)
+              subst (λ y. P y (r j)) (place i hi) (subst (P (inPlace n r (r i .position - 1))) (place j hj)
               (second (r j .position - 1) (r i .position - 1) (omega (arith, l, d, o .first j hj)) (omega (arith, o .first i hi, o .last i hi))))
 
-      one-first : (a c : ℕ) → a < c → c < n → OneByOne (at n r a) (at n r c)
+      one-first : (a c : ℕ) → a < c → c < n → OneByOne (inPlace n r a) (inPlace n r c)
       one-first a c l m e = inl (f .one-by-one c (omega (arith, m, h)) a l e)
 
-      one-second : (a c : ℕ) → a < c → c < n → OneByOne (at n r c) (at n r a)
+      one-second : (a c : ℕ) → a < c → c < n → OneByOne (inPlace n r c) (inPlace n r a)
       one-second a c l m e = inr (f .one-by-one c (omega (arith, m, h)) a l (sym e))
 
-      real-first : (a c : ℕ) → a < c → c < n → InRealTime (at n r a) (at n r c)
+      real-first : (a c : ℕ) → a < c → c < n → InRealTime (inPlace n r a) (inPlace n r c)
       real-first a c l m e = omega (arith, l, o .claims a (omega (arith, l, m)), o .claims c m)
 
-      real-second : (a c : ℕ) → a < c → c < n → InRealTime (at n r c) (at n r a)
+      real-second : (a c : ℕ) → a < c → c < n → InRealTime (inPlace n r c) (inPlace n r a)
       real-second a c l m e = let g = f .in-time c (omega (arith, m, h)) a l in absurd (omega (arith, e, g))

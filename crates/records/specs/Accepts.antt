@@ -49,22 +49,25 @@ module _ (n : ℕ) (r : ℕ → Recorded) where
   unfolding every eachTwo isClaimed
   positionsFit = every n (λ i. between 1 (r i .position) n) && eachTwo differ && every n (λ k. isClaimed (suc k))
 
--- which of the first n records claims position p, if one does
+-- which of the first n records claims position p: the last of them if several do, and 0 if none does
 unfoldable pub claimant : ℕ → (ℕ → Recorded) → ℕ → ℕ
 claimant zero r p = 0
 claimant (suc n) r p = pick (eqb (r n .position) p) n (claimant n r p)
 
--- the m records that claim the positions after k, in their order
-unfoldable pub fromPosition : ℕ → (ℕ → Recorded) → ℕ → ℕ → List Recorded
-unfolding claimant
-fromPosition n r k zero = []
-fromPosition n r k (suc m) = r (claimant n r (suc k)) ∷ fromPosition n r (suc k) m
+-- m of the records f, from f k on
+unfoldable pub listed : (ℕ → Recorded) → ℕ → ℕ → List Recorded
+listed f k zero = []
+listed f k (suc m) = f k ∷ listed f (suc k) m
+
+-- the record that claims position k + 1, and all by their positions
+abbrev pub inPlace : ℕ → (ℕ → Recorded) → ℕ → Recorded
+inPlace n r k = r (claimant n r (suc k))
 
 abbrev pub byPosition : ℕ → (ℕ → Recorded) → List Recorded
-byPosition n r = fromPosition n r 0 n
+byPosition n r = listed (inPlace n r) 0 n
 
 unfoldable pub accepts : ℕ → (ℕ → Recorded) → Bool
-unfolding every eachTwo positionsFit fromPosition plays
+unfolding every eachTwo positionsFit claimant listed plays
 accepts n r =
     every n (λ i. beginsBeforeAnswer (r i))
     && eachTwo n r oneByOne

@@ -9,7 +9,7 @@ use Rattle.region.specs.Pick.{pick}
 use Rattle.region.specs.Record.{isItem}
 use Rattle.region.specs.declared.record.Item.{Item}
 use Rattle.heap.specs.Heap.{Ordered, copies}
-use Rattle.records.specs.Accepts.{accepts, claimant, eachTwo, inRealTime, oneByOne}
+use Rattle.records.specs.Accepts.{accepts, claimant, eachTwo, inPlace, inRealTime, oneByOne}
 use Rattle.records.specs.Play.{bagAfter, bagGives}
 use Rattle.records.specs.Recorded.{inRange, recordedAt}
 use Rattle.records.specs.declared.form.Recorded.{Recorded}
@@ -45,14 +45,15 @@ pub record PutInOrder (n : ℕ) (r : ℕ → Recorded) (order : List ℕ) (q : B
   pub yes : q ≡ true → InOrder n r order
   pub no : q ≡ false → accepts n r ≡ false
 
--- the walk by position is at position k + 1, and x is the record there
+-- the walk by position is at position k + 1
 pub record InWalk (b : List ℕ) (n : ℕ) (order : List ℕ) (k : ℕ) : Type 0 where
   pub formed : WellFormed b n
   pub ordered : InOrder n (recordedAt b) order
   pub within : k < n
 
+-- x is the record there
 pub record AtPosition (b : List ℕ) (n k : ℕ) (x : Recorded) : Type 0 where
-  pub is : x ≡ recordedAt b (claimant n (recordedAt b) (suc k))
+  pub is : x ≡ inPlace n (recordedAt b) k
   pub ranged : inRange x ≡ true
   pub low : x .thread < 65
 

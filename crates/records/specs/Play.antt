@@ -32,7 +32,7 @@ unfoldable pub isEmptyBag : List Item → Bool
 isEmptyBag [] = true
 isEmptyBag (i ∷ bag) = false
 
--- the bag gives the answer that is recorded: a put has none to give, a take has the least item, an empty finds the bag empty
+-- the bag gives the answer that is recorded: to a put always, to a take its least item, to an empty that it holds nothing
 unfoldable pub bagGives : List Item → Recorded → Bool
 bagGives bag r = pick (isPut r) true (pick (isTake r) (isLeast bag (r .item)) (isEmptyBag bag))
 

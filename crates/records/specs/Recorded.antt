@@ -55,7 +55,7 @@ unfoldable pub inRange : Recorded → Bool
 inRange r =
     between 1 (r .kind) 3 && between 1 (r .thread) 64 && pick (isEmpty r) (sameItem (r .item) zeroItem) (isItem (r .item))
 
--- the first n records are
+-- the first n records are in range
 unfoldable pub allInRange : List ℕ → ℕ → Bool
 unfolding every inRange recordedAt
 allInRange b n = every n (λ k. inRange (recordedAt b k))

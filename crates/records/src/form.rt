@@ -7,7 +7,7 @@ ghost use Rattle.records.specs.Recorded.{allInRange, inRange, recordedAt
 use region::Item;
 
 // The bytes of a record.
-const RECORD_BYTES: usize = 28;
+pub const RECORD_BYTES: usize = 28;
 
 // What a record says of an operation: its kind (put 1, take 2, empty 3), its thread, when it began and was answered, the
 // position that it claims among all, and its item.

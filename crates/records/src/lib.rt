@@ -1,5 +1,5 @@
-// Checks the records that a native build writes of its operations (document 02, request 9): refuses those that are not in range, then compares
-// times and positions and plays the bag, each in one walk over the records.
+// Checks the records that a native build writes of its operations (document 02, request 9), in four walks over them: the first refuses what is
+// out of range, the second puts them in the order of their positions, the third compares the times and the fourth plays the bag, by position.
 ghost use mathlib.Core.Path.{_≡_};
 ghost use Rattle.records.specs.Accepts.{accepts, recordsAnswer};
 ghost use Rattle.records.specs.Inner.{WellFormed};
@@ -32,14 +32,14 @@ fn is_accepted(b: &[u8], n: usize) -> bool
     play::is_played(b, n, &order, &mut bag)
 }
 
-// 0 if the records are accepted, 12 if they cannot be read, else 255.
+// 12 if the records are refused, 0 if they are accepted, else 255.
 pub fn check_records(b: &[u8]) -> u32
     ensures { λ r. ⌜ r ≡ recordsAnswer (now (b .entry)) ⌝ }
 {
     if !form::is_well_formed(b) {
         return BAD_RECORDS;
     }
-    if is_accepted(b, b.len() / 28) {
+    if is_accepted(b, b.len() / form::RECORD_BYTES) {
         DONE
     } else {
         REJECTED
