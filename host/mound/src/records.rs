@@ -13,9 +13,10 @@ const PUT: u32 = 1;
 const TAKE: u32 = 2;
 const EMPTY: u32 = 3;
 
-/// The greatest key and the greatest tag of an item.
+/// The greatest key of an item.
 const GREATEST_KEY: u32 = u32::MAX - 1;
-const GREATEST_TAG: u32 = 0xffff;
+/// The greatest tag of an item.
+pub(crate) const GREATEST_TAG: u32 = 65_535;
 
 /// An operation that was answered, as a [`Record`] tells of it.
 #[derive(Clone, Copy, Debug, PartialEq, Eq, Hash)]
@@ -160,7 +161,7 @@ impl fmt::Display for Record {
     }
 }
 
-/// What the check says of records that can be read.
+/// What the check says of records that are in range.
 #[derive(Clone, Copy, Debug, PartialEq, Eq, Hash)]
 #[must_use = "it says whether the records are accepted"]
 pub enum Verdict {
@@ -192,8 +193,9 @@ impl fmt::Display for Verdict {
 /// - with the operations made one after the other by position, starting from no item, each take
 ///   gets the least item, by key and then by tag, and an empty finds none.
 ///
-/// Cost: each record is looked at four times; a put and a take compare as many items as a heap has
-/// levels. A refused one ends at the first record that is out of range. No memory is allocated.
+/// Cost: each record is looked at four times at most; a put compares its item with at most one on
+/// each level of a heap, a take with at most two. A check that refuses ends at the first record that
+/// is out of range. No memory is allocated; 12 kB of the stack are used.
 ///
 /// ```
 /// use mound::{check_records, Operation, Record, Refusal, Verdict};

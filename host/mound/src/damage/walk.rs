@@ -4,6 +4,7 @@
 use core::ops::RangeInclusive;
 
 use super::{Beside, Damage, OutOfRange, Part};
+use crate::records::GREATEST_TAG;
 use crate::shape::most_cells;
 use crate::words::{word, WORD};
 use crate::Shape;
@@ -11,7 +12,6 @@ use crate::Shape;
 /// The words of the shape.
 const SHAPE_WORDS: usize = 4;
 
-const GREATEST_TAG: u32 = 65_535;
 /// Put and take.
 const GREATEST_PERMISSION: u32 = 3;
 /// The greatest number of a place, and of what comes after mending.
