@@ -19,7 +19,7 @@
 extern "C" {
 #endif
 
-/* What a call answers: done (of a check: yes), or why it is refused. */
+/* What a call answers: done (of a check: yes), or why it is refused; mound_records has MOUND_REJECTED too. */
 enum mound_refusal {
     MOUND_DONE = 0,
     MOUND_REFUSED_SHAPE = 1,          /* a number of the shape or a permission is out of range, or there is not one permission for each thread */
@@ -33,7 +33,7 @@ enum mound_refusal {
     MOUND_REFUSED_BUSY = 9,           /* the thread has an operation under way */
     MOUND_REFUSED_NO_FREE_CELL = 10,  /* no cell is free */
     MOUND_REFUSED_COUNTER_SPENT = 11, /* only of a turn: its update meets a counter that cannot grow */
-    MOUND_REFUSED_RECORDS = 12        /* a part of a record, more than 1,024, or a kind, thread, key or tag out of range */
+    MOUND_REFUSED_RECORDS = 12        /* a part of a record, more than 1,024, or a kind, thread, key or tag out of range (of an empty: not 0) */
 };
 
 /* What a turn answers: the first of its three words. The other two are 0, but for took and refused. */
@@ -136,11 +136,13 @@ uint32_t mound_check(const uint8_t *region, size_t region_length);
 
 /*
  * Whether what threads of a native build did was what a queue may do. A record is seven words: kind, thread (1 to 64), begin time,
- * answer time, claimed position, key, tag. Done if each begins before its answer; of two operations of a thread one is answered
- * before the other begins; the positions are 1 to the number of records, each claimed once; an operation that is answered before
- * another begins has the smaller position; and a bag, played in the order of the positions, gives every answer: a put adds its item,
- * a take has the least one, which leaves, an empty finds none. Else MOUND_REJECTED. The records may stand in any order.
- * Refusal: 12. Cost: each record is read four times; at most 1,024 of them, each with a place in a heap.
+ * answer time, claimed position, key, tag; key and tag are an item's, of an empty 0. Done exactly if each begins before its answer; of
+ * two operations of a thread one is answered before the other begins; the positions are 1 to the number of records, each claimed once;
+ * an operation that is answered before another begins has the smaller position; and a bag, played in the order of the positions, gives
+ * every answer: a put adds its item, a take has the least one, which leaves, an empty finds none. Else MOUND_REJECTED. The records may
+ * stand in any order; none at all are done.
+ * Refusal: 12, before any comparison. Cost: each record is read at most four times; a put and a take go along a heap of at most 1,024
+ * numbers; 12 kB of stack.
  */
 uint32_t mound_records(const uint8_t *records, size_t records_length);
 
