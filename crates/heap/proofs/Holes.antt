@@ -89,9 +89,6 @@ module _ (h : List ℕ) (m i : ℕ) (r : i < length h) (o : Hole h m i) where
     down-other : (j : ℕ) → j ≢ i → getD (set h i (getD h c 0)) j 0 ≡ getD h j 0
     down-other j n = getD-set-other h i j (getD h c 0) 0 n
 
-    pub down-below : x ≤ getD h c 0 → FitsBelow h m i x
-    down-below g j lj uj e = omega (arith, s .least j uj e)
-
     down-apart : (j : ℕ) → 2 ≤ j → j ≤ m → j ≢ c → j / 2 ≢ c
         → getD (set h i (getD h c 0)) (j / 2) 0 ≤ getD (set h i (getD h c 0)) j 0
     down-apart j lj uj n d = go (ℕ-discrete j i) (ℕ-discrete (j / 2) i)

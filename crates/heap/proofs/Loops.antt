@@ -1,5 +1,5 @@
 -- The loops of push and pop, and the ways of `lesser_child`: the invariants, one pass of each and each way out, over plain variables.
--- The hole filled with the number in hand always counts what the contract says. Assumes nothing.
+-- The hole filled with the number to be stored always counts what the contract says. Assumes nothing.
 use Prim.Native.Nat.{ℕ, suc, _+_, _-_, _*_, _/_, _≤_, _<_}
 use native.Mathlib.Decide.{ℕ-discrete}
 use native.Mathlib.Numerals.{add-one}
@@ -14,7 +14,7 @@ use Rattle.region.specs.Pick.{pick}
 use Rattle.heap.specs.Heap.{copies, Ordered, Pushed, Popped}
 use Rattle.heap.specs.Inner.{LeastChild}
 use Rattle.heap.proofs.Laws.{copies-above, copies-set}
-use Rattle.heap.proofs.Holes.{Hole, FitsAbove, FitsBelow, settled, up-hole, up-below, down-hole, down-above, down-below}
+use Rattle.heap.proofs.Holes.{Hole, FitsAbove, FitsBelow, settled, up-hole, up-below, down-hole, down-above}
 
 -- A step of the hole from i to k changes no count.
 moved : (h : List ℕ) (m i k x y : ℕ) → 1 ≤ i → i ≤ m → 1 ≤ k → k ≤ m → m < length h → k ≢ i
@@ -83,12 +83,13 @@ module _ {h₀ : List ℕ} {n x : ℕ} {h : List ℕ} {i : ℕ} (e : Rising h₀
   pub push-top : i ≤ 1 → Pushed h₀ n x (set h i x)
   push-top l = pushed (λ o k. absurd (omega arith))
 
--- Pop: the hole at i has sunk from the top, the last number in hand.
+-- Pop: the hole at i has sunk from the top; the last number, x, is to be stored and still stands behind the others.
 pub record Sinking (h₀ : List ℕ) (n x : ℕ) (h : List ℕ) (i : ℕ) : Type 0 where
   pub some : 1 ≤ i
   pub within : i ≤ n - 1
   pub room : n < length h
   pub same : length h ≡ length h₀
+  pub behind : getD h n 0 ≡ x
   pub hole : Ordered h₀ n → Hole h (n - 1) i
   pub above : Ordered h₀ n → FitsAbove h i x
   pub counted : (y : ℕ) → copies (set h i x) (n - 1) y + pick (eqb (getD h₀ 1 0) y) 1 0 ≡ copies h₀ n y
@@ -106,6 +107,7 @@ pop-start h n r k =
       within = omega arith;
       room = r;
       same = refl;
+      behind = refl;
       hole = λ o. record { apart = λ j l u a b. o j l (omega arith); around = λ j l u e t. absurd (omega arith) };
       above = λ o t. absurd (omega arith);
       counted = λ y.
@@ -134,14 +136,27 @@ module _ {h₀ : List ℕ} {n x : ℕ} {h : List ℕ} {i : ℕ} (e : Sinking h�
   pub pop-end : (n - 1) / 2 < i → Popped h₀ n (set h i x)
   pop-end l = popped (λ o j a b z. absurd (omega arith))
 
-  module _ (c : ℕ) (s : LeastChild h (n - 1) i c) where
+  module _ (c : ℕ) (w : LeastChild h n i c) where
     pub pop-stop : x ≤ getD h c 0 → Popped h₀ n (set h i x)
-    pop-stop g = popped (λ o. down-below h (n - 1) i (omega arith) (e .hole o) c x s (e .some) g)
+    pop-stop g = popped (λ o j a b z. let k = w .least j (omega arith) z in omega (arith, g, k))
+
+    -- the number behind the others is not less than itself
+    inside : getD h c 0 < x → LeastChild h (n - 1) i c
+    inside g =
+        record {
+          child = w .child;
+          within =
+              let k : c ≡ n → ⊥ = λ z. omega (arith, g, ap (λ y. getD h y 0) z, e .behind) in
+              omega (arith, w .within, k);
+          least = λ j u z. w .least j (omega arith) z;
+        }
 
     pub pop-more : getD h c 0 < x → Sinking h₀ n x (set h i (getD h c 0)) c
     pop-more g =
         let r : i < length h = omega arith in
+        let s = inside g in
         record {
+          behind = getD-set-other h i n (getD h c 0) 0 (λ z. omega (arith, z, e .within, e .some)) ∙ e .behind;
           some = omega (arith, s .child);
           within = s .within;
           room = simp length-set (e .room);
@@ -154,7 +169,7 @@ module _ {h₀ : List ℕ} {n x : ℕ} {h : List ℕ} {i : ℕ} (e : Sinking h�
               ∙ e .counted y;
         }
 
--- The children of entry i, of which there are one or two.
+-- The two children of entry i.
 module _ (h : List ℕ) (m i : ℕ) where
   -- what is not greater than both children is not greater than any child
   of-two : (v : ℕ) → v ≤ getD h (2 * i) 0 → v ≤ getD h (2 * i + 1) 0 → (j : ℕ) → j / 2 ≡ i → v ≤ getD h j 0
@@ -166,17 +181,7 @@ module _ (h : List ℕ) (m i : ℕ) where
           let w : j ≡ 2 * i + 1 = omega arith in
           rw w b
 
-  pub only-child : 2 * i ≡ m → LeastChild h m i (2 * i)
-  only-child e =
-      record {
-        child = omega arith;
-        within = omega arith;
-        least = λ j u z.
-            let w : j ≡ 2 * i = omega arith in
-            rw w (omega arith);
-      }
-
-  module _ (l : 2 * i ≤ m) (n : 2 * i ≡ m → ⊥) where
+  module _ (l : 2 * i + 1 ≤ m) where
     pub right-child : getD h (2 * i + 1) 0 < getD h (2 * i) 0 → LeastChild h m i (2 * i + 1)
     right-child g =
         record {

@@ -24,23 +24,21 @@ pub fn push(heap: &mut [u64], size: usize, x: u64)
     heap[i] = x;
 }
 
-// The lesser of the children of entry i, of which there is at least one among the entries to `last`.
-fn lesser_child(heap: &[u64], i: usize, last: usize) -> usize
-    requires within { ⌜ last < length (now heap) ⌝ }
-    requires child { ⌜ 2 * i ≤ last ⌝ }
-    ensures { λ r. ⌜ LeastChild (now (heap .entry)) last i r ⌝ }
+// The lesser of the two children of entry i among the entries to `size`.
+fn lesser_child(heap: &[u64], i: usize, size: usize) -> usize
+    requires within { ⌜ size < length (now heap) ⌝ }
+    requires children { ⌜ 2 * i + 1 ≤ size ⌝ }
+    ensures { λ r. ⌜ LeastChild (now (heap .entry)) size i r ⌝ }
 {
     let left = 2 * i;
-    if left == last {
-        return left;
-    }
     if heap[left + 1] < heap[left] {
         return left + 1;
     }
     left
 }
 
-// Removes the top of a heap of `size` numbers, at least one.
+// Removes the top of a heap of `size` numbers, at least one. The last number is stored anew; until then it stands behind
+// the others, so that each entry that has a child has two.
 pub fn pop(heap: &mut [u64], size: usize)
     requires some { ⌜ 1 ≤ size ⌝ }
     requires within { ⌜ size < length (now heap) ⌝ }
@@ -54,7 +52,7 @@ pub fn pop(heap: &mut [u64], size: usize)
     let parents = last / 2;
     let mut i = 1;
     while i <= parents {
-        let child = lesser_child(heap, i, last);
+        let child = lesser_child(heap, i, size);
         let y = heap[child];
         if x <= y {
             heap[i] = x;
