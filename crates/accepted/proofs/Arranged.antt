@@ -2,11 +2,10 @@
 use Prim.Native.Nat.{ℕ, zero, suc, _+_, _-_, _%_, _≤_, _<_}
 use native.Mathlib.Omega.{arith}
 use mathlib.Core.Path.{_≡_, refl, sym, ap, subst, _∙_}
-use mathlib.Core.Bool.{Bool, true, false}
+use mathlib.Core.Bool.{true}
 use mathlib.Core.Logic.{inl, inr}
 use mathlib.Core.List.{List, [], _∷_}
-use borrow.Author.Tests.{eq-eqb, le-leb, ltb-true, ltb-false}
-use lib.Dec.{ltb}
+use borrow.Author.Tests.{eq-eqb, le-leb}
 use lib.ListN.{length, getD, drop, drop-of-length-le}
 use lib.Seq.{drop-cons}
 use Rattle.region.specs.Answer.{done}
@@ -15,7 +14,7 @@ use Rattle.records.specs.Accepts.{claimant, inPlace, listed, recordsAnswer}
 use Rattle.records.specs.Play.{plays}
 use Rattle.records.specs.Recorded.{allInRange, inRange, recordCount, recordedAt, wellFormed}
 use Rattle.records.specs.declared.form.Recorded.{Recorded}
-use Rattle.records.proofs.Accepted.{Accepted, OneByOne, all-accepted}
+use Rattle.records.proofs.Accepted.{Accepted, OneByOne, all-accepted, by-place}
 use Rattle.records.proofs.Every.{of-each}
 use Rattle.records.proofs.InOrder.{claimant-is}
 use Rattle.accepted.specs.Slices.{HasRecords, noRecord}
@@ -70,27 +69,17 @@ module _ (rs : List Recorded) (o : InTurn rs) (few : length rs ≤ 1024) (b : Li
       ∙ sym (drop-cons rs k noRecord l)
 
   -- two records, by their places
-  by-place : (P : Recorded → Recorded → Type 0) (i j : ℕ) → i < n → j < n → (i ≡ j → ⊥)
+  by-turns : (P : Recorded → Recorded → Type 0) (i j : ℕ) → i < n → j < n → (i ≡ j → ⊥)
       → ((a c : ℕ) → a < c → c < n → P (getD rs a noRecord) (getD rs c noRecord))
       → ((a c : ℕ) → a < c → c < n → P (getD rs c noRecord) (getD rs a noRecord)) → P (r i) (r j)
-  by-place P i j hi hj ne first second = go (ltb (when i) (when j)) refl
-    where
-      go : (q : Bool) → ltb (when i) (when j) ≡ q → P (r i) (r j)
-      go true e =
-          subst (λ y. P y (r j)) (place i hi) (subst (P (getD rs (when i) noRecord)) (place j hj)
-          (first (when i) (when j) (ltb-true (when i) (when j) e) (h .order .when-below j hj)))
-      go false e =
-          let l = ltb-false (when i) (when j) e in
-          let d : when i ≡ when j → ⊥ = λ z. ne (same-place i j hi hj z) in
-          subst (λ y. P y (r j)) (place i hi) (subst (P (getD rs (when i) noRecord)) (place j hj)
-          (second (when j) (when i) (omega (arith, l, d)) (h .order .when-below i hi)))
+  by-turns = by-place n r (λ k. getD rs k noRecord) when (h .order .when-below) place same-place
 
   arranged : Accepted n r
   arranged =
       record {
         begun = λ i l. subst (λ y. y .begin < y .answer) (place i l) (o .begun (when i) (h .order .when-below i l));
         one-at-a-time = λ i j hi hj ne.
-            by-place OneByOne i j hi hj ne (λ a c l m e. inl (o .one-by-one a c l m e)) (λ a c l m e. inr (o .one-by-one a c l m (sym e)));
+            by-turns OneByOne i j hi hj ne (λ a c l m e. inl (o .one-by-one a c l m e)) (λ a c l m e. inr (o .one-by-one a c l m (sym e)));
         first = λ i l. let p = position-of i l in omega (arith, p);
         last = λ i l. let p = position-of i l in let q = h .order .when-below i l in omega (arith, p, q);
         once = λ i j hi hj ne e.
@@ -103,7 +92,7 @@ module _ (rs : List Recorded) (o : InTurn rs) (few : length rs ≤ 1024) (b : Li
               (position-of (which k) (h .order .which-below k l) ∙ ap suc (h .order .when-which k l));
         };
         real-time = λ i j hi hj ne.
-            by-place (λ x y. x .answer < y .begin → x .position < y .position) i j hi hj ne
+            by-turns (λ x y. x .answer < y .begin → x .position < y .position) i j hi hj ne
             (λ a c l m e. let p = o .numbered a (omega (arith, l, m)) in let q = o .numbered c m in omega (arith, p, q, l))
             (λ a c l m e. let t = o .in-time a c l m in absurd (omega (arith, e, t)));
         played = ap (plays []) (by-turn 0 n (omega arith)) ∙ o .played;

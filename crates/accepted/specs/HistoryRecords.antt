@@ -49,6 +49,7 @@ decidedRecord begun k p ms kind t i =
       item = i;
     }
 
+-- what is recorded at a moment that tells this: a put is kind 1, a take 2, an empty 3
 abbrev pub recordsAt : (ℕ → Beginning) → ℕ → ℕ → List Moment → Told → List Recorded
 recordsAt begun k p ms nothing = []
 recordsAt begun k p ms (beginsPut t i) = []
@@ -82,7 +83,7 @@ recordsFrom begun k p (m ∷ ms) =
 abbrev pub historyRecords : List Moment → List Recorded
 historyRecords ms = recordsFrom (λ t. record { number = 0; item = zeroItem }) 1 0 ms
 
--- "without list calls": no take of a list begins
+-- no take of a list begins; calls that would begin one may be there, refused
 abbrev pub NoListBegins : List Moment → Type 0
 NoListBegins [] = Unit
 NoListBegins (m ∷ ms) = ((t : ℕ) → tells (m .event) ≡ beginsList t → ⊥) × NoListBegins ms

@@ -29,7 +29,7 @@ BagIsTheLedgers = (rs : List Recorded) → SameBag rs
 abbrev pub AcceptedIsLinearizable : Type 0
 AcceptedIsLinearizable = (b : List ℕ) → recordsAnswer b ≡ done → AsClaimed (recordCount b) (recordedAt b)
 
--- "The checker accepts what the machine does": the records of every history without a take of a list, in whatever order they are in the slice
+-- the checker accepts what the machine does: the records of every history without a take of a list, in whatever order they are in the slice
 abbrev pub HistoriesAreAccepted : Type 0
 HistoriesAreAccepted =
     InEveryHistory λ s permissions b ms. NoListBegins ms → length (historyRecords ms) ≤ 1024 → (records : List ℕ)

@@ -1,7 +1,7 @@
 -- Acceptance in numbers: what it says of each record and of every two, and back. Assumes nothing.
 use Prim.Native.Nat.{ℕ, suc, _≤_, _<_}
 use native.Mathlib.Omega.{arith}
-use mathlib.Core.Path.{_≡_, refl, sym}
+use mathlib.Core.Path.{_≡_, refl, sym, subst}
 use mathlib.Core.Bool.{Bool, true, false, not, _&&_, _||_, true≢false}
 use mathlib.Core.Logic.{_⊎_, inl, inr}
 use mathlib.Core.List.{[]}
@@ -81,6 +81,23 @@ module _ (n : ℕ) (r : ℕ → Recorded) (test : Recorded → Recorded → Bool
       of-each n (λ i. every i (λ j. test (r i) (r j) && test (r j) (r i)))
       (λ i hi. of-each i (λ j. test (r i) (r j) && test (r j) (r i))
       (λ j hj. and-both (h i j hi (omega arith) (λ e. omega arith)) (h j i (omega arith) hi (λ e. omega arith))))
+
+-- Where each of n records has a place of its own: what holds of every two places, one before the other, holds of every two records.
+module _ (n : ℕ) (r placed : ℕ → Recorded) (when : ℕ → ℕ) (below : (i : ℕ) → i < n → when i < n)
+    (there : (i : ℕ) → i < n → placed (when i) ≡ r i) (own : (i j : ℕ) → i < n → j < n → when i ≡ when j → i ≡ j) where
+  pub by-place : (P : Recorded → Recorded → Type 0) (i j : ℕ) → i < n → j < n → (i ≡ j → ⊥)
+      → ((a c : ℕ) → a < c → c < n → P (placed a) (placed c)) → ((a c : ℕ) → a < c → c < n → P (placed c) (placed a)) → P (r i) (r j)
+  by-place P i j hi hj ne first second = go (ltb (when i) (when j)) refl
+    where
+      go : (q : Bool) → ltb (when i) (when j) ≡ q → P (r i) (r j)
+      go true e =
+          subst (λ y. P y (r j)) (there i hi)
+          (subst (P (placed (when i))) (there j hj) (first (when i) (when j) (ltb-true (when i) (when j) e) (below j hj)))
+      go false e =
+          let l = ltb-false (when i) (when j) e in
+          let d : when i ≡ when j → ⊥ = λ z. ne (own i j hi hj z) in
+          subst (λ y. P y (r j)) (there i hi)
+          (subst (P (placed (when i))) (there j hj) (second (when j) (when i) (omega (arith, l, d)) (below i hi)))
 
 -- n records that are accepted
 pub record Accepted (n : ℕ) (r : ℕ → Recorded) : Type 0 where

@@ -15,7 +15,7 @@ use Rattle.records.specs.Accepts.{claimant, inPlace}
 use Rattle.records.specs.Inner.{InOrder, InTime, ToTime, ended, later}
 use Rattle.records.specs.Recorded.{recordedAt}
 use Rattle.records.specs.declared.form.Recorded.{Recorded}
-use Rattle.records.proofs.Accepted.{Accepted, InRealTime, OneByOne, all-in-real-time, all-one-by-one, not-accepted}
+use Rattle.records.proofs.Accepted.{Accepted, InRealTime, OneByOne, all-in-real-time, all-one-by-one, by-place, not-accepted}
 use Rattle.records.proofs.Every.{upto}
 
 pub later-second : (a b : ℕ) → a < b → b ≡ later a b
@@ -228,21 +228,18 @@ module _ {n : ℕ} {r : ℕ → Recorded} {order : List ℕ} (o : InOrder n r or
       place i l =
           let e = o .first i l in ap (λ p. r (claimant n r p)) (omega (arith, e)) ∙ ap r (o .by-claim i l)
 
+      below : (i : ℕ) → i < n → r i .position - 1 < n
+      below i l = omega (arith, o .first i l, o .last i l)
+
+      own : (i j : ℕ) → i < n → j < n → r i .position - 1 ≡ r j .position - 1 → i ≡ j
+      own i j hi hj e =
+          let same : r i .position ≡ r j .position = omega (arith, e, o .first i hi, o .first j hj) in
+          sym (o .by-claim i hi) ∙ ap (claimant n r) same ∙ o .by-claim j hj
+
       by-position : (P : Recorded → Recorded → Type 0) (i j : ℕ) → i < n → j < n → (i ≡ j → ⊥)
-          → ((a c : ℕ) → a < c → c < n → P (inPlace n r a) (inPlace n r c)) → ((a c : ℕ) → a < c → c < n → P (inPlace n r c) (inPlace n r a)) → P (r i) (r j)
-      by-position P i j hi hj ne first second = go (ltb (r i .position) (r j .position)) refl
-        where
-          go : (q : Bool) → ltb (r i .position) (r j .position) ≡ q → P (r i) (r j)
-          go true e =
-              let l = ltb-true (r i .position) (r j .position) e in
-              subst (λ y. P y (r j)) (place i hi) (subst (P (inPlace n r (r i .position - 1))) (place j hj)
-              (first (r i .position - 1) (r j .position - 1) (omega (arith, l, o .first i hi)) (omega (arith, o .first j hj, o .last j hj))))
-          go false e =
-              let l = ltb-false (r i .position) (r j .position) e in
-              let d : r i .position ≡ r j .position → ⊥
-              = λ z. ne (sym (o .by-claim i hi) ∙ ap (claimant n r) z ∙ o .by-claim j hj) in
-              subst (λ y. P y (r j)) (place i hi) (subst (P (inPlace n r (r i .position - 1))) (place j hj)
-              (second (r j .position - 1) (r i .position - 1) (omega (arith, l, d, o .first j hj)) (omega (arith, o .first i hi, o .last i hi))))
+          → ((a c : ℕ) → a < c → c < n → P (inPlace n r a) (inPlace n r c)) → ((a c : ℕ) → a < c → c < n → P (inPlace n r c) (inPlace n r a))
+          → P (r i) (r j)
+      by-position = by-place n r (inPlace n r) (λ i. r i .position - 1) below place own
 
       one-first : (a c : ℕ) → a < c → c < n → OneByOne (inPlace n r a) (inPlace n r c)
       one-first a c l m e = inl (f .one-by-one c (omega (arith, m, h)) a l e)
