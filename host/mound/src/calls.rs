@@ -191,8 +191,7 @@ pub fn check(region: &[u8]) -> u32 {
 /// said at [`check_records`](crate::check_records).
 ///
 /// Refusal: 12 (a part of a record, over 1,024 of them, or a kind, thread, key or tag out of its
-/// range), found before anything is compared. Cost: each record is looked at four times; a put and
-/// a take compare as many items as a heap has levels.
+/// range), found before anything is compared. Cost: as said there.
 #[must_use = "the number says whether the records are accepted"]
 pub fn records(records: &[u8]) -> u32 {
     // SAFETY: as in `check`.
