@@ -48,3 +48,13 @@ answersOperation (Took i) = true
 answersOperation Empty = true
 answersOperation (Refused n) = false
 answersOperation Withdrawn = false
+
+-- "Moved, inserted, took and empty each count one access." A withdrawn turn "makes no access" (request 5).
+abbrev pub accessesOf : Answer → ℕ
+accessesOf Moved = 1
+accessesOf Idle = 0
+accessesOf Inserted = 1
+accessesOf (Took i) = 1
+accessesOf Empty = 1
+accessesOf (Refused n) = 0
+accessesOf Withdrawn = 0

@@ -16,6 +16,7 @@ pub use order::item_le;
 pub use order::item_lt;
 pub use order::value_of;
 pub use plan::Plan;
+pub use plan::accesses_of;
 pub use plan::moved;
 pub use plan::on_to;
 pub use plan::plan_of;

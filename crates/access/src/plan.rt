@@ -1,6 +1,6 @@
 // What a turn decides.
 ghost use mathlib.Core.Path.{_≡_};
-ghost use Rattle.access.specs.Plan.{moved, onTo, plan, refused};
+ghost use Rattle.access.specs.Plan.{accessesOf, moved, onTo, plan, refused};
 use crate::effect::Effect;
 use region::Answer;
 use region::Place;
@@ -42,4 +42,19 @@ pub fn refused(thread: Thread, number: u32) -> Plan
     ensures { λ r. ⌜ r ≡ refused thread number ⌝ }
 {
     plan_of(Effect::Nothing, thread, Answer::Refused(number))
+}
+
+// The accesses of a turn with this answer.
+pub fn accesses_of(answer: Answer) -> u32
+    ensures { λ r. ⌜ r ≡ accessesOf answer ⌝ }
+{
+    match answer {
+        Answer::Moved => 1,
+        Answer::Idle => 0,
+        Answer::Inserted => 1,
+        Answer::Took(_) => 1,
+        Answer::Empty => 1,
+        Answer::Refused(_) => 0,
+        Answer::Withdrawn => 0,
+    }
 }

@@ -23,14 +23,14 @@ use Rattle.region.specs.declared.shape.Shape.{Shape}
 use Rattle.region.specs.declared.thread.Thread.{Thread}
 use Rattle.region.proofs.Picks.{upd-same, upd-other}
 use Rattle.access.specs.Effect.{effectShared}
-use Rattle.access.specs.Plan.{changesNothing}
+use Rattle.access.specs.Plan.{accessesOf, changesNothing}
 use Rattle.access.specs.declared.plan.Plan.{Plan}
 use Rattle.insert.specs.Insert.{hasTriedDeepest, isLeafOf}
 use Rattle.insert.proofs.Laws.{leaf-tests}
 use Rattle.permission.specs.Permit.{permitBytesIn}
 use Rattle.permission.specs.Withdraw.{isPutPlace}
 use Rattle.begin.specs.Begin.{BeginsAt, acceptedPut, acceptedTake, one-item, putBytesIn, putRefusalIn, takeBytesIn, takeRefusalIn, whole-list}
-use Rattle.run.specs.Run.{Turn, accessesOf}
+use Rattle.run.specs.Run.{Turn}
 use Rattle.machine.specs.Turn.{turnAnswer, turnBytes, turnPlan}
 use Rattle.readable.specs.Readable.{frameIn, shapeIn}
 use Rattle.preserved.proofs.Proved.{permit-either, put-passed, take-passed}

@@ -10,9 +10,9 @@ use Rattle.region.specs.Pick.{pick}
 use Rattle.region.specs.Thread.{isIdle}
 use Rattle.region.specs.declared.place.Place.the-variants.{ReadLeaf}
 use Rattle.region.specs.declared.shape.Shape.{Shape}
+use Rattle.access.specs.Plan.{accessesOf}
 use Rattle.readable.specs.Readable.{shapeIn}
 use Rattle.insert.specs.Insert.{hasTriedDeepest}
-use Rattle.run.specs.Run.{accessesOf}
 use Rattle.bag.specs.History.{Event, called, turned, Moment}
 use Rattle.bag.specs.Operations.{begins}
 use Rattle.bag.specs.Permission.{threadOn}

@@ -24,12 +24,51 @@ use Rattle.access.specs.declared.plan.Plan.{Plan}
 use Rattle.readable.specs.Readable.{frameIn, readable}
 use Rattle.readable.proofs.Laws.{readable-within}
 use Rattle.permission.specs.Permit.{PermitSet, PermitSetIn, permitBytes, permitBytesIn, permitRefusal, permitRefusalIn}
-use Rattle.permission.specs.Withdraw.{isPutPlace, isUnreadable, withdrawal}
+use Rattle.permission.specs.Withdraw.{isPutPlace, isTakePlace, isUnreadable, lacksPermission, permitted, withdrawal}
+use Rattle.permission.specs.Grants.{mayPut, mayTake}
+use Rattle.permission.proofs.Laws.{none-lacks, put-lacks, take-lacks}
 
 -- a put's places by their numbers
 pub put-place : (p : Place) (n : ℕ) → n ≡ placeNumber p → (q : Bool) → q ≡ between 1 n 8 → q ≡ isPutPlace p
 unfolding isPutPlace
 put-place p n en q e = e ∙ ap (λ k. between 1 k 8) en
+
+-- a take's places by their numbers
+module _ (p : Place) (n : ℕ) (en : n ≡ placeNumber p) (q : Bool) (eq : q ≡ between 9 n 10) where
+  pub takes-one : q ≡ true → true ≡ isTakePlace p
+  unfolding isTakePlace
+  takes-one h = rw (← en, ← eq, h) refl
+
+  pub takes-list : q ≡ false → (r : Bool) → r ≡ between 17 n 18 → r ≡ isTakePlace p
+  unfolding isTakePlace
+  takes-list h r e = rw (← en, ← eq, h) e
+
+-- whether a permission lacks, by the place
+module _ (t : Thread) (q : Bool) (eq : q ≡ isPutPlace (t .place)) where
+  pub lacks-at-put : q ≡ true → (m : Bool) → m ≡ mayPut t → not m ≡ lacksPermission t
+  lacks-at-put h m e = ap not e ∙ sym (put-lacks t (sym eq ∙ h))
+
+  module _ (p : Bool) (ep : p ≡ isTakePlace (t .place)) where
+    pub lacks-at-take : p ≡ true → (m : Bool) → m ≡ mayTake t → not m ≡ lacksPermission t
+    lacks-at-take h m e = ap not e ∙ sym (take-lacks t (sym ep ∙ h))
+
+    pub lacks-nowhere : q ≡ false → p ≡ false → false ≡ lacksPermission t
+    lacks-nowhere h g = sym (none-lacks t (sym eq ∙ h) (sym ep ∙ g))
+
+-- the plan of a turn
+module _ (t : Thread) (p : Plan) (q : Bool) (eq : q ≡ lacksPermission t) where
+  pub goes-on : not q ≡ true → p ≡ permitted t p
+  unfolding permitted pick
+  goes-on h = rw (← eq, not-true q h) refl
+
+  module _ (h : not q ≡ false) (u : Bool) (eu : u ≡ isUnreadable (p .answer)) where
+    pub stays-refused : u ≡ true → p ≡ permitted t p
+    unfolding permitted pick
+    stays-refused g = rw (← eq, not-false q h, ← eu, g) refl
+
+    pub is-withdrawn : u ≡ false → (r : Plan) → r ≡ withdrawal t → r ≡ permitted t p
+    unfolding permitted pick
+    is-withdrawn g r e = rw (← eq, not-false q h, ← eu, g) e
 
 -- the number of a refusal
 pub by-number : (a : Answer) (n : ℕ) → a ≡ Refused n → eqb n unreadable ≡ isUnreadable a

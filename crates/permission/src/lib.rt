@@ -4,7 +4,7 @@ ghost use lib.ListN.{length};
 ghost use Rattle.region.specs.Inner.{Within};
 ghost use Rattle.permission.specs.Grants.{mayPut, mayTake};
 ghost use Rattle.permission.specs.Permit.{PermitSet, PermitSetIn, permitRefusalIn};
-ghost use Rattle.permission.specs.Withdraw.{isPutPlace, isUnreadable, withdrawal};
+ghost use Rattle.permission.specs.Withdraw.{isPutPlace, isTakePlace, isUnreadable, lacksPermission, permitted, withdrawal};
 use access::Effect;
 use access::Plan;
 use region::Answer;
@@ -35,6 +35,31 @@ fn is_put_place(place: Place) -> bool
     region::is_between(1, place.number(), 8)
 }
 
+// E1, E2, 17 and 18.
+fn is_take_place(place: Place) -> bool
+    ensures { λ r. ⌜ r ≡ isTakePlace place ⌝ }
+{
+    let n = place.number();
+    if region::is_between(9, n, 10) {
+        return true;
+    }
+    region::is_between(17, n, 18)
+}
+
+// Whether the thread stands at a place of an operation for which it has no permission.
+fn lacks_permission(t: Thread) -> bool
+    ensures { λ r. ⌜ r ≡ lacksPermission t ⌝ }
+{
+    let place = t.place;
+    if is_put_place(place) {
+        return !may_put(t);
+    }
+    if is_take_place(place) {
+        return !may_take(t);
+    }
+    false
+}
+
 // Whether a turn is refused 7, which comes before its withdrawal.
 pub fn is_unreadable(answer: Answer) -> bool
     ensures { λ r. ⌜ r ≡ isUnreadable answer ⌝ }
@@ -63,6 +88,20 @@ pub fn withdrawal(t: Thread) -> Plan
         return access::refused(t, UNREADABLE);
     }
     access::plan_of(Effect::Free(own), t.gone_idle(), Answer::Withdrawn)
+}
+
+// The plan of a turn whose place has this plan: it, or the withdrawal where the permission lacks.
+pub fn permitted(t: Thread, plan: Plan) -> Plan
+    ensures { λ r. ⌜ r ≡ permitted t plan ⌝ }
+{
+    if !lacks_permission(t) {
+        return plan;
+    }
+    let answer = plan.answer;
+    if is_unreadable(answer) {
+        return plan;
+    }
+    withdrawal(t)
 }
 
 // The refusal of the call under a frame, or done.

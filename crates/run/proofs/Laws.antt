@@ -12,8 +12,9 @@ use Rattle.region.specs.Pick.{pick}
 use Rattle.region.specs.declared.answer.Answer.{Answer}
 use Rattle.region.specs.declared.answer.Answer.the-variants.{Moved, Idle, Inserted, Took, Empty, Refused, Withdrawn}
 use Rattle.region.specs.declared.frame.Frame.{Frame}
+use Rattle.access.specs.Plan.{accessesOf}
 use Rattle.readable.specs.Readable.{frameIn, readable}
-use Rattle.run.specs.Run.{Served, Turn, accessesOf, runRefusal, runResult, scheduleRefusal, serve, serveAll, soFar, turnsFrom}
+use Rattle.run.specs.Run.{Served, Turn, runRefusal, runResult, scheduleRefusal, serve, serveAll, soFar, turnsFrom}
 use Rattle.machine.specs.Turn.{turnAnswer}
 
 pub one-access : (x : Answer) → accessesOf x ≤ 1

@@ -13,8 +13,9 @@ use Rattle.words.specs.Word.{word, setWords}
 use Rattle.region.specs.Answer.{answerWords, done, unreadable}
 use Rattle.region.specs.Pick.{pick}
 use Rattle.region.specs.declared.answer.Answer.the-variants.{Refused}
+use Rattle.access.specs.Plan.{accessesOf}
 use Rattle.readable.specs.Readable.{frameIn, readable}
-use Rattle.run.specs.Run.{accessesOf, runRefusal, runResult, serve, serveAll, soFar, turnAt, turnsFrom}
+use Rattle.run.specs.Run.{runRefusal, runResult, serve, serveAll, soFar, turnAt, turnsFrom}
 use Rattle.machine.specs.Turn.{turnAnswer, turnBytes, turnOnAnswer, turnOnBytes}
 use Rattle.run.specs.Theorems.{RunOfOneIsTurn}
 

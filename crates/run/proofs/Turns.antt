@@ -15,9 +15,10 @@ use Rattle.region.specs.Inner.{Within}
 use Rattle.region.specs.Pick.{pick}
 use Rattle.region.specs.declared.answer.Answer.{Answer}
 use Rattle.region.specs.declared.frame.Frame.{Frame}
+use Rattle.access.specs.Plan.{accessesOf}
 use Rattle.readable.specs.Readable.{frameIn, readable}
 use Rattle.readable.proofs.Laws.{readable-within}
-use Rattle.run.specs.Run.{accessesOf, runRefusal, runResult, runResultIn, scheduleRefusal, serve, serveAll, soFar, turnAt, turnsFrom}
+use Rattle.run.specs.Run.{runRefusal, runResult, runResultIn, scheduleRefusal, serve, serveAll, soFar, turnAt, turnsFrom}
 use Rattle.machine.specs.Turn.{Turned, turnAnswer, turnBytes}
 use Rattle.run.specs.Inner.{Ran, RanIn, RunWithin, TurnWithin, refused}
 use Rattle.run.specs.declared.Counts.{Counts}

@@ -7,9 +7,8 @@ use lib.ListN.{length}
 use Rattle.words.specs.Word.{word, setWords}
 use Rattle.region.specs.Answer.{done, shortAnswers, badSchedule, unreadable, answerWords, _unless_otherwise_}
 use Rattle.region.specs.Pick.{pick}
-use Rattle.region.specs.declared.answer.Answer.{Answer}
-use Rattle.region.specs.declared.answer.Answer.the-variants.{Moved, Idle, Inserted, Took, Empty, Refused, Withdrawn}
 use Rattle.region.specs.declared.frame.Frame.{Frame}
+use Rattle.access.specs.Plan.{accessesOf}
 use Rattle.readable.specs.Readable.{frameIn, readable}
 use Rattle.machine.specs.Turn.{turnAnswer, turnBytes}
 
@@ -25,16 +24,6 @@ turnAt schedule k = record { thread = word schedule (2 * k); choice = word sched
 unfoldable pub turnsFrom : List ℕ → ℕ → ℕ → List Turn
 turnsFrom schedule k zero = []
 turnsFrom schedule k (suc n) = turnAt schedule k ∷ turnsFrom schedule (suc k) n
-
--- "Moved, inserted, took and empty each count one access." A withdrawn turn "makes no access" (request 5).
-abbrev pub accessesOf : Answer → ℕ
-accessesOf Moved = 1
-accessesOf Idle = 0
-accessesOf Inserted = 1
-accessesOf (Took i) = 1
-accessesOf Empty = 1
-accessesOf (Refused n) = 0
-accessesOf Withdrawn = 0
 
 -- the region and the answers so far, the turns served and the accesses made
 pub record Served : Type 0 where

@@ -7,8 +7,9 @@ use lib.ListN.{length}
 use Rattle.words.specs.Word.{word, setWords}
 use Rattle.region.specs.Answer.{answerWords, done}
 use Rattle.region.specs.declared.answer.Answer.the-variants.{Refused}
+use Rattle.access.specs.Plan.{accessesOf}
 use Rattle.readable.specs.Readable.{readable}
-use Rattle.run.specs.Run.{accessesOf, runRefusal, runResult, soFar}
+use Rattle.run.specs.Run.{runRefusal, runResult, soFar}
 use Rattle.machine.specs.Turn.{turnOnAnswer, turnOnBytes}
 
 -- what a run of the schedule s makes of the region b and the answers a is the turn of thread t with choice c by itself

@@ -5,7 +5,7 @@ ghost use lib.ListN.{length};
 ghost use Rattle.words.specs.Word.{setWords};
 ghost use Rattle.region.specs.Answer.{answerWords};
 ghost use Rattle.region.specs.Inner.{Within};
-ghost use Rattle.run.specs.Run.{accessesOf, scheduleRefusal, serve, serveAll, soFar, turnAt, turnsFrom};
+ghost use Rattle.run.specs.Run.{scheduleRefusal, serve, serveAll, soFar, turnAt, turnsFrom};
 ghost use Rattle.run.specs.Inner.{Ran, RanIn, RunWithin, TurnWithin, refused};
 use region::Answer;
 use region::BAD_SCHEDULE;
@@ -24,21 +24,6 @@ pub struct Counts {
 pub struct Outcome {
     pub refusal: u32,
     pub counts: Counts,
-}
-
-// The accesses of a turn with this answer.
-fn accesses_of(answer: Answer) -> u32
-    ensures { λ r. ⌜ r ≡ accessesOf answer ⌝ }
-{
-    match answer {
-        Answer::Moved => 1,
-        Answer::Idle => 0,
-        Answer::Inserted => 1,
-        Answer::Took(_) => 1,
-        Answer::Empty => 1,
-        Answer::Refused(_) => 0,
-        Answer::Withdrawn => 0,
-    }
 }
 
 // Stores the answer of turn k.
@@ -68,7 +53,7 @@ fn serve(
     let choice = words::load_word(schedule, 2 * k + 1);
     let answer = machine::turn(f, b, thread, choice);
     store_answer(answers, k, answer);
-    accesses + accesses_of(answer)
+    accesses + access::accesses_of(answer)
 }
 
 // Serves the turns of the schedule until it ends or the limit is reached.

@@ -2,13 +2,12 @@
 use Prim.Native.Nat.{ℕ, zero, suc, _+_, _-_, _*_, _≤_, _<_}
 use native.Mathlib.Numerals.{add-one}
 use native.Mathlib.Omega.{arith}
-use mathlib.Core.Path.{_≡_, refl, sym, ap, _∙_}
-use mathlib.Core.List.{List}
+use mathlib.Core.Path.{_≡_, refl, sym, ap, subst, _∙_}
+use mathlib.Core.List.{List, []}
 use borrow.Author.Tests.{lt-ltb, le-ltb, eq-eqb, ne-eqb}
 use mir.Syntax.{w32}
 use mir.Val.{Fits}
-use lib.ListN.{length, length-append}
-use lib.Seq.{sets}
+use lib.ListN.{length}
 use Rattle.region.specs.Answer.{done}
 use Rattle.region.specs.Pick.{pick}
 use Rattle.region.specs.declared.answer.Answer.{Answer}
@@ -31,7 +30,7 @@ use Rattle.script.specs.declared.reading.Line.the-variants.{Read as Line
 use Rattle.script.specs.declared.reading.ScriptLine.{ScriptLine}
 use Rattle.script.proofs.Lines.{line-most}
 use Rattle.script.proofs.Readings.{line-long}
-use Rattle.script.proofs.Texts.{sets-append, wrote-length}
+use Rattle.script.proofs.Texts.{Printing, print-end, print-more, print-start, wrote-length}
 
 -- A line's call.
 pub call-done : (o : Outcome) (n : ℕ) → n ≡ done → o ≡ doneOr o n
@@ -94,14 +93,12 @@ rest s at line b = linesFrom (suc (length s) - line) s at line b
 pub record Running (s : List ℕ) (start : ℕ) (b₀ out₀ : List ℕ) (a : ℕ) (b out : List ℕ) (at line k : ℕ) : Type 0 where
   pub short : length s ≤ 60000
   pub room : a + 330055 ≤ length out₀
-  pub same : length out ≡ length out₀
   pub same-region : length b ≡ length b₀
   pub first : 1 ≤ line
   pub counted : 10 * line ≤ at + 10
   pub used : k + 55 ≤ a + 55 * line
   pub within : k ≤ length out
-  pub bytes : sets out k (rest s at line b .printed) ≡ sets out₀ a (whole s start b₀ .printed)
-  pub count : k + length (rest s at line b .printed) ≡ a + length (whole s start b₀ .printed)
+  pub printing : Printing out₀ a (whole s start b₀ .printed) out k (rest s at line b .printed)
   pub region : rest s at line b .region ≡ whole s start b₀ .region
 
 pub run-start : (s : List ℕ) (start : ℕ) (b out : List ℕ) (a : ℕ) → (length s ≤ 60000) × (a + 330055 ≤ length out)
@@ -112,45 +109,28 @@ run-start s start b out a h =
     record {
       short = h .0;
       room = h .1;
-      same = refl;
       same-region = refl;
       first = omega arith;
       counted = omega arith;
       used = omega arith;
       within = omega (arith, h .1);
-      bytes = ap (λ n. sets out a (linesFrom n s start 1 b .printed)) e;
-      count = ap (λ n. a + length (linesFrom n s start 1 b .printed)) e;
+      printing =
+          subst (λ n. Printing out a (linesFrom (length s) s start 1 b .printed) out a (linesFrom n s start 1 b .printed)) (sym e)
+          (print-start out a (linesFrom (length s) s start 1 b .printed));
       region = ap (λ n. linesFrom n s start 1 b .region) e;
     }
 
 module _ {s : List ℕ} {start : ℕ} {b₀ out₀ : List ℕ} {a : ℕ} {b out : List ℕ} {at line k : ℕ}
     (e : Running s start b₀ out₀ a b out at line k) where
-  -- printing xs, after which `next` is left, keeps the whole
-  printed-more : (next : Ran) {out′ : List ℕ} {k′ : ℕ} (xs : List ℕ) → rest s at line b ≡ after xs next → Wrote out out′ k k′ xs
-      → sets out′ k′ (next .printed) ≡ sets out₀ a (whole s start b₀ .printed)
-  printed-more next {out′} {k′} xs er w =
-      ap (λ l. sets l k′ (next .printed)) (w .bytes)
-      ∙ ap (λ n. sets (sets out k xs) n (next .printed)) (w .next)
-      ∙ sym (sets-append xs (next .printed) out k)
-      ∙ ap (λ r. sets out k (r .printed)) (sym er)
-      ∙ e .bytes
-
-  counted-more : (next : Ran) {out′ : List ℕ} {k′ : ℕ} (xs : List ℕ) → rest s at line b ≡ after xs next → Wrote out out′ k k′ xs
-      → k′ + length (next .printed) ≡ a + length (whole s start b₀ .printed)
-  counted-more next xs er w =
-      omega (arith, e .count, ap (λ r. length (r .printed)) er, length-append xs (next .printed), w .next)
+  pub run-same : length out ≡ length out₀
+  run-same = e .printing .same
 
   -- nothing is left
   run-over : rest s at line b ≡ nothingMore b → LinesRan s start b₀ b out₀ out a k
   unfolding whole
   run-over er =
       record {
-        output =
-            record {
-              next = omega (arith, e .count, ap (λ r. length (r .printed)) er);
-              within = omega (arith, e .within, e .same);
-              bytes = ap (λ r. sets out k (r .printed)) (sym er) ∙ e .bytes;
-            };
+        output = print-end (e .printing) (ap (λ r. r .printed) er) (e .within);
         region = ap (λ r. r .region) (sym er) ∙ e .region;
       }
 
@@ -160,7 +140,7 @@ module _ {s : List ℕ} {start : ℕ} {b₀ out₀ : List ℕ} {a : ℕ} {b out 
 
   module _ (h : at < length s) where
     pub line-room : k + 55 ≤ length out
-    line-room = omega (arith, e .used, e .counted, e .short, e .room, e .same)
+    line-room = omega (arith, e .used, e .counted, e .short, e .room, run-same)
 
     pub line-fits : Fits w32 (line + 1)
     line-fits = record { fits = omega (arith, e .counted, e .short) }
@@ -177,11 +157,8 @@ module _ {s : List ℕ} {start : ℕ} {b₀ out₀ : List ℕ} {a : ℕ} {b out 
           ap (λ n. linesFrom n s at line b) one-less ∙ lines-unreadable s at line b (suc (length s) - (line + 1)) h (sym er ∙ g) in
           record {
             output =
-                record {
-                  next = omega (arith, counted-more (nothingMore b) (lineText line 0 Unreadable) l w);
-                  within = omega (arith, w .within, e .same);
-                  bytes = printed-more (nothingMore b) (lineText line 0 Unreadable) l w;
-                };
+                print-end (print-more (e .printing) (lineText line 0 Unreadable) [] (ap (λ r. r .printed) l) w) refl
+                (omega (arith, w .within, wrote-length w));
             region = ap (λ r. r .region) (sym l) ∙ e .region;
           }
 
@@ -209,13 +186,11 @@ module _ {s : List ℕ} {start : ℕ} {b₀ out₀ : List ℕ} {a : ℕ} {b out 
             record {
               short = e .short;
               room = e .room;
-              same = wrote-length w ∙ e .same;
               same-region = z ∙ e .same-region;
               first = omega arith;
               counted = omega (arith, e .counted, line-next);
               used = omega (arith, e .used, line-most line (l .thread) o, w .next);
               within = omega (arith, w .within, wrote-length w);
-              bytes = printed-more (rest s (l .next) (line + 1) b′) text left w;
-              count = counted-more (rest s (l .next) (line + 1) b′) text left w;
+              printing = print-more (e .printing) text (rest s (l .next) (line + 1) b′ .printed) (ap (λ r. r .printed) left) w;
               region = ap (λ r. r .region) (sym left) ∙ e .region;
             }

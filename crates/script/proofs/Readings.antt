@@ -13,7 +13,7 @@ use lib.ListN.{length}
 use Rattle.region.specs.Pick.{pick}
 use Rattle.region.proofs.Picks.{pick-good}
 use Rattle.script.specs.Text.{ascii, textAt}
-use Rattle.script.specs.Reading.{fieldThen, fieldsAt, headedOpening, lineHeading, lineIfZero, numberLine, numberThen, putLine, readLine, readOpening, shapeAt, shapeHeading, takeLine}
+use Rattle.script.specs.Reading.{fieldThen, fieldsAt, headedOpening, lineHeading, lineIfZero, numberLine, numberThen, openingAt, putLine, readLine, readOpening, shapeAt, shapeHeading, takeLine}
 use Rattle.script.specs.declared.numbers.Number.{Number}
 use Rattle.script.specs.declared.numbers.Number.the-variants.{Read, Unreadable}
 use Rattle.script.specs.declared.reading.Fields.{Fields}
@@ -223,31 +223,58 @@ module _ (s : List ℕ) (at : ℕ) (r₁ : Number) (e₁ : r₁ ≡ numberThen s
           unfolding shapeAt
           shape-read p at₅ g₅ = rw (← e₁, g₁, ← e₂, g₂, ← e₃, g₃, ← e₄, g₄, ← e₅, g₅) refl
 
+-- It takes bytes too.
+no-opening : {u : Setup} → NotOpening ≡ OpeningRead u → ⊥
+no-opening e = let z : _≡_ {A = ℕ} 0 1 = cc in omega arith
+
+shape-long : (s : List ℕ) (at : ℕ) (u : Setup) → shapeAt s at ≡ OpeningRead u → at ≤ u .next
+unfolding shapeAt
+shape-long s at u e =
+    let x : Opening = OpeningRead u in
+    let r₁ = field-read (numberThen s at 32) NotOpening x _ no-opening e in
+    let r₂ = field-read (numberThen s (r₁ .after) 32) NotOpening x _ no-opening (r₁ .rest) in
+    let r₃ = field-read (numberThen s (r₂ .after) 32) NotOpening x _ no-opening (r₂ .rest) in
+    let r₄ = field-read (numberThen s (r₃ .after) 32) NotOpening x _ no-opening (r₃ .rest) in
+    let r₅ = field-read (numberThen s (r₄ .after) 10) NotOpening x _ no-opening (r₄ .rest) in
+    let last : r₅ .after ≡ u .next = ap nextOf (r₅ .rest) in
+    omega (
+      arith,
+      last,
+      field-next s at 32 (r₁ .value) (r₁ .after) space-ends (r₁ .read),
+      field-next s (r₁ .after) 32 (r₂ .value) (r₂ .after) space-ends (r₂ .read),
+      field-next s (r₂ .after) 32 (r₃ .value) (r₃ .after) space-ends (r₃ .read),
+      field-next s (r₃ .after) 32 (r₄ .value) (r₄ .after) space-ends (r₄ .read),
+      field-next s (r₄ .after) 10 (r₅ .value) (r₅ .after) line-ends (r₅ .read),
+    )
+  where
+    nextOf : Opening → ℕ
+    nextOf NotOpening = 0
+    nextOf (OpeningRead v) = v .next
+
 -- The opening.
-pub too-long : (s : List ℕ) → 60000 < length s → NotOpening ≡ readOpening s
-unfolding readOpening pick
-too-long s h = rw (lt-leb (length s) 60000 h) refl
+module _ (s : List ℕ) (at : ℕ) (q₁ : Bool) (e₁ : q₁ ≡ textAt s at shapeHeading) where
+  pub no-heading : not q₁ ≡ true → NotOpening ≡ openingAt s at
+  unfolding openingAt pick
+  no-heading g = rw (← e₁, not-true q₁ g) refl
 
-module _ (s : List ℕ) (h : length s ≤ 60000) (q₁ : Bool) (e₁ : q₁ ≡ textAt s 0 shapeHeading) where
-  pub no-heading : not q₁ ≡ true → NotOpening ≡ readOpening s
-  unfolding readOpening pick
-  no-heading g = rw (le-leb (length s) 60000 h, ← e₁, not-true q₁ g) refl
+  pub heading-fits : not q₁ ≡ false → length s < 2 ^ 64 → Fits w64 (at + 41)
+  heading-fits g f = record { fits = omega (arith, text-room s at shapeHeading (sym e₁ ∙ not-false q₁ g) (omega arith)) }
 
-  module _ (g₁ : not q₁ ≡ false) (r : Opening) (e₂ : r ≡ shapeAt s 41) where
-    headed : headedOpening s r ≡ readOpening s
-    unfolding readOpening pick
-    headed = rw (le-leb (length s) 60000 h, ← e₁, not-false q₁ g₁, e₂) refl
+  module _ (g₁ : not q₁ ≡ false) (r : Opening) (e₂ : r ≡ shapeAt s (at + 41)) where
+    headed : headedOpening s r ≡ openingAt s at
+    unfolding openingAt pick
+    headed = rw (← e₁, not-false q₁ g₁, e₂) refl
 
-    pub no-shape : r ≡ NotOpening → NotOpening ≡ readOpening s
+    pub no-shape : r ≡ NotOpening → NotOpening ≡ openingAt s at
     no-shape g = ap (headedOpening s) (sym g) ∙ headed
 
     module _ (u : Setup) (g₂ : r ≡ OpeningRead u) (q₂ : Bool) (e₃ : q₂ ≡ textAt s (u .next) lineHeading) where
-      pub no-line-heading : not q₂ ≡ true → NotOpening ≡ readOpening s
+      pub no-line-heading : not q₂ ≡ true → NotOpening ≡ openingAt s at
       unfolding pick
       no-line-heading g = rw (g₂, ← e₃, not-true q₂ g) at headed
 
       pub opening-read : not q₂ ≡ false
-          → OpeningRead (record { shape = u .shape; permission = u .permission; next = u .next + 16 }) ≡ readOpening s
+          → OpeningRead (record { shape = u .shape; permission = u .permission; next = u .next + 16 }) ≡ openingAt s at
       unfolding pick
       opening-read g = rw (g₂, ← e₃, not-false q₂ g) at headed
 
@@ -255,3 +282,28 @@ pub opening-fits : (s : List ℕ) (u : Setup) (q : Bool) → q ≡ textAt s (u .
     → Fits w64 (u .next + 16)
 opening-fits s u q e g f =
     record { fits = omega (arith, text-room s (u .next) lineHeading (sym e ∙ not-false q g) (omega arith)) }
+
+headed-long : (s : List ℕ) (at : ℕ) (u v : Setup) (q : Bool) → at ≤ v .next
+    → pick q (OpeningRead (record { shape = v .shape; permission = v .permission; next = v .next + 16 })) NotOpening ≡ OpeningRead u
+    → at ≤ u .next
+unfolding pick
+headed-long s at u v true h e = let last : v .next + 16 ≡ u .next = cc in omega arith
+headed-long s at u v false h e = absurd (no-opening e)
+
+pub opening-long : (s : List ℕ) (at : ℕ) (u : Setup) → openingAt s at ≡ OpeningRead u → at ≤ u .next
+unfolding openingAt pick
+opening-long s at u e = ways (textAt s at shapeHeading) (shapeAt s (at + 41)) refl e
+  where
+    ways : (q : Bool) (r : Opening) → shapeAt s (at + 41) ≡ r → pick q (headedOpening s r) NotOpening ≡ OpeningRead u → at ≤ u .next
+    ways false r g e = absurd (no-opening e)
+    ways true NotOpening g e = absurd (no-opening e)
+    ways true (OpeningRead v) g e =
+        headed-long s at u v (textAt s (v .next) lineHeading) (omega (arith, shape-long s (at + 41) v g)) e
+
+pub too-long : (s : List ℕ) → 60000 < length s → NotOpening ≡ readOpening s
+unfolding readOpening pick
+too-long s h = rw (lt-leb (length s) 60000 h) refl
+
+pub short-enough : (s : List ℕ) → length s ≤ 60000 → (r : Opening) → r ≡ openingAt s 0 → r ≡ readOpening s
+unfolding readOpening pick
+short-enough s h r e = rw (le-leb (length s) 60000 h) e

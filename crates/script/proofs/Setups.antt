@@ -145,6 +145,17 @@ module _ (u : Setup) (e : setupRefusal u ≡ done) where
     pub length-fits : Fits w64 (4 * w)
     length-fits = record { fits = omega (arith, fine-length, exact-length) }
 
+    all-laid : length (laidRegion u) ≡ 4 * w
+    all-laid = laid-length ∙ sym exact-length
+
+    -- what was laid out stands at the start
+    module _ (g g₁ : List ℕ) (laid : g₁ ≡ laidRegion u ++ drop (regionLength u) g) where
+      pub laid-part : take (4 * w) g₁ ≡ laidRegion u
+      laid-part = ap (take (4 * w)) laid ∙ take-at (laidRegion u) (drop (regionLength u) g) (4 * w) all-laid
+
+      laid-beyond : drop (4 * w) g₁ ≡ drop (regionLength u) g
+      laid-beyond = ap (drop (4 * w)) laid ∙ drop-at (laidRegion u) (drop (regionLength u) g) (4 * w) all-laid
+
     module _ (g : List ℕ) (lent : length g ≡ 13068) where
       pub region-room : 4 * w ≤ length g
       region-room = omega (arith, fine-length, exact-length)
@@ -225,25 +236,16 @@ module _ (s : List ℕ) (u : Setup) (g g₁ out : List ℕ) (a : ℕ) (r : ℕ) 
         pub ready-part : 4 * w ≡ length (take (4 * w) g₁)
         ready-part = part-length u ready w ew g₁ (same ∙ lent)
 
-        all-laid : length (laidRegion u) ≡ 4 * w
-        all-laid = laid-length u ready ∙ sym (exact-length u ready w ew)
-
-        part : take (4 * w) g₁ ≡ laidRegion u
-        part = ap (take (4 * w)) laid ∙ take-at (laidRegion u) (drop (regionLength u) g) (4 * w) all-laid
-
-        beyond : drop (4 * w) g₁ ≡ drop (regionLength u) g
-        beyond = ap (drop (4 * w)) laid ∙ drop-at (laidRegion u) (drop (regionLength u) g) (4 * w) all-laid
-
         pub setup-ran : (b out′ : List ℕ) (k : ℕ) → LinesRan s (u .next) (take (4 * w) g₁) b out out′ a k
             → length b ≡ length (take (4 * w) g₁)
             → SetupRan s u g (b ++ drop (4 * w) g₁) out out′ a k
         setup-ran b out′ k l z =
             let all : linesFrom (length s) s (u .next) 1 (take (4 * w) g₁) ≡ setupThen s u =
-            ap (linesFrom (length s) s (u .next) 1) part ∙ sym ran in
+            ap (linesFrom (length s) s (u .next) 1) (laid-part u ready w ew g g₁ laid) ∙ sym ran in
             record {
               output = subst (λ x. Wrote out out′ a k (x .printed)) all (l .output);
               region =
-                  ap (λ x. b ++ x) beyond
+                  ap (λ x. b ++ x) (laid-beyond u ready w ew g g₁ laid)
                   ∙ ap (λ n. b ++ drop n g) (sym (z ∙ sym ready-part ∙ exact-length u ready w ew))
                   ∙ ap (λ x. x ++ drop (length x) g) (l .region ∙ ap (λ x. x .region) all);
             }

@@ -9,7 +9,7 @@ use mathlib.Core.List.{List, [], _∷_, _++_}
 use borrow.Author.Tests.{eq-eqb, ne-eqb}
 use lib.Dec.{eqb}
 use lib.ListN.{length, getD, set, drop, length-append, length-drop, length-set, drop-of-length-le}
-use lib.Seq.{drop-cons, sets, length-sets}
+use lib.Seq.{drop-cons, sets, length-sets, sets-eq}
 use Rattle.region.proofs.Shapes.{and-right}
 use Rattle.script.specs.Text.{startsWith, textAt}
 use Rattle.script.specs.Inner.{Wrote}
@@ -89,6 +89,12 @@ wrote-more {l} {l′} {l″} {a} {k} {m} {xs} {ys} v w =
 pub wrote-byte : (l : List ℕ) (a x : ℕ) → a < length l → Wrote l (set l a x) a (a + 1) (x ∷ [])
 wrote-byte l a x h = record { next = refl; within = omega arith; bytes = refl }
 
+-- What was written from the start on, with the rest as it was.
+pub written : (l l′ : List ℕ) (k : ℕ) (xs : List ℕ) → Wrote l l′ 0 k xs → l′ ≡ xs ++ drop k l
+written l l′ k xs w =
+    let n : 0 + length xs ≡ k = sym (w .next) in
+    w .bytes ∙ sets-eq xs l 0 (omega (arith, w .within)) ∙ ap (λ m. xs ++ drop m l) n
+
 -- Writing: what is left of the text, from here, gives the whole.
 pub record Writing (l₀ : List ℕ) (at : ℕ) (t l : List ℕ) (k i : ℕ) : Type 0 where
   pub within : i ≤ length t
@@ -119,4 +125,35 @@ module _ {l₀ : List ℕ} {at : ℕ} {t l : List ℕ} {k i : ℕ} (e : Writing 
         next = omega (arith, e .here, e .within);
         within = omega (arith, e .here, e .within, e .room, e .same);
         bytes = ap (sets l k) (sym (drop-of-length-le t h)) ∙ e .left;
+      }
+
+-- Printing piece by piece: what is left, written from here, gives the whole.
+pub record Printing (l₀ : List ℕ) (a : ℕ) (whole l : List ℕ) (k : ℕ) (left : List ℕ) : Type 0 where
+  pub same : length l ≡ length l₀
+  pub bytes : sets l k left ≡ sets l₀ a whole
+  pub count : k + length left ≡ a + length whole
+
+pub print-start : (l : List ℕ) (a : ℕ) (whole : List ℕ) → Printing l a whole l a whole
+print-start l a whole = record { same = refl; bytes = refl; count = refl }
+
+module _ {l₀ : List ℕ} {a : ℕ} {whole l : List ℕ} {k : ℕ} {left : List ℕ} (e : Printing l₀ a whole l k left) where
+  pub print-more : {l′ : List ℕ} {k′ : ℕ} (xs next : List ℕ) → left ≡ xs ++ next → Wrote l l′ k k′ xs → Printing l₀ a whole l′ k′ next
+  print-more {l′} {k′} xs next el w =
+      record {
+        same = wrote-length w ∙ e .same;
+        bytes =
+            ap (λ b. sets b k′ next) (w .bytes)
+            ∙ ap (λ n. sets (sets l k xs) n next) (w .next)
+            ∙ sym (sets-append xs next l k)
+            ∙ ap (sets l k) (sym el)
+            ∙ e .bytes;
+        count = omega (arith, e .count, ap length el, length-append xs next, w .next);
+      }
+
+  pub print-end : left ≡ [] → k ≤ length l → Wrote l₀ l a k whole
+  print-end el h =
+      record {
+        next = omega (arith, e .count, ap length el);
+        within = omega (arith, e .same);
+        bytes = ap (sets l k) (sym el) ∙ e .bytes;
       }

@@ -2,17 +2,14 @@
 use Prim.Native.Nat.{ℕ, _+_, _≤_}
 use native.Mathlib.Omega.{arith}
 use mathlib.Core.Path.{_≡_, refl, sym, ap, subst, _∙_}
-use mathlib.Core.Bool.{Bool, true, false, _&&_}
+use mathlib.Core.Bool.{Bool, true, false}
 use mathlib.Core.List.{List, _++_, append-nil}
 use borrow.Author.Tests.{leb-true}
 use lib.Dec.{leb}
 use lib.ListN.{length, drop}
-use lib.Seq.{sets-eq}
 use Rattle.region.specs.Pick.{pick}
-use Rattle.region.proofs.Shapes.{and-left}
-use Rattle.script.specs.Text.{textAt}
 use Rattle.script.specs.Inner.{Wrote, SetupRan}
-use Rattle.script.specs.Reading.{headedOpening, readOpening, shapeAt, shapeHeading}
+use Rattle.script.specs.Reading.{openingAt, readOpening}
 use Rattle.script.specs.Printing.{lineText}
 use Rattle.script.specs.Script.{Ran, after, openingThen, outputHeading, scriptRun, setupThen}
 use Rattle.script.specs.Promises.{ScriptRan}
@@ -20,24 +17,16 @@ use Rattle.script.specs.declared.printing.Outcome.the-variants.{Unreadab
 use Rattle.script.specs.declared.reading.Opening.{Opening}
 use Rattle.script.specs.declared.reading.Opening.the-variants.{Read as OpeningRead, Unreadable as NotOpening}
 use Rattle.script.specs.declared.reading.Setup.{Setup}
-use Rattle.script.proofs.Texts.{wrote-length, wrote-more}
+use Rattle.script.proofs.Texts.{written, wrote-length, wrote-more}
 
 -- A script whose opening can be read is short enough.
 pub opening-short : (s : List ℕ) (u : Setup) (r : Opening) → r ≡ readOpening s → r ≡ OpeningRead u → length s ≤ 60000
 unfolding readOpening pick
-opening-short s u r e g =
-    ways (leb (length s) 60000 && textAt s 0 shapeHeading) refl (sym e ∙ g)
+opening-short s u r e g = ways (leb (length s) 60000) refl (sym e ∙ g)
   where
-    ways : (q : Bool) → leb (length s) 60000 && textAt s 0 shapeHeading ≡ q
-        → pick q (headedOpening s (shapeAt s (length shapeHeading))) NotOpening ≡ OpeningRead u → length s ≤ 60000
-    ways true f e = leb-true (length s) 60000 (and-left (leb (length s) 60000) (textAt s 0 shapeHeading) f)
+    ways : (q : Bool) → leb (length s) 60000 ≡ q → pick q (openingAt s 0) NotOpening ≡ OpeningRead u → length s ≤ 60000
+    ways true f e = leb-true (length s) 60000 f
     ways false f e = let z : _≡_ {A = ℕ} 0 1 = cc in absurd (omega arith)
-
--- What was written from the start on, with the rest as it was.
-written : (l l′ : List ℕ) (k : ℕ) (xs : List ℕ) → Wrote l l′ 0 k xs → l′ ≡ xs ++ drop k l
-written l l′ k xs w =
-    let n : 0 + length xs ≡ k = sym (w .next) in
-    w .bytes ∙ sets-eq xs l 0 (omega (arith, w .within)) ∙ ap (λ m. xs ++ drop m l) n
 
 module _ (s out out₁ g : List ℕ) (k : ℕ) (w : Wrote out out₁ 0 k outputHeading) (r : Opening) (e : r ≡ readOpening s) where
   pub heading-room : length out ≡ 330082 → k + 330055 ≤ length out₁

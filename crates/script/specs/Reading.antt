@@ -114,14 +114,16 @@ headedOpening s (OpeningRead u) =
     (OpeningRead (record { shape = u .shape; permission = u .permission; next = u .next + length lineHeading }))
     NotOpening
 
+-- the opening from a position on: both headings and the shape between them
+unfoldable pub openingAt : List ℕ → ℕ → Opening
+unfolding shapeAt
+openingAt s at =
+    pick (textAt s at shapeHeading) (headedOpening s (shapeAt s (at + length shapeHeading))) NotOpening
+
 abbrev pub scriptMost : ℕ
 scriptMost = 60000
 
--- the opening: both headings and the shape between them. "Standard input, at most 60,000 bytes, else line 0 is unreadable".
+-- the opening of a script. "Standard input, at most 60,000 bytes, else line 0 is unreadable".
 unfoldable pub readOpening : List ℕ → Opening
-unfolding shapeAt
-readOpening s =
-    pick
-    (leb (length s) scriptMost && textAt s 0 shapeHeading)
-    (headedOpening s (shapeAt s (length shapeHeading)))
-    NotOpening
+unfolding openingAt
+readOpening s = pick (leb (length s) scriptMost) (openingAt s 0) NotOpening

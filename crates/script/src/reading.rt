@@ -1,6 +1,6 @@
 // Reading the script: its opening (both headings and the shape between them), and one line at a position.
 ghost use mathlib.Core.Path.{_≡_};
-ghost use Rattle.script.specs.Reading.{fieldsAt, lineIfZero, numberLine, putLine, readLine, readOpening, shapeAt, takeLine};
+ghost use Rattle.script.specs.Reading.{fieldsAt, lineIfZero, numberLine, openingAt, putLine, readLine, readOpening, shapeAt, takeLine};
 ghost use Rattle.script.specs.declared.reading.What.the-variants.{Permit, Turn};
 use crate::numbers::Number;
 use crate::numbers::number_then;
@@ -192,25 +192,32 @@ fn shape_at(s: &[u8], at: usize) -> Opening
     })
 }
 
-// Both headings and the shape between them, of a script that is not too long.
+// Both headings and the shape between them, from a position on.
+pub fn opening_at(s: &[u8], at: usize) -> Opening
+    ensures { λ r. ⌜ r ≡ openingAt (now (s .entry)) at ⌝ }
+{
+    if !text_at(s, at, b"depth cells threads threshold permission\n") {
+        return Opening::Unreadable;
+    }
+    let Opening::Read(setup) = shape_at(s, at + 41) else {
+        return Opening::Unreadable;
+    };
+    let heading_at = setup.next;
+    if !text_at(s, heading_at, b"what thread a b\n") {
+        return Opening::Unreadable;
+    }
+    Opening::Read(Setup {
+        next: heading_at + 16,
+        ..setup
+    })
+}
+
+// The opening of a script that is not too long.
 pub fn read_opening(s: &[u8]) -> Opening
     ensures { λ r. ⌜ r ≡ readOpening (now (s .entry)) ⌝ }
 {
     if SCRIPT_MOST < s.len() {
         return Opening::Unreadable;
     }
-    if !text_at(s, 0, b"depth cells threads threshold permission\n") {
-        return Opening::Unreadable;
-    }
-    let Opening::Read(setup) = shape_at(s, 41) else {
-        return Opening::Unreadable;
-    };
-    let at = setup.next;
-    if !text_at(s, at, b"what thread a b\n") {
-        return Opening::Unreadable;
-    }
-    Opening::Read(Setup {
-        next: at + 16,
-        ..setup
-    })
+    opening_at(s, 0)
 }

@@ -37,7 +37,7 @@ fn done_or(done: Outcome, refused: u32) -> Outcome
 }
 
 // Makes a line's call on the region.
-fn make_call(region: &mut [u8], what: What, thread: u32) -> Outcome
+pub fn make_call(region: &mut [u8], what: What, thread: u32) -> Outcome
     ensures { λ r. ⌜ CallMade (now (region .entry)) (now (region .exit)) what thread r ⌝ }
 {
     match what {
@@ -72,7 +72,7 @@ fn run_lines(input: &[u8], start: usize, region: &mut [u8], out: &mut [u8], from
 }
 
 // The refusal of a script's layout, or done.
-fn setup_refusal(setup: Setup) -> u32
+pub fn setup_refusal(setup: Setup) -> u32
     ensures { λ r. ⌜ r ≡ setupRefusal setup ⌝ }
 {
     let shape = setup.shape;
@@ -96,7 +96,7 @@ fn permissions_of(permission: u8) -> [u8; 64]
 }
 
 // Lays out the region of an accepted setup at the start of the lent one.
-fn lay_region(region: &mut [u8], setup: Setup)
+pub fn lay_region(region: &mut [u8], setup: Setup)
     requires { ⌜ (setupRefusal setup ≡ 0) × (length (now region) ≡ regionRoom) ⌝ }
     ensures { λ r. ⌜ now (region .exit) ≡ laidRegion setup ++ drop (regionLength setup) (now (region .entry)) ⌝ }
 {

@@ -9,10 +9,15 @@
 
 pub mod beginnings;
 pub mod fields;
+pub mod figures;
 pub mod leaves;
+pub mod made_scripts;
 pub mod native;
 pub mod program;
 pub mod queue;
 pub mod random;
 pub mod recorder;
+pub mod script;
+pub mod stored;
 pub mod values;
+pub mod workloads;

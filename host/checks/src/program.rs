@@ -1,27 +1,33 @@
-//! The script program: the file that the environment variable `SCRIPT_PROGRAM` names, or
-//! `target/bin/script_main` at the repository's root, which `rt check script_main` builds.
+//! The two programs, each a file that an environment variable names, or else one in `target/bin` at
+//! the repository's root, which `rt check` builds: the script program, `SCRIPT_PROGRAM` or
+//! `script_main`, and the figures over many scripts, `FIGURES_PROGRAM` or `figures_main`.
 
 use std::env;
 use std::io::{ErrorKind, Write};
-use std::path::PathBuf;
+use std::path::{Path, PathBuf};
 use std::process::{Command, Stdio};
 
-fn path() -> PathBuf {
-    env::var_os("SCRIPT_PROGRAM")
-        .map_or_else(|| PathBuf::from("../../target/bin/script_main"), PathBuf::from)
+/// What the script program prints for a script.
+pub fn printed(script: &[u8]) -> String {
+    output("SCRIPT_PROGRAM", "script_main", script)
 }
 
-/// What the program prints for a script.
-pub fn printed(script: &[u8]) -> String {
-    let path = path();
+/// What the program of the figures prints for scripts that stand one behind the other.
+pub fn figures(scripts: &[u8]) -> String {
+    output("FIGURES_PROGRAM", "figures_main", scripts)
+}
+
+fn output(variable: &str, name: &str, given: &[u8]) -> String {
+    let built = || Path::new("../../target/bin").join(name);
+    let path = env::var_os(variable).map_or_else(built, PathBuf::from);
     let mut program = Command::new(&path)
         .stdin(Stdio::piped())
         .stdout(Stdio::piped())
         .spawn()
         .unwrap_or_else(|error| panic!("{}: {error}", path.display()));
     let mut input = program.stdin.take().expect("its input is a pipe");
-    // The program reads no more than it needs to see that a script is too long.
-    match input.write_all(script) {
+    // The program reads no more than it needs to see that its input is too long.
+    match input.write_all(given) {
         Err(error) if error.kind() != ErrorKind::BrokenPipe => panic!("{error}"),
         _ => drop(input),
     }

@@ -34,7 +34,7 @@ same-length c = c .before .before .before .before .before .before .before .befor
 
 same-length-2 : tie.Need-same-length-2 Inv-loop μ-loop
 same-length-2 c =
-    c .before .before .write-line .kept .0 ∙ c .before .before .before .before .before .before .before .before .loop .inv .same
+    c .before .before .write-line .kept .0 ∙ c .before .before .before .before .before .before .before .before .loop .inv .printing .same
 
 returns : tie.Need-returns Inv-loop μ-loop
 returns c = search run-unreadable
@@ -58,7 +58,7 @@ same-length-3 : tie.Need-same-length-3 Inv-loop μ-loop
 same-length-3 c = c .before .loop .inv .same-region
 
 same-length-4 : tie.Need-same-length-4 Inv-loop μ-loop
-same-length-4 c = c .before .loop .inv .same
+same-length-4 c = c .before .loop .inv .printing .same
 
 returns-2 : tie.Need-returns-2 Inv-loop μ-loop
 returns-2 c = search run-end

@@ -1,0 +1,100 @@
+-- Cases of request 6, "Figures over many scripts": the rows. Behind script and thread stand node, depth, cas, dcas, dcss, hand, failed, put,
+-- take, list, empty, whole and rest.
+use Prim.Native.Nat.{ℕ, zero, suc}
+use Prim.Native.String.{String}
+use mathlib.Core.List.{List, [], _∷_, _++_}
+use Rattle.script.specs.Text.{ascii}
+use Rattle.cases.specs.Row.{Does, reports, Says, printed, Row, both, callsRow}
+
+-- a script of this shape with these lines, and the empty line that ends it
+abbrev script : String → List ℕ → List ℕ
+script shape lines =
+    ascii "depth cells threads threshold permission\n" ++ ascii shape ++ ascii "\nwhat thread a b\n" ++ lines ++ ascii "\n"
+
+abbrev heading : List ℕ
+heading = ascii "script thread node depth cas dcas dcss hand failed put take list empty whole rest\n"
+
+-- a report of these rows
+abbrev reported : List ℕ → List ℕ → Row
+reported input rows = callsRow both ((reports input, printed (heading ++ rows)) ∷ []) 1
+
+-- The script of document 01: I1, I2, I5 and I6 of a put.
+abbrev pub worked : Row
+worked =
+    reported
+    (script "1 1 1 1 3" (ascii "put 1 5 9\nturn 1 0 0\nturn 1 0 0\nturn 1 0 0\nturn 1 0 0\n"))
+    (ascii "1 1 2 1 1 0 0 0 0 1 0 0 0 4 0\n" ++ ascii "0 0 2 1 1 0 0 0 0 1 0 0 0 4 0\n")
+
+-- Document 01's case I: thread 1's E2 fails once, since thread 2 has put 3 meanwhile.
+abbrev pub one-failed-cas : Row
+one-failed-cas =
+    reported
+    (script
+    "2 2 2 1 3"
+    (ascii "put 1 5 9\nturn 1 0 0\nturn 1 0 0\nturn 1 0 0\nturn 1 0 0\ntake 1 0 0\nput 2 3 9\nturn 1 0 0\n"
+    ++ ascii "turn 2 0 0\nturn 2 0 0\nturn 2 0 0\nturn 2 0 0\n"
+    ++ ascii "turn 1 0 0\nturn 1 0 0\nturn 1 0 0\nturn 1 0 0\nturn 1 0 0\nturn 1 0 0\n"))
+    (ascii "1 1 5 2 4 0 0 0 1 1 1 0 0 5 1\n"
+    ++ ascii "1 2 2 1 1 0 0 0 0 1 0 0 0 4 0\n"
+    ++ ascii "0 0 7 3 5 0 0 0 1 2 1 0 0 5 0\n")
+
+-- "a list at its last item": 17, 18, M1, M2 and M6, then two hand-outs, the second of which answers the list.
+abbrev pub list-of-two : Row
+list-of-two =
+    reported
+    (script
+    "2 2 1 1 3"
+    (ascii "put 1 7 9\nturn 1 0 0\nturn 1 0 0\nturn 1 0 0\nturn 1 0 0\nput 1 5 9\nturn 1 0 0\nturn 1 0 0\nturn 1 0 0\nturn 1 0 0\n"
+    ++ ascii "list 1 0 0\nturn 1 0 0\nturn 1 0 0\nturn 1 0 0\nturn 1 0 0\nturn 1 0 0\nturn 1 0 0\nturn 1 0 0\n"))
+    (ascii "1 1 6 3 4 0 0 2 0 2 0 1 0 5 0\n" ++ ascii "0 0 6 3 4 0 0 2 0 2 0 1 0 5 0\n")
+
+-- A put is withdrawn at its second turn, which counts nowhere, and nor does the put; a take then finds the queue empty.
+abbrev pub withdrawn-put : Row
+withdrawn-put =
+    reported
+    (script "1 1 1 1 3" (ascii "put 1 5 9\nturn 1 0 0\npermit 1 2 0\nturn 1 0 0\ntake 1 0 0\nturn 1 0 0\n"))
+    (ascii "1 1 1 1 0 0 0 0 0 0 0 0 1 2 0\n" ++ ascii "0 0 1 1 0 0 0 0 0 0 0 0 1 2 0\n")
+
+-- A script of no lines: "A group without operations prints 0 and 0." And no script at all.
+abbrev pub no-lines : Row
+no-lines =
+    reported
+    (script "1 1 2 1 3" [])
+    (ascii "1 1 0 0 0 0 0 0 0 0 0 0 0 0 0\n" ++ ascii "1 2 0 0 0 0 0 0 0 0 0 0 0 0 0\n" ++ ascii "0 0 0 0 0 0 0 0 0 0 0 0 0 0 0\n")
+
+abbrev pub no-script : Row
+no-script = reported [] (ascii "0 0 0 0 0 0 0 0 0 0 0 0 0 0 0\n")
+
+-- "prints `unreadable` alone": a line that cannot be read, a refused layout, no empty line at the end, one too many, a 65th script
+abbrev unreadable : List ℕ → Does × Says
+unreadable input = (reports input, printed (ascii "unreadable\n"))
+
+abbrev small : List ℕ
+small = script "1 1 1 1 3" []
+
+abbrev times : ℕ → List ℕ → List ℕ
+times zero text = []
+times (suc n) text = text ++ times n text
+
+abbrev pub not-scripts : Row
+not-scripts =
+    callsRow
+    both
+    (unreadable (script "1 1 1 1 3" (ascii "take 1 0\n"))
+    ∷ unreadable (small ++ script "1 2 1 1 3" [])
+    ∷ unreadable (small ++ ascii "depth cells threads threshold permission\n1 1 1 1 3\nwhat thread a b\n")
+    ∷ unreadable (small ++ ascii "\n")
+    ∷ unreadable (times 65 small)
+    ∷ [])
+    1
+
+abbrev pub casesOfRequest6 : List Row
+casesOfRequest6 =
+    worked
+    ∷ one-failed-cas
+    ∷ list-of-two
+    ∷ withdrawn-put
+    ∷ no-lines
+    ∷ no-script
+    ∷ not-scripts
+    ∷ []

@@ -1,0 +1,17 @@
+-- The theorems, and what the functions' proofs cite.
+mod AllReported
+pub mod Computing
+mod Every
+pub mod KindsAreAccesses
+mod LinesRead
+pub mod NoLineLeftOut
+mod Printed
+mod Regions
+mod ScriptCounted
+mod ScriptsRead
+pub mod StaysReadable
+mod Tally
+pub mod TotalIsSum
+mod TurnColumns
+pub mod TurnsAreTheMachines
+mod TurnsCounted

@@ -1,0 +1,3 @@
+-- What a turn counts as.
+pub mod Kind
+pub mod Theorems
