@@ -23,14 +23,14 @@ use Rattle.script.specs.declared.reading.ScriptLine.{ScriptLine}
 use Rattle.script.specs.declared.reading.Setup.{Setup}
 use Rattle.script.proofs.Readings.{opening-long}
 use Rattle.script.proofs.Setups.{fine-shape, laid-part, length-fits, part-length, region-room}
-use Rattle.figures.specs.Scripts.{Found, found, unfound, foundThen, Script, linesAt, scriptAt}
+use Rattle.figures.specs.Scripts.{Found, found, unfound, linesAt, scriptAt}
 use Rattle.figures.specs.Turns.{TurnMade, turnsIn, turnsOf}
 use Rattle.figures.specs.Figures.{Test, counts, figures, group, tests}
 use Rattle.figures.specs.Report.{rowText, threadRows}
 use Rattle.figures.specs.Inner.{LinesCounted, LinesThere, Most, RowsRoom, ScriptReported, ScriptThere, SetupThere, endOf, isFound, tableRows, tally, theList, theRows, theTurns, totalled}
 use Rattle.figures.proofs.Printed.{row-most}
 use Rattle.figures.proofs.Regions.{laid-readable}
-use Rattle.figures.proofs.ScriptsRead.{accepted, no-script, not-accepted}
+use Rattle.figures.proofs.ScriptsRead.{accepted, no-script, not-accepted, same-end, withLines}
 use Rattle.figures.proofs.Tally.{most-more, most-zeros, table-rows}
 use Rattle.figures.proofs.TurnsCounted.{not-there}
 
@@ -91,28 +91,20 @@ rows-most k vs t (suc n) =
       rows-most k vs (suc t) n,
     )
 
--- What a script of this setup is, by its lines: where it ends, its turns, its rows.
+-- What a script of this setup is, by its lines: whether it is there, its turns, its rows.
 module _ (u : Setup) where
-  withLines : Found (List ScriptLine) → Found Script
-  withLines r = foundThen r λ ls next. found (record { setup = u; lines = ls }) next
-
-  same-end : (r : Found (List ScriptLine)) → endOf (withLines r) ≡ endOf r
-  unfolding withLines
-  same-end (found ls next) = refl
-  same-end unfound = refl
-
-  same-there : (r : Found (List ScriptLine)) → isFound (withLines r) ≡ isFound r
+  same-there : (r : Found (List ScriptLine)) → isFound (withLines u r) ≡ isFound r
   unfolding withLines
   same-there (found ls next) = refl
   same-there unfound = refl
 
-  turns-of : (r : Found (List ScriptLine)) → isFound r ≡ true → theTurns (withLines r) ≡ turnsOf (theList r) (laidRegion u)
+  turns-of : (r : Found (List ScriptLine)) → isFound r ≡ true → theTurns (withLines u r) ≡ turnsOf (theList r) (laidRegion u)
   unfolding withLines turnsIn
   turns-of (found ls next) h = refl
   turns-of unfound h = absurd (true≢false (sym h))
 
   rows-of : (k : ℕ) (r : Found (List ScriptLine)) → isFound r ≡ true
-      → theRows k (withLines r) ≡ threadRows k (turnsOf (theList r) (laidRegion u)) 1 (u .shape .threads)
+      → theRows k (withLines u r) ≡ threadRows k (turnsOf (theList r) (laidRegion u)) 1 (u .shape .threads)
   unfolding withLines turnsIn
   rows-of k (found ls next) h = refl
   rows-of k unfound h = absurd (true≢false (sym h))
@@ -135,7 +127,6 @@ module _ {s : List ℕ} {at : ℕ} {m out : List ℕ} {a : ℕ} (h : ScriptThere
     lines = linesAt (length s) s (u .next)
 
     whole : scriptAt s at ≡ withLines u lines
-    unfolding withLines
     whole = accepted s at r er u g is-done
 
     lines-there : isFound lines ≡ true

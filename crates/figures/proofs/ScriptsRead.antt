@@ -20,7 +20,7 @@ use Rattle.figures.specs.declared.scripts.End.{End}
 use Rattle.figures.specs.declared.scripts.End.the-variants.{At, Unreadable}
 
 -- The script from a position on: its opening, its layout, its lines.
-withLines : Setup → Found (List ScriptLine) → Found Script
+unfoldable pub withLines : Setup → Found (List ScriptLine) → Found Script
 withLines u r = foundThen r λ ls next. found (record { setup = u; lines = ls }) next
 
 module _ (s : List ℕ) (at : ℕ) (r : Opening) (er : r ≡ openingAt s at) where
@@ -37,11 +37,11 @@ module _ (s : List ℕ) (at : ℕ) (r : Opening) (er : r ≡ openingAt s at) whe
     not-accepted n = rw (ne-eqb (setupRefusal u) done n) at (whole ∙ ap (openingThen s) g)
 
     pub accepted : setupRefusal u ≡ done
-        → scriptAt s at ≡ foundThen (linesAt (length s) s (u .next)) λ ls next. found (record { setup = u; lines = ls }) next
-    unfolding pick
+        → scriptAt s at ≡ withLines u (linesAt (length s) s (u .next))
+    unfolding pick withLines
     accepted e = rw (eq-eqb (setupRefusal u) done e) at (whole ∙ ap (openingThen s) g)
 
-same-end : (u : Setup) (r : Found (List ScriptLine)) → endOf (withLines u r) ≡ endOf r
+pub same-end : (u : Setup) (r : Found (List ScriptLine)) → endOf (withLines u r) ≡ endOf r
 unfolding withLines
 same-end u (found ls next) = refl
 same-end u unfound = refl
@@ -56,7 +56,6 @@ module _ (s : List ℕ) (at : ℕ) (r : Opening) (er : r ≡ openingAt s at) whe
     end-refused h = ap endOf (sym (not-accepted s at r er u g (λ z. h (en ∙ z))))
 
     pub end-lines : n ≡ 0 → (q : End) → q ≡ endOf (linesAt (length s) s (u .next)) → q ≡ endOf (scriptAt s at)
-    unfolding withLines
     end-lines h q e =
         e ∙ sym (same-end u (linesAt (length s) s (u .next))) ∙ ap endOf (sym (accepted s at r er u g (sym en ∙ h)))
 

@@ -2,7 +2,7 @@
 use Prim.Native.Nat.{ℕ, _+_, _≤_, _<_}
 use native.Mathlib.Omega.{arith}
 use mathlib.Core.Path.{_≡_, refl, sym, ap, subst, _∙_}
-use mathlib.Core.Bool.{Bool, true, false, not, _&&_}
+use mathlib.Core.Bool.{Bool, true, false, not}
 use mathlib.Core.List.{List}
 use mir.Syntax.{w32}
 use mir.Val.{Fits}
@@ -18,10 +18,6 @@ use Rattle.access.specs.declared.plan.Plan.{Plan}
 use Rattle.kinds.specs.Kind.{accessKind, failedUpdate, makesAccess}
 use Rattle.figures.proofs.Tally.{added-length, most-added, most-more}
 use Rattle.figures.specs.Inner.{Most, RowThere, accessColumn, added, answerColumn, columnOf, counted, failedColumn, tookColumn}
-
-and-nothing : (a : Bool) → a && false ≡ false
-and-nothing true = refl
-and-nothing false = refl
 
 -- The column of the access.
 module _ (p : Place) (q : Plan) (m : Bool) (em : m ≡ makesAccess (q .answer)) where

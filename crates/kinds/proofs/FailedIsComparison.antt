@@ -13,6 +13,7 @@ use Rattle.region.specs.declared.record.Node.{Node}
 use Rattle.region.specs.declared.shape.Shape.{Shape}
 use Rattle.region.specs.declared.thread.Thread.{Thread}
 use Rattle.region.proofs.Picks.{pick-good}
+use Rattle.region.proofs.Shapes.{and-not-right}
 use Rattle.access.specs.Plan.{plan, moved, onTo, refused}
 use Rattle.access.specs.Read.{sameNode}
 use Rattle.access.specs.declared.plan.Plan.{Plan}
@@ -28,22 +29,18 @@ use Rattle.kinds.specs.Theorems.{FailedIsComparison, comparisonHolds}
 record Tells (p : Place) (holds : Bool) (q : Plan) : Type 0 where
   same : failedUpdate p q ≡ makesAccess (q .answer) && not holds
 
-and-false : (a : Bool) → a && false ≡ false
-and-false true = refl
-and-false false = refl
-
 -- Each end of a plan: no access was made; the effect took place, the comparison having held; the comparison failed; a place that only reads.
 module _ {p : Place} {holds : Bool} {q : Plan} where
   no-access : makesAccess (q .answer) ≡ false → Tells p holds q
   unfolding failedUpdate
-  no-access h = record { same = rw h (rw (and-false (isUpdate (accessKind p))) refl) }
+  no-access h = record { same = rw h (rw (and-not-right (isUpdate (accessKind p)) refl) refl) }
 
 module _ {p : Place} {q : Plan} where
   took-effect : isNothing (q .effect) ≡ false → Tells p true q
   unfolding failedUpdate
   took-effect h =
       record {
-        same = rw h (and-false (isUpdate (accessKind p) && makesAccess (q .answer)) ∙ sym (and-false (makesAccess (q .answer))));
+        same = rw h (and-not-right (isUpdate (accessKind p) && makesAccess (q .answer)) refl ∙ sym (and-not-right (makesAccess (q .answer)) refl));
       }
 
   fails : isUpdate (accessKind p) ≡ true → isNothing (q .effect) ≡ true → Tells p false q
@@ -52,7 +49,7 @@ module _ {p : Place} {q : Plan} where
 
   reads : isUpdate (accessKind p) ≡ false → Tells p true q
   unfolding failedUpdate
-  reads u = record { same = rw u (sym (and-false (makesAccess (q .answer)))) }
+  reads u = record { same = rw u (sym (and-not-right (makesAccess (q .answer)) refl)) }
 
 -- by the comparison itself, and by a test that chooses which one is made
 compared : {p : Place} {a b : Plan} (holds : Bool) → Tells p true a → Tells p false b → Tells p holds (pick holds a b)
