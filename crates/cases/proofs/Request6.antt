@@ -2,7 +2,7 @@
 use mathlib.Core.Path.{refl}
 use Rattle.figures.proofs.Computing.{computing}
 use Rattle.cases.specs.Row.{Holds, AllHold}
-use Rattle.cases.specs.Request6.{worked, one-failed-cas, list-of-two, withdrawn-put, no-lines, no-script, not-scripts, casesOfRequest6}
+use Rattle.cases.specs.Request6.{worked, one-failed-cas, every-update, list-of-two, withdrawn-put, no-lines, no-script, not-scripts, casesOfRequest6}
 
 worked-holds : Holds worked
 unfolding computing
@@ -11,6 +11,10 @@ worked-holds = (refl, refl)
 one-failed-cas-holds : Holds one-failed-cas
 unfolding computing
 one-failed-cas-holds = (refl, refl)
+
+every-update-holds : Holds every-update
+unfolding computing
+every-update-holds = (refl, refl)
 
 list-of-two-holds : Holds list-of-two
 unfolding computing
@@ -34,4 +38,4 @@ not-scripts-holds = (refl, refl)
 
 pub casesOfRequest6-hold : AllHold casesOfRequest6
 casesOfRequest6-hold =
-    (worked-holds, (one-failed-cas-holds, (list-of-two-holds, (withdrawn-put-holds, (no-lines-holds, (no-script-holds, (not-scripts-holds, tt)))))))
+    (worked-holds, (one-failed-cas-holds, (every-update-holds, (list-of-two-holds, (withdrawn-put-holds, (no-lines-holds, (no-script-holds, (not-scripts-holds, tt))))))))

@@ -18,6 +18,10 @@ heading = ascii "script thread node depth cas dcas dcss hand failed put take lis
 abbrev reported : List ℕ → List ℕ → Row
 reported input rows = callsRow both ((reports input, printed (heading ++ rows)) ∷ []) 1
 
+abbrev times : ℕ → List ℕ → List ℕ
+times zero text = []
+times (suc n) text = text ++ times n text
+
 -- The script of document 01: I1, I2, I5 and I6 of a put.
 abbrev pub worked : Row
 worked =
@@ -38,6 +42,31 @@ one-failed-cas =
     ++ ascii "1 2 2 1 1 0 0 0 0 1 0 0 0 4 0\n"
     ++ ascii "0 0 7 3 5 0 0 0 1 2 1 0 0 5 0\n")
 
+-- Two scripts. In the first, document 01's case H and a take: I8 puts 7 below, M5 exchanges. In the second both threads read depth 1 and
+-- stand at I4; thread 2's fails ("I4's too").
+abbrev pub every-update : Row
+every-update =
+    reported
+    (script
+    "2 2 1 1 3"
+    (ascii "put 1 5 9\n"
+    ++ times 4 (ascii "turn 1 0 0\n")
+    ++ ascii "put 1 7 9\n"
+    ++ times 9 (ascii "turn 1 0 0\n")
+    ++ ascii "take 1 0 0\n"
+    ++ times 10 (ascii "turn 1 0 0\n"))
+    ++ script
+    "3 3 2 1 3"
+    (ascii "put 1 5 9\n"
+    ++ times 4 (ascii "turn 1 0 0\n")
+    ++ ascii "put 1 7 9\nput 2 8 9\nturn 1 0 0\nturn 1 0 0\nturn 2 0 0\nturn 2 0 0\nturn 1 0 0\nturn 2 0 0\n"
+    ++ times 6 (ascii "turn 1 0 0\n")
+    ++ times 7 (ascii "turn 2 1 0\n")))
+    (ascii "1 1 12 5 4 1 1 0 0 2 1 0 0 7 2\n"
+    ++ ascii "2 1 7 3 2 0 1 0 0 2 0 0 0 6 1\n"
+    ++ ascii "2 2 5 2 1 0 1 0 1 1 0 0 0 9 0\n"
+    ++ ascii "0 0 24 10 7 1 3 0 1 5 1 0 0 7 3\n")
+
 -- "a list at its last item": 17, 18, M1, M2 and M6, then two hand-outs, the second of which answers the list.
 abbrev pub list-of-two : Row
 list-of-two =
@@ -48,7 +77,7 @@ list-of-two =
     ++ ascii "list 1 0 0\nturn 1 0 0\nturn 1 0 0\nturn 1 0 0\nturn 1 0 0\nturn 1 0 0\nturn 1 0 0\nturn 1 0 0\n"))
     (ascii "1 1 6 3 4 0 0 2 0 2 0 1 0 5 0\n" ++ ascii "0 0 6 3 4 0 0 2 0 2 0 1 0 5 0\n")
 
--- A put is withdrawn at its second turn, which counts nowhere, and nor does the put; a take then finds the queue empty.
+-- A put is withdrawn at its second turn: neither that turn nor the put counts. A take then finds the queue empty.
 abbrev pub withdrawn-put : Row
 withdrawn-put =
     reported
@@ -72,10 +101,6 @@ unreadable input = (reports input, printed (ascii "unreadable\n"))
 abbrev small : List ℕ
 small = script "1 1 1 1 3" []
 
-abbrev times : ℕ → List ℕ → List ℕ
-times zero text = []
-times (suc n) text = text ++ times n text
-
 abbrev pub not-scripts : Row
 not-scripts =
     callsRow
@@ -92,6 +117,7 @@ abbrev pub casesOfRequest6 : List Row
 casesOfRequest6 =
     worked
     ∷ one-failed-cas
+    ∷ every-update
     ∷ list-of-two
     ∷ withdrawn-put
     ∷ no-lines

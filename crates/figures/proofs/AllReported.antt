@@ -4,7 +4,7 @@ use native.Mathlib.Numerals.{add-one}
 use native.Mathlib.Omega.{arith}
 use mathlib.Core.Path.{_≡_, refl, sym, ap, subst, _∙_}
 use mathlib.Core.Bool.{Bool, true, false, not, true≢false}
-use mathlib.Core.List.{List, [], _∷_, _++_}
+use mathlib.Core.List.{List, [], _∷_, _++_, append-assoc}
 use mir.Syntax.{w32}
 use mir.Val.{Fits}
 use borrow.Author.Tests.{leb-true, not-true, not-false}
@@ -16,9 +16,10 @@ use Rattle.script.specs.Text.{ascii}
 use Rattle.script.proofs.Texts.{Printing, print-end, print-more, print-start, written, wrote-length, wrote-more}
 use Rattle.figures.specs.Scripts.{Found, found, unfound, foundThen, Script, readScripts, scriptAt, scriptsAt}
 use Rattle.figures.specs.Turns.{allTurns, turnsIn}
-use Rattle.figures.specs.Report.{heading, report, reportOf, rowText, scriptRows, threadRows}
+use Rattle.figures.specs.Figures.{figures}
+use Rattle.figures.specs.Report.{Group, allGroups, groupRows, heading, report, reportOf, rowText, threadGroups}
 use Rattle.figures.specs.Promises.{Reported}
-use Rattle.figures.specs.Inner.{Most, RowRoom, ScriptReported, ScriptThere, ScriptsThere, endOf, isFound, reportRoom, rowsRoom, scriptsText, theList, theRows, theTurns, totalled}
+use Rattle.figures.specs.Inner.{Most, RowRoom, ScriptReported, ScriptThere, ScriptsThere, endOf, isFound, reportRoom, rowsRoom, scriptRows, scriptsText, theList, theRows, theTurns, threadRows, totalled}
 use Rattle.figures.specs.declared.scripts.End.the-variants.{At}
 use Rattle.figures.proofs.ScriptsRead.{scripts-more, scripts-over, too-many}
 use Rattle.figures.proofs.Tally.{most-more, most-zeros, total-figures, totalled-append}
@@ -31,11 +32,19 @@ record Behind (whole : Found (List Script)) (r : Found Script) (rest : ℕ → F
   rows : (k : ℕ) → scriptRows k (theList whole) ≡ theRows k r ++ scriptRows (suc k) (theList (rest next))
   turns : allTurns (theList whole) ≡ theTurns r ++ allTurns (theList (rest next))
 
+rows-append : (gs hs : List Group) → groupRows (gs ++ hs) ≡ groupRows gs ++ groupRows hs
+unfolding groupRows
+rows-append [] hs = refl
+rows-append (g ∷ gs) hs =
+    ap (λ l. rowText (g .script) (g .thread) (figures (g .turns)) ++ l) (rows-append gs hs)
+    ∙ sym (append-assoc (rowText (g .script) (g .thread) (figures (g .turns))) (groupRows gs) (groupRows hs))
+
 rows-first : (k : ℕ) (xs ys zs : List Script) (x : Script) → xs ≡ x ∷ ys → zs ≡ ys
     → scriptRows k xs ≡ threadRows k (turnsIn x) 1 (x .setup .shape .threads) ++ scriptRows (suc k) zs
-unfolding scriptRows
+unfolding scriptRows threadRows allGroups
 rows-first k xs ys zs x e f =
-    ap (scriptRows k) e ∙ ap (λ l. threadRows k (turnsIn x) 1 (x .setup .shape .threads) ++ scriptRows (suc k) l) (sym f)
+    ap (λ l. groupRows (allGroups k l)) (e ∙ ap (λ l. x ∷ l) (sym f))
+    ∙ rows-append (threadGroups k (turnsIn x) 1 (x .setup .shape .threads)) (allGroups (suc k) zs)
 
 turns-first : (xs ys zs : List Script) (x : Script) → xs ≡ x ∷ ys → zs ≡ ys → allTurns xs ≡ turnsIn x ++ allTurns zs
 unfolding allTurns
@@ -189,7 +198,7 @@ module _ {s out₀ : List ℕ} {a : ℕ} {m out : List ℕ} {at k printed : ℕ}
         }
 
     rows-done : Wrote out₀ out a printed (scriptRows 1 (theList (readScripts s)))
-    unfolding scriptRows
+    unfolding scriptRows allGroups groupRows
     rows-done =
         print-end (e .printing) (ap (λ r. scriptRows k (theList r)) over)
         (omega (arith, e .used, e .last, e .room, e .printing .same))
@@ -217,7 +226,7 @@ report-none s = go (readScripts s)
     go (found xs end) h = absurd (true≢false h)
 
 report-some : (s : List ℕ) → isFound (readScripts s) ≡ true → report s ≡ heading ++ scriptsText (theList (readScripts s))
-unfolding report scriptsText
+unfolding report scriptsText scriptRows
 report-some s = go (readScripts s)
   where
     go : (x : Found (List Script)) → isFound x ≡ true → reportOf x ≡ heading ++ scriptsText (theList x)

@@ -9,7 +9,7 @@ use Rattle.script.specs.declared.reading.ScriptLine.{ScriptLine}
 use Rattle.script.specs.declared.reading.What.{What}
 use Rattle.script.specs.declared.reading.What.the-variants.{Put, Take, TakeList, Permit, Turn}
 use Rattle.figures.specs.Turns.{TurnMade, turnBy, turnMade, turnsOf}
-use Rattle.figures.specs.Figures.{group}
+use Rattle.figures.specs.Figures.{ofThread}
 
 pub data Every {A : Type 0} (P : A → Type 0) : List A → Type 0 where
   none : Every P []
@@ -19,8 +19,8 @@ pub every-append : {A : Type 0} {P : A → Type 0} {xs ys : List A} → Every P 
 every-append none h = h
 every-append (and p ps) h = and p (every-append ps h)
 
-pub every-group : {P : TurnMade → Type 0} {vs : List TurnMade} (t : ℕ) → Every P vs → Every P (group t vs)
-unfolding group
+pub every-group : {P : TurnMade → Type 0} {vs : List TurnMade} (t : ℕ) → Every P vs → Every P (ofThread t vs)
+unfolding ofThread
 every-group t none = none
 every-group {P} t (and {x = v} p ps) =
     pick-good (Every P) (eqb (v .thread) t) (λ e. and p (every-group t ps)) (λ e. every-group t ps)

@@ -2,7 +2,7 @@
 mod AllReported
 pub mod Computing
 mod Every
-pub mod KindsAreAccesses
+pub mod KindsSumToAccesses
 mod LinesRead
 pub mod NoLineLeftOut
 mod Printed
@@ -13,5 +13,5 @@ pub mod StaysReadable
 mod Tally
 pub mod TotalIsSum
 mod TurnColumns
-pub mod TurnsAreTheMachines
+pub mod TurnsAreOfTheMachine
 mod TurnsCounted

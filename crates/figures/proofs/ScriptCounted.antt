@@ -25,9 +25,9 @@ use Rattle.script.proofs.Readings.{opening-long}
 use Rattle.script.proofs.Setups.{fine-shape, laid-part, length-fits, part-length, region-room}
 use Rattle.figures.specs.Scripts.{Found, found, unfound, linesAt, scriptAt}
 use Rattle.figures.specs.Turns.{TurnMade, turnsIn, turnsOf}
-use Rattle.figures.specs.Figures.{Test, counts, figures, group, tests}
-use Rattle.figures.specs.Report.{rowText, threadRows}
-use Rattle.figures.specs.Inner.{LinesCounted, LinesThere, Most, RowsRoom, ScriptReported, ScriptThere, SetupThere, endOf, isFound, tableRows, tally, theList, theRows, theTurns, totalled}
+use Rattle.figures.specs.Figures.{Test, counts, figures, ofThread, tests}
+use Rattle.figures.specs.Report.{groupRows, rowText, threadGroups}
+use Rattle.figures.specs.Inner.{LinesCounted, LinesThere, Most, RowsRoom, ScriptReported, ScriptThere, SetupThere, endOf, isFound, tableRows, tally, theList, theRows, theTurns, threadRows, totalled}
 use Rattle.figures.proofs.Printed.{row-most}
 use Rattle.figures.proofs.Regions.{laid-readable}
 use Rattle.figures.proofs.ScriptsRead.{accepted, no-script, not-accepted, same-end, withLines}
@@ -80,14 +80,14 @@ unfolding figures
 figures-long vs = counts-long tests vs
 
 rows-most : (k : ℕ) (vs : List TurnMade) (t n : ℕ) → length (threadRows k vs t n) ≤ 165 * n
-unfolding threadRows
+unfolding threadRows groupRows threadGroups
 rows-most k vs t zero = omega arith
 rows-most k vs t (suc n) =
-    let fs : List ℕ = figures (group t vs) in
+    let fs : List ℕ = figures (ofThread t vs) in
     omega (
       arith,
       length-append (rowText k t fs) (threadRows k vs (suc t) n),
-      row-most k t fs (omega (arith, figures-long (group t vs))),
+      row-most k t fs (omega (arith, figures-long (ofThread t vs))),
       rows-most k vs (suc t) n,
     )
 

@@ -14,7 +14,7 @@ use Rattle.script.specs.declared.reading.ScriptLine.{ScriptLine}
 use Rattle.script.specs.declared.reading.Opening.{Opening}
 use Rattle.script.specs.declared.reading.Opening.the-variants.{Read as OpeningRead, Unreadable as NotOpening}
 use Rattle.script.specs.declared.reading.Setup.{Setup}
-use Rattle.figures.specs.Scripts.{Found, found, unfound, foundThen, Script, linesAt, openingThen, readScripts, scriptAt, scriptsAt}
+use Rattle.figures.specs.Scripts.{Found, found, unfound, foundThen, Script, linesAt, openingAndLines, readScripts, scriptAt, scriptsAt}
 use Rattle.figures.specs.Inner.{endOf, isFound}
 use Rattle.figures.specs.declared.scripts.End.{End}
 use Rattle.figures.specs.declared.scripts.End.the-variants.{At, Unreadable}
@@ -24,22 +24,22 @@ unfoldable pub withLines : Setup → Found (List ScriptLine) → Found Script
 withLines u r = foundThen r λ ls next. found (record { setup = u; lines = ls }) next
 
 module _ (s : List ℕ) (at : ℕ) (r : Opening) (er : r ≡ openingAt s at) where
-  whole : scriptAt s at ≡ openingThen s r
+  whole : scriptAt s at ≡ openingAndLines s r
   unfolding scriptAt
-  whole = ap (openingThen s) (sym er)
+  whole = ap (openingAndLines s) (sym er)
 
   pub no-script : r ≡ NotOpening → scriptAt s at ≡ unfound
-  no-script g = whole ∙ ap (openingThen s) g
+  no-script g = whole ∙ ap (openingAndLines s) g
 
   module _ (u : Setup) (g : r ≡ OpeningRead u) where
     pub not-accepted : (setupRefusal u ≡ done → ⊥) → scriptAt s at ≡ unfound
     unfolding pick
-    not-accepted n = rw (ne-eqb (setupRefusal u) done n) at (whole ∙ ap (openingThen s) g)
+    not-accepted n = rw (ne-eqb (setupRefusal u) done n) at (whole ∙ ap (openingAndLines s) g)
 
     pub accepted : setupRefusal u ≡ done
         → scriptAt s at ≡ withLines u (linesAt (length s) s (u .next))
     unfolding pick withLines
-    accepted e = rw (eq-eqb (setupRefusal u) done e) at (whole ∙ ap (openingThen s) g)
+    accepted e = rw (eq-eqb (setupRefusal u) done e) at (whole ∙ ap (openingAndLines s) g)
 
 pub same-end : (u : Setup) (r : Found (List ScriptLine)) → endOf (withLines u r) ≡ endOf r
 unfolding withLines

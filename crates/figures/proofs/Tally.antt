@@ -24,9 +24,9 @@ use Rattle.region.proofs.Shapes.{and-right, between-least, is-between}
 use Rattle.access.specs.declared.plan.Plan.{Plan}
 use Rattle.kinds.specs.Kind.{accessKind, failedUpdate, makesAccess}
 use Rattle.figures.specs.Turns.{TurnMade}
-use Rattle.figures.specs.Figures.{Test, answeredEmpty, answeredList, answeredPut, answeredTake, count, counts, figures, group, isEmpty, isHandOut, isInserted, isOfKind, isTook, tests}
-use Rattle.figures.specs.Report.{rowText, threadRows}
-use Rattle.figures.specs.Inner.{Most, accessColumn, added, answerColumn, columnOf, counted, failedColumn, tableRows, tallied, tally, tookColumn, totalled}
+use Rattle.figures.specs.Figures.{Test, answeredEmpty, answeredList, answeredPut, answeredTake, count, counts, figures, ofThread, isEmpty, isHandOut, isInserted, isOfKind, isTook, tests}
+use Rattle.figures.specs.Report.{groupRows, rowText, threadGroups}
+use Rattle.figures.specs.Inner.{Most, accessColumn, added, answerColumn, columnOf, counted, failedColumn, tableRows, tallied, tally, threadRows, tookColumn, totalled}
 
 -- The lengths stay.
 pub added-length : (l : List ℕ) (at k : ℕ) → length (added l at k) ≡ length l
@@ -347,17 +347,17 @@ total-figures vs =
     (λ j test c. omega (arith, totalled-at c (replicate 11 0) vs (length-replicate 11 zero), entry-zeros 11 (0 + j)))
 
 -- The table: each figure is the count of the turns of the row's thread.
-pub count-none : (test : Test) (t : ℕ) → count test (group t []) ≡ 0
-unfolding count group
+pub count-none : (test : Test) (t : ℕ) → count test (ofThread t []) ≡ 0
+unfolding count ofThread
 count-none test t = refl
 
 pub count-group : (test : Test) (t : ℕ) (v : TurnMade) (vs : List TurnMade)
-    → count test (group t (v ∷ vs)) ≡ pick (eqb (v .thread) t) (pick (test (v .place) (v .plan)) 1 0) 0 + count test (group t vs)
-unfolding count group pick
+    → count test (ofThread t (v ∷ vs)) ≡ pick (eqb (v .thread) t) (pick (test (v .place) (v .plan)) 1 0) 0 + count test (ofThread t vs)
+unfolding count ofThread pick
 count-group test t v vs = chosen (eqb (v .thread) t)
   where
     chosen : (q : Bool)
-        → count test (pick q (v ∷ group t vs) (group t vs)) ≡ pick q (pick (test (v .place) (v .plan)) 1 0) 0 + count test (group t vs)
+        → count test (pick q (v ∷ ofThread t vs) (ofThread t vs)) ≡ pick q (pick (test (v .place) (v .plan)) 1 0) 0 + count test (ofThread t vs)
     chosen true = refl
     chosen false = sym (zero-add _)
 
@@ -393,7 +393,7 @@ module _ {k : ℕ} {test : Test} (c : Column k test) (l : List ℕ) (i : ℕ) (f
       (λ e. tallied-other (eqb-false (v .thread) (suc i) e))
 
 tally-at : {k : ℕ} {test : Test} → Column k test → (l : List ℕ) (vs : List TurnMade) (i : ℕ) → i < 64 → length l ≡ 704
-    → getD (tally l vs) (11 * i + k) 0 ≡ getD l (11 * i + k) 0 + count test (group (suc i) vs)
+    → getD (tally l vs) (11 * i + k) 0 ≡ getD l (11 * i + k) 0 + count test (ofThread (suc i) vs)
 unfolding tally
 tally-at {k} {test} c l [] i few long = omega (arith, count-none test (suc i))
 tally-at {k} {test} c l (v ∷ vs) i few long =
@@ -402,21 +402,21 @@ tally-at {k} {test} c l (v ∷ vs) i few long =
     omega (arith, one, more, count-group test (suc i) v vs)
 
 -- The rows as they stand in the table are those of the threads.
-table-row : (vs : List TurnMade) (i : ℕ) → i < 64 → take 11 (drop (11 * i) (tally (replicate 704 0) vs)) ≡ figures (group (suc i) vs)
+table-row : (vs : List TurnMade) (i : ℕ) → i < 64 → take 11 (drop (11 * i) (tally (replicate 704 0) vs)) ≡ figures (ofThread (suc i) vs)
 unfolding figures
 table-row vs i few =
     ap (λ (n : ℕ). take 11 (drop n (tally (replicate 704 0) vs))) (sym (add-zero (11 * i)))
-    ∙ row-counts columns (tally (replicate 704 0) vs) (11 * i) (group (suc i) vs)
+    ∙ row-counts columns (tally (replicate 704 0) vs) (11 * i) (ofThread (suc i) vs)
     (omega (arith, tally-length (replicate 704 0) vs, length-replicate 704 zero))
     (λ j test c. omega (arith, tally-at c (replicate 704 0) vs i few (length-replicate 704 zero), entry-zeros 704 (11 * i + j)))
 
 rows-from : (script : ℕ) (vs : List TurnMade) (i n : ℕ) → i + n ≤ 64
     → tableRows script (tally (replicate 704 0) vs) i n ≡ threadRows script vs (suc i) n
-unfolding tableRows threadRows
+unfolding tableRows threadRows groupRows threadGroups
 rows-from script vs i zero h = refl
 rows-from script vs i (suc n) h =
     ap (λ fs. rowText script (suc i) fs ++ tableRows script (tally (replicate 704 0) vs) (suc i) n) (table-row vs i (omega arith))
-    ∙ ap (λ xs. rowText script (suc i) (figures (group (suc i) vs)) ++ xs) (rows-from script vs (suc i) n (omega arith))
+    ∙ ap (λ xs. rowText script (suc i) (figures (ofThread (suc i) vs)) ++ xs) (rows-from script vs (suc i) n (omega arith))
 
 pub table-rows : (script : ℕ) (vs : List TurnMade) (n : ℕ) → n ≤ 64
     → tableRows script (tally (replicate 704 0) vs) 0 n ≡ threadRows script vs 1 n

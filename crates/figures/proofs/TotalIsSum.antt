@@ -30,10 +30,11 @@ use Rattle.script.specs.declared.reading.Opening.the-variants.{Read as OpeningR
 use Rattle.script.specs.declared.reading.ScriptLine.{ScriptLine}
 use Rattle.script.specs.declared.reading.Setup.{Setup}
 use Rattle.script.specs.declared.reading.What.{What}
-use Rattle.figures.specs.Scripts.{Found, found, unfound, Script, foundThen, inputMost, linesAt, openingThen, readScripts, scriptAt, scriptsAt, scriptsMost}
+use Rattle.figures.specs.Scripts.{Found, found, unfound, Script, foundThen, inputMost, linesAt, openingAndLines, readScripts, scriptAt, scriptsAt, scriptsMost}
 use Rattle.figures.specs.Turns.{TurnMade, allTurns, turnMade, turnsIn}
-use Rattle.figures.specs.Figures.{Test, answeredEmpty, answeredList, answeredPut, answeredTake, count, counts, figures, group, isOfKind, tests}
-use Rattle.figures.specs.Theorems.{TotalIsSum, allGroups, plus, sums, threadGroups}
+use Rattle.figures.specs.Figures.{Test, answeredEmpty, answeredList, answeredPut, answeredTake, count, counts, figures, ofThread, isOfKind, tests}
+use Rattle.figures.specs.Report.{Group, allGroups, threadGroups}
+use Rattle.figures.specs.Theorems.{TotalIsSum, plus, sums}
 use Rattle.figures.proofs.Every.{Every, none, and, every-turn}
 use Rattle.figures.proofs.Regions.{call-keeps-readable, call-keeps-shape, laid-readable, laid-shape}
 use Rattle.figures.proofs.Tally.{count-group, count-none}
@@ -50,24 +51,24 @@ counts-append [] vs ws = refl
 counts-append (test ∷ ts) vs ws =
     λ i. count-append test vs ws i ∷ counts-append ts vs ws i
 
-joined : List (List TurnMade) → List TurnMade
+joined : List Group → List TurnMade
 joined [] = []
-joined (g ∷ gs) = g ++ joined gs
+joined (g ∷ gs) = g .turns ++ joined gs
 
-sums-joined : (gs : List (List TurnMade)) → sums gs ≡ figures (joined gs)
+sums-joined : (gs : List Group) → sums gs ≡ figures (joined gs)
 unfolding sums joined figures
 sums-joined [] = refl
-sums-joined (g ∷ gs) = ap (plus (figures g)) (sums-joined gs) ∙ sym (counts-append tests g (joined gs))
+sums-joined (g ∷ gs) = ap (plus (figures (g .turns))) (sums-joined gs) ∙ sym (counts-append tests (g .turns) (joined gs))
 
-joined-append : (test : Test) (gs hs : List (List TurnMade))
+joined-append : (test : Test) (gs hs : List Group)
     → count test (joined (gs ++ hs)) ≡ count test (joined gs) + count test (joined hs)
 unfolding joined count
 joined-append test [] hs = sym (zero-add _)
 joined-append test (g ∷ gs) hs =
     omega (
       arith,
-      count-append test g (joined (gs ++ hs)),
-      count-append test g (joined gs),
+      count-append test (g .turns) (joined (gs ++ hs)),
+      count-append test (g .turns) (joined gs),
       joined-append test gs hs,
     )
 
@@ -88,20 +89,20 @@ after : (t k : ℕ) → t ≤ k → (k ≡ t → ⊥) → suc t ≤ k
 after t k l n = omega arith
 
 -- A turn is in the groups of n threads from thread t on once if it is of one of them, else not at all.
-module _ (test : Test) where
+module _ (test : Test) (script : ℕ) where
   first-group : (vs : List TurnMade) (t n : ℕ)
-      → count test (joined (threadGroups vs t (suc n))) ≡ count test (group t vs) + count test (joined (threadGroups vs (suc t) n))
+      → count test (joined (threadGroups script vs t (suc n))) ≡ count test (ofThread t vs) + count test (joined (threadGroups script vs (suc t) n))
   unfolding joined threadGroups
-  first-group vs t n = count-append test (group t vs) (joined (threadGroups vs (suc t) n))
+  first-group vs t n = count-append test (ofThread t vs) (joined (threadGroups script vs (suc t) n))
 
-  no-turns : (t n : ℕ) → count test (joined (threadGroups [] t n)) ≡ 0
+  no-turns : (t n : ℕ) → count test (joined (threadGroups script [] t n)) ≡ 0
   unfolding joined threadGroups count
   no-turns t zero = refl
   no-turns t (suc n) = omega (arith, first-group [] t n, count-none test t, no-turns (suc t) n)
 
   module _ (v : TurnMade) (vs : List TurnMade) where
     in-no-group : (t n : ℕ) → ((k : ℕ) → t ≤ k → k < t + n → v .thread ≡ k → ⊥)
-        → count test (joined (threadGroups (v ∷ vs) t n)) ≡ count test (joined (threadGroups vs t n))
+        → count test (joined (threadGroups script (v ∷ vs) t n)) ≡ count test (joined (threadGroups script vs t n))
     unfolding joined threadGroups
     in-no-group t zero apart = refl
     in-no-group t (suc n) apart =
@@ -115,8 +116,8 @@ module _ (test : Test) where
         )
 
     in-one-group : (t n : ℕ) → t ≤ v .thread → v .thread < t + n
-        → count test (joined (threadGroups (v ∷ vs) t n))
-        ≡ pick (test (v .place) (v .plan)) 1 0 + count test (joined (threadGroups vs t n))
+        → count test (joined (threadGroups script (v ∷ vs) t n))
+        ≡ pick (test (v .place) (v .plan)) 1 0 + count test (joined (threadGroups script vs t n))
     in-one-group t zero l h = absurd (omega arith)
     in-one-group t (suc n) l h =
         let all = first-group (v ∷ vs) t n in
@@ -173,22 +174,22 @@ same-counts vs ws (and {x = test} h hs) f = λ i. f test h i ∷ same-counts vs 
 record RefusedPast (n : ℕ) (v : TurnMade) : Type 0 where
   past : between 1 (v .thread) n ≡ false → v .plan ≡ refused (idleThread 0) badThread
 
-groups-count : (test : Test) → Skips test → (n : ℕ) {vs : List TurnMade} → Every (RefusedPast n) vs
-    → count test vs ≡ count test (joined (threadGroups vs 1 n))
+groups-count : (test : Test) → Skips test → (script n : ℕ) {vs : List TurnMade} → Every (RefusedPast n) vs
+    → count test vs ≡ count test (joined (threadGroups script vs 1 n))
 unfolding count
-groups-count test h n none = sym (no-turns test 1 n)
-groups-count test h n (and {x = v} {xs = vs} r rs) =
+groups-count test h script n none = sym (no-turns test script 1 n)
+groups-count test h script n (and {x = v} {xs = vs} r rs) =
     either (between 1 (v .thread) n)
     (λ e. omega (
       arith,
-      groups-count test h n rs,
-      in-one-group test v vs 1 n (between-least 1 (v .thread) n e) (omega (arith, between-most 1 (v .thread) n e)),
+      groups-count test h script n rs,
+      in-one-group test script v vs 1 n (between-least 1 (v .thread) n e) (omega (arith, between-most 1 (v .thread) n e)),
     ))
     (λ e. omega (
       arith,
-      groups-count test h n rs,
+      groups-count test h script n rs,
       picked-not (ap (test (v .place)) (r .past e) ∙ h .fails-refused (v .place) (idleThread 0) badThread) 1,
-      in-no-group test v vs 1 n (λ k l m s. true≢false (sym (is-between 1 (v .thread) n (omega arith) (omega arith)) ∙ e)),
+      in-no-group test script v vs 1 n (λ k l m s. true≢false (sym (is-between 1 (v .thread) n (omega arith) (omega arith)) ∙ e)),
     ))
 
 -- The regions along a script are readable and have the setup's shape.
@@ -232,7 +233,7 @@ lines-accepted : (u : Setup) → setupRefusal u ≡ done → (r : Found (List Sc
 lines-accepted u e (found ls next) = e
 lines-accepted u e unfound = tt
 
-opening-accepted : (s : List ℕ) (o : Opening) → Holds Accepted (openingThen s o)
+opening-accepted : (s : List ℕ) (o : Opening) → Holds Accepted (openingAndLines s o)
 opening-accepted s NotOpening = tt
 opening-accepted s (OpeningRead u) =
     pick-good (Holds Accepted) (eqb (setupRefusal u) done)
@@ -253,22 +254,22 @@ unfolding readScripts
 all-accepted s = pick-good (Holds (Every Accepted)) (leb (length s) inputMost) (λ e. scripts-accepted scriptsMost s 0) (λ e. tt)
 
 -- So the turns of all scripts are counted as often in the groups.
-all-counted : (test : Test) → Skips test → {xs : List Script} → Every Accepted xs
-    → count test (allTurns xs) ≡ count test (joined (allGroups xs))
+all-counted : (test : Test) → Skips test → (k : ℕ) {xs : List Script} → Every Accepted xs
+    → count test (allTurns xs) ≡ count test (joined (allGroups k xs))
 unfolding allTurns allGroups joined
-all-counted test h none = refl
-all-counted test h (and {x = x} {xs = xs} a more) =
+all-counted test h k none = refl
+all-counted test h k (and {x = x} {xs = xs} a more) =
     omega (
       arith,
       count-append test (turnsIn x) (allTurns xs),
-      joined-append test (threadGroups (turnsIn x) 1 (x .setup .shape .threads)) (allGroups xs),
-      groups-count test h (x .setup .shape .threads) (script-turns x a),
-      all-counted test h more,
+      joined-append test (threadGroups k (turnsIn x) 1 (x .setup .shape .threads)) (allGroups (suc k) xs),
+      groups-count test h k (x .setup .shape .threads) (script-turns x a),
+      all-counted test h (suc k) more,
     )
 
 pub total-is-sum : TotalIsSum
 unfolding figures
 total-is-sum s xs end e =
     let accepted = subst (Holds (Every Accepted)) e (all-accepted s) in
-    same-counts (allTurns xs) (joined (allGroups xs)) each-skips (λ test h. all-counted test h accepted)
-    ∙ sym (sums-joined (allGroups xs))
+    same-counts (allTurns xs) (joined (allGroups 1 xs)) each-skips (λ test h. all-counted test h 1 accepted)
+    ∙ sym (sums-joined (allGroups 1 xs))

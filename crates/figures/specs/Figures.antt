@@ -1,14 +1,14 @@
 -- The figures of a group of turns (document 02, request 6): each is a count of the turns that pass a test.
 use Prim.Native.Nat.{ℕ, _+_, _/_, _%_}
-use mathlib.Core.Bool.{Bool, true, false, not, _&&_}
+use mathlib.Core.Bool.{Bool, not, _&&_}
 use mathlib.Core.List.{List, [], _∷_}
 use lib.Dec.{eqb}
 use lib.ListN.{take, drop}
+use Rattle.region.specs.Answer.{answerCode}
 use Rattle.region.specs.Pick.{pick}
 use Rattle.region.specs.Place.{placeNumber}
 use Rattle.region.specs.Thread.{isIdle}
 use Rattle.region.specs.declared.answer.Answer.{Answer}
-use Rattle.region.specs.declared.answer.Answer.the-variants.{Moved, Idle, Inserted, Took, Empty, Refused, Withdrawn}
 use Rattle.region.specs.declared.place.Place.{Place}
 use Rattle.region.specs.declared.place.Place.the-variants.{HandOut}
 use Rattle.access.specs.declared.plan.Plan.{Plan}
@@ -23,32 +23,15 @@ Test = Place → Plan → Bool
 unfoldable pub isOfKind : ℕ → Test
 isOfKind k p q = makesAccess (q .answer) && eqb (accessKind p) k
 
+-- "inserted 2, took 3 with key and tag, empty 4" (document 01, A run)
 abbrev pub isInserted : Answer → Bool
-isInserted Moved = false
-isInserted Idle = false
-isInserted Inserted = true
-isInserted (Took i) = false
-isInserted Empty = false
-isInserted (Refused n) = false
-isInserted Withdrawn = false
+isInserted a = eqb (answerCode a) 2
 
 abbrev pub isTook : Answer → Bool
-isTook Moved = false
-isTook Idle = false
-isTook Inserted = false
-isTook (Took i) = true
-isTook Empty = false
-isTook (Refused n) = false
-isTook Withdrawn = false
+isTook a = eqb (answerCode a) 3
 
 abbrev pub isEmpty : Answer → Bool
-isEmpty Moved = false
-isEmpty Idle = false
-isEmpty Inserted = false
-isEmpty (Took i) = false
-isEmpty Empty = true
-isEmpty (Refused n) = false
-isEmpty Withdrawn = false
+isEmpty a = eqb (answerCode a) 4
 
 abbrev pub isHandOut : Place → Bool
 isHandOut p = eqb (placeNumber p) (placeNumber HandOut)
@@ -98,9 +81,9 @@ unfolding counts
 figures vs = counts tests vs
 
 -- the turns of one thread
-unfoldable pub group : ℕ → List TurnMade → List TurnMade
-group t [] = []
-group t (v ∷ vs) = pick (eqb (v .thread) t) (v ∷ group t vs) (group t vs)
+unfoldable pub ofThread : ℕ → List TurnMade → List TurnMade
+ofThread t [] = []
+ofThread t (v ∷ vs) = pick (eqb (v .thread) t) (v ∷ ofThread t vs) (ofThread t vs)
 
 abbrev pub sum : List ℕ → ℕ
 sum [] = 0

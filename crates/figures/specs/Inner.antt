@@ -22,11 +22,20 @@ use Rattle.script.specs.declared.reading.Setup.{Setup}
 use Rattle.figures.specs.Scripts.{Found, found, unfound, Script, inputMost, linesAt, readScripts, scriptAt}
 use Rattle.figures.specs.Turns.{TurnMade, allTurns, turnsIn, turnsOf}
 use Rattle.figures.specs.Figures.{accesses, figures, isHandOut, operations}
-use Rattle.figures.specs.Report.{ratioText, rowText, scriptRows, spaced, threadRows}
+use Rattle.figures.specs.Report.{allGroups, groupRows, ratioText, rowText, spaced, threadGroups}
 use Rattle.figures.specs.declared.scripts.End.{End}
 use Rattle.figures.specs.declared.scripts.End.the-variants.{At, Unreadable}
 
--- What was found: where it ends, whether it is there, and what it is, where what is not there has no lines, scripts, turns or rows.
+-- the rows of n threads from thread t on, vs being the turns of the script; and of scripts, the first of which is script k
+unfoldable pub threadRows : ℕ → List TurnMade → ℕ → ℕ → List ℕ
+unfolding groupRows threadGroups
+threadRows script vs t n = groupRows (threadGroups script vs t n)
+
+unfoldable pub scriptRows : ℕ → List Script → List ℕ
+unfolding groupRows allGroups
+scriptRows k xs = groupRows (allGroups k xs)
+
+-- Of what is read: where it ends, whether it can be read, and its lines, scripts, turns or rows, of which there are none if it cannot.
 abbrev pub endOf : {A : Type 0} → Found A → End
 endOf (found x next) = At next
 endOf unfound = Unreadable
@@ -169,7 +178,7 @@ unfoldable pub tableRows : ℕ → List ℕ → ℕ → ℕ → List ℕ
 tableRows script l k zero = []
 tableRows script l k (suc n) = rowText script (suc k) (take 11 (drop (11 * k) l)) ++ tableRows script l (suc k) n
 
--- the room of a script's rows, of the total's, and of all that follows the heading
+-- at 165 bytes a row: the room of a script's 64 rows, and of those of 64 scripts with the total's
 abbrev pub rowsRoom : ℕ
 rowsRoom = 10560
 

@@ -5,7 +5,7 @@ use Rattle.script.specs.Text.{ascii, space, lineEnd}
 use Rattle.script.specs.Printing.{numberText}
 use Rattle.figures.specs.Scripts.{Found, found, unfound, Script, readScripts}
 use Rattle.figures.specs.Turns.{TurnMade, allTurns, turnsIn}
-use Rattle.figures.specs.Figures.{accesses, figures, group, operations, rest, whole}
+use Rattle.figures.specs.Figures.{accesses, figures, ofThread, operations, rest, whole}
 
 -- numbers, a space behind each
 unfoldable pub spaced : List ℕ → List ℕ
@@ -22,17 +22,29 @@ unfolding spaced ratioText
 rowText script thread fs =
     numberText script space ++ (numberText thread space ++ (spaced fs ++ ratioText (accesses fs) (operations fs)))
 
--- "a line for each script's threads": n threads from thread t on, vs the turns of the script
-unfoldable pub threadRows : ℕ → List TurnMade → ℕ → ℕ → List ℕ
-unfolding rowText
-threadRows script vs t zero = []
-threadRows script vs t (suc n) = rowText script t (figures (group t vs)) ++ threadRows script vs (suc t) n
+-- the turns of one thread of one script
+pub record Group : Type 0 where
+  pub script : ℕ
+  pub thread : ℕ
+  pub turns : List TurnMade
 
--- "scripts in input order from 1": these, the first of which is script k
-unfoldable pub scriptRows : ℕ → List Script → List ℕ
-unfolding threadRows
-scriptRows k [] = []
-scriptRows k (x ∷ xs) = threadRows k (turnsIn x) 1 (x .setup .shape .threads) ++ scriptRows (suc k) xs
+-- of a script, n threads from thread t on, vs being the script's turns
+unfoldable pub threadGroups : ℕ → List TurnMade → ℕ → ℕ → List Group
+threadGroups script vs t zero = []
+threadGroups script vs t (suc n) =
+    record { script = script; thread = t; turns = ofThread t vs } ∷ threadGroups script vs (suc t) n
+
+-- "scripts in input order from 1": all groups of these scripts, the first of which is script k
+unfoldable pub allGroups : ℕ → List Script → List Group
+unfolding threadGroups
+allGroups k [] = []
+allGroups k (x ∷ xs) = threadGroups k (turnsIn x) 1 (x .setup .shape .threads) ++ allGroups (suc k) xs
+
+-- "then a line for each script's threads"
+unfoldable pub groupRows : List Group → List ℕ
+unfolding rowText
+groupRows [] = []
+groupRows (g ∷ gs) = rowText (g .script) (g .thread) (figures (g .turns)) ++ groupRows gs
 
 abbrev pub heading : List ℕ
 heading = ascii "script thread node depth cas dcas dcss hand failed put take list empty whole rest\n"
@@ -40,8 +52,8 @@ heading = ascii "script thread node depth cas dcas dcss hand failed put take lis
 -- "the total last as 0 0"; "prints `unreadable` alone"
 abbrev pub reportOf : Found (List Script) → List ℕ
 reportOf unfound = ascii "unreadable\n"
-reportOf (found xs end) = heading ++ (scriptRows 1 xs ++ rowText 0 0 (figures (allTurns xs)))
+reportOf (found xs end) = heading ++ (groupRows (allGroups 1 xs) ++ rowText 0 0 (figures (allTurns xs)))
 
 unfoldable pub report : List ℕ → List ℕ
-unfolding readScripts scriptRows
+unfolding readScripts allGroups groupRows
 report s = reportOf (readScripts s)

@@ -27,25 +27,25 @@ foundThen unfound f = unfound
 foundThen (found x next) f = f x next
 
 -- a line, and the lines behind it
-abbrev pub lineThen : Line → (ScriptLine → Found (List ScriptLine)) → Found (List ScriptLine)
-lineThen NotLine rest = unfound
-lineThen (LineRead l) rest = foundThen (rest l) λ ls next. found (l ∷ ls) next
+abbrev pub lineAndRest : Line → (ScriptLine → Found (List ScriptLine)) → Found (List ScriptLine)
+lineAndRest NotLine rest = unfound
+lineAndRest (LineRead l) rest = foundThen (rest l) λ ls next. found (l ∷ ls) next
 
 -- the lines from a position on, up to the empty line, which must be there. The first argument is the most lines there can be, that one
 -- included: each line has bytes, so as many as there are bytes leave none out (`NoLineLeftOut` in Theorems.antt).
 unfoldable pub linesAt : ℕ → List ℕ → ℕ → Found (List ScriptLine)
 linesAt zero s at = unfound
 linesAt (suc most) s at =
-    pick (eqb (getD s at 0) lineEnd) (found [] (suc at)) (lineThen (readLine s at) λ l. linesAt most s (l .next))
+    pick (eqb (getD s at 0) lineEnd) (found [] (suc at)) (lineAndRest (readLine s at) λ l. linesAt most s (l .next))
 
 pub record Script : Type 0 where
   pub setup : Setup
   pub lines : List ScriptLine
 
 -- "a refused layout" cannot be read either
-abbrev pub openingThen : List ℕ → Opening → Found Script
-openingThen s NotOpening = unfound
-openingThen s (OpeningRead u) =
+abbrev pub openingAndLines : List ℕ → Opening → Found Script
+openingAndLines s NotOpening = unfound
+openingAndLines s (OpeningRead u) =
     pick
     (eqb (setupRefusal u) done)
     (foundThen (linesAt (length s) s (u .next)) λ ls next. found (record { setup = u; lines = ls }) next)
@@ -54,7 +54,7 @@ openingThen s (OpeningRead u) =
 -- the script from a position on
 unfoldable pub scriptAt : List ℕ → ℕ → Found Script
 unfolding linesAt
-scriptAt s at = openingThen s (openingAt s at)
+scriptAt s at = openingAndLines s (openingAt s at)
 
 -- at most this many scripts from a position on, up to the end of the input
 unfoldable pub scriptsAt : ℕ → List ℕ → ℕ → Found (List Script)

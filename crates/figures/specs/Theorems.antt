@@ -1,8 +1,8 @@
 -- The statements that hold of the report; each is proved in the file of `proofs/` with its name.
-use Prim.Native.Nat.{ℕ, zero, suc, _+_, _≤_}
+use Prim.Native.Nat.{ℕ, _+_, _≤_}
 use mathlib.Core.Path.{_≡_}
 use mathlib.Core.Bool.{true}
-use mathlib.Core.List.{List, [], _∷_, _++_}
+use mathlib.Core.List.{List, [], _∷_}
 use lib.ListN.{length}
 use Rattle.region.specs.Answer.{done}
 use Rattle.access.specs.Plan.{accessesOf}
@@ -13,7 +13,8 @@ use Rattle.script.specs.declared.reading.ScriptLine.{ScriptLine}
 use Rattle.script.specs.declared.reading.Setup.{Setup}
 use Rattle.figures.specs.Scripts.{found, Script, linesAt, readScripts}
 use Rattle.figures.specs.Turns.{TurnMade, allTurns, turnMade, turnsIn}
-use Rattle.figures.specs.Figures.{accesses, figures, group}
+use Rattle.figures.specs.Figures.{accesses, figures, ofThread}
+use Rattle.figures.specs.Report.{Group, allGroups}
 
 -- reading at most as many lines as there are bytes leaves no line out: with more allowed, nothing else is read
 abbrev pub NoLineLeftOut : Type 0
@@ -25,8 +26,8 @@ pub record IsTurn (b : List ℕ) (t c : ℕ) : Type 0 where
   pub answer : turnOnAnswer b t c ≡ turnMade b t c .plan .answer
   pub bytes : turnOnBytes b t c ≡ carriedOut (frameIn b) b t (turnMade b t c .plan)
 
-abbrev pub TurnsAreTheMachines : Type 0
-TurnsAreTheMachines = (b : List ℕ) → readable b ≡ true → (t c : ℕ) → IsTurn b t c
+abbrev pub TurnsAreOfTheMachine : Type 0
+TurnsAreOfTheMachine = (b : List ℕ) → readable b ≡ true → (t c : ℕ) → IsTurn b t c
 
 unfoldable pub regionAfter : List ScriptLine → List ℕ → List ℕ
 regionAfter [] b = b
@@ -40,22 +41,11 @@ unfoldable pub accessesMade : List TurnMade → ℕ
 accessesMade [] = 0
 accessesMade (v ∷ vs) = accessesOf (v .plan .answer) + accessesMade vs
 
--- the six kinds sum to the accesses, of each thread of a script and of all scripts
-pub record KindsSum (xs : List Script) : Type 0 where
-  pub groups : (x : Script) (t : ℕ) → accesses (figures (group t (turnsIn x))) ≡ accessesMade (group t (turnsIn x))
-  pub total : accesses (figures (allTurns xs)) ≡ accessesMade (allTurns xs)
-
-abbrev pub KindsAreAccesses : Type 0
-KindsAreAccesses = (xs : List Script) → KindsSum xs
-
--- the groups in the report's order: n threads from thread t on, and those of all scripts
-unfoldable pub threadGroups : List TurnMade → ℕ → ℕ → List (List TurnMade)
-threadGroups vs t zero = []
-threadGroups vs t (suc n) = group t vs ∷ threadGroups vs (suc t) n
-
-unfoldable pub allGroups : List Script → List (List TurnMade)
-allGroups [] = []
-allGroups (x ∷ xs) = threadGroups (turnsIn x) 1 (x .setup .shape .threads) ++ allGroups xs
+-- the six kinds sum to the accesses: of each thread of a script, and of all scripts
+abbrev pub KindsSumToAccesses : Type 0
+KindsSumToAccesses =
+    ((x : Script) (t : ℕ) → accesses (figures (ofThread t (turnsIn x))) ≡ accessesMade (ofThread t (turnsIn x)))
+    × ((xs : List Script) → accesses (figures (allTurns xs)) ≡ accessesMade (allTurns xs))
 
 -- the figures of groups added up, column by column
 abbrev pub plus : List ℕ → List ℕ → List ℕ
@@ -63,10 +53,11 @@ plus [] ns = []
 plus (m ∷ ms) [] = []
 plus (m ∷ ms) (n ∷ ns) = (m + n) ∷ plus ms ns
 
-unfoldable pub sums : List (List TurnMade) → List ℕ
+unfoldable pub sums : List Group → List ℕ
 sums [] = figures []
-sums (g ∷ gs) = plus (figures g) (sums gs)
+sums (g ∷ gs) = plus (figures (g .turns)) (sums gs)
 
--- "per thread and in total": the total is the sum of the groups
+-- "per thread and in total": the total is the sum of the groups whose rows the report has
 abbrev pub TotalIsSum : Type 0
-TotalIsSum = (s : List ℕ) (xs : List Script) (end : ℕ) → readScripts s ≡ found xs end → figures (allTurns xs) ≡ sums (allGroups xs)
+TotalIsSum =
+    (s : List ℕ) (xs : List Script) (end : ℕ) → readScripts s ≡ found xs end → figures (allTurns xs) ≡ sums (allGroups 1 xs)

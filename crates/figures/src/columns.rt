@@ -28,6 +28,7 @@ fn access_column(place: Place, plan: Plan) -> usize
     if !kinds::makes_access(answer) {
         return COLUMNS;
     }
+    // the six kinds are the columns before the failed updates; idle has none of them
     let kind = kinds::access_kind(place);
     if kind < FAILED {
         return kind;
@@ -49,6 +50,7 @@ fn failed_column(place: Place, plan: Plan) -> usize
 fn took_column(place: Place, t: Thread) -> usize
     ensures { λ r. ⌜ r ≡ tookColumn place t ⌝ }
 {
+    // 19 hands out
     if place.number() != 19 {
         return TAKE;
     }
@@ -85,8 +87,8 @@ fn add_one(figures: &mut [u32], at: usize, column: usize)
     }
 }
 
-// Counts a turn in the row that starts at a position.
-pub fn count_turn(figures: &mut [u32], at: usize, place: Place, plan: Plan)
+// Adds a turn to the row that starts at a position.
+pub fn add_turn(figures: &mut [u32], at: usize, place: Place, plan: Plan)
     requires { ⌜ RowThere 4294967292 (now figures) at ⌝ }
     ensures { λ r. ⌜ now (figures .exit) ≡ counted (now (figures .entry)) at place plan ⌝ }
 {

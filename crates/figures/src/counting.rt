@@ -2,7 +2,7 @@
 ghost use Rattle.figures.specs.Turns.{turnBy, turnMade};
 ghost use Rattle.figures.specs.Inner.{Countable, LineCounted, LinesCounted, LinesThere, TurnCounted};
 use crate::columns::COLUMNS;
-use crate::columns::count_turn;
+use crate::columns::add_turn;
 use access::Plan;
 use region::Place;
 use script::Line;
@@ -12,7 +12,7 @@ use script::What;
 const ROWS: u32 = 64;
 
 // Counts the turn that thread n, with its choice, is about to make.
-fn count_choice(region: &[u8], n: u32, choice: u32, table: &mut [u32], total: &mut [u32])
+fn count_turn(region: &[u8], n: u32, choice: u32, table: &mut [u32], total: &mut [u32])
     requires { ⌜ Countable (now region) (now table) (now total) ⌝ }
     ensures { λ r. ⌜ TurnCounted (turnMade (now (region .entry)) n choice) (now (table .entry)) (now (table .exit)) (now (total .entry)) (now (total .exit)) ⌝ }
 {
@@ -20,9 +20,9 @@ fn count_choice(region: &[u8], n: u32, choice: u32, table: &mut [u32], total: &m
     let t = f.load_thread(region, n);
     let plan = kinds::turn_plan(f, region, n, choice);
     let place = t.place;
-    count_turn(total, 0, place, plan);
+    add_turn(total, 0, place, plan);
     if region::is_between(1, n, ROWS) {
-        count_turn(table, COLUMNS * (n as usize - 1), place, plan);
+        add_turn(table, COLUMNS * (n as usize - 1), place, plan);
     }
 }
 
@@ -36,7 +36,7 @@ fn count_line(region: &[u8], what: What, n: u32, table: &mut [u32], total: &mut 
         What::Take => {}
         What::TakeList => {}
         What::Permit(_) => {}
-        What::Turn(choice) => count_choice(region, n, choice, table, total),
+        What::Turn(choice) => count_turn(region, n, choice, table, total),
     }
 }
 

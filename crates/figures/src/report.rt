@@ -15,29 +15,32 @@ use script::REGION_ROOM;
 use script::Setup;
 use script::write_text;
 
-// The most that a report prints: its heading, and 165 bytes for each row of 64 threads in 64 scripts and for the total.
+// Room for any report: its heading, and 165 bytes (fifteen numbers of at most ten digits, a byte behind each) for each row of 64 threads in
+// 64 scripts and for the total.
 pub const REPORT_ROOM: usize = 676087;
 
-// How far a report has come: the positions after what was read and after what was printed.
+// The positions after what was read and after what was printed.
 pub struct Progress {
     pub next: usize,
     pub printed: usize,
 }
 
-fn no_bytes() -> [u8; REGION_ROOM]
+// As many bytes as the largest region has, all of them zero.
+fn zero_region() -> [u8; REGION_ROOM]
     ensures { λ r. ⌜ r ≡ replicate 13068 0 ⌝ }
 {
     [0; REGION_ROOM]
 }
 
-// A table of 64 rows, all of them zero.
-fn no_rows() -> [u32; 704]
+// A table of 64 rows, all of whose figures are zero.
+fn zero_table() -> [u32; 704]
     ensures { λ r. ⌜ r ≡ replicate 704 0 ⌝ }
 {
     [0; 704]
 }
 
-fn no_figures() -> [u32; 11]
+// A row of figures that are zero.
+fn zero_total() -> [u32; 11]
     ensures { λ r. ⌜ r ≡ replicate 11 0 ⌝ }
 {
     [0; 11]
@@ -48,7 +51,7 @@ fn count_script(input: &[u8], setup: Setup, table: &mut [u32], total: &mut [u32]
     requires { ⌜ SetupThere (now input) setup (now table) (now total) ⌝ }
     ensures { λ r. ⌜ LinesCounted (now (input .entry)) (setup .next) (laidRegion setup) (now (table .entry)) (now (table .exit)) (now (total .entry)) (now (total .exit)) r ⌝ }
 {
-    let mut region = no_bytes();
+    let mut region = zero_region();
     script::lay_region(&mut region, setup);
     let shape = setup.shape;
     let n = 4 * shape.word_count();
@@ -74,7 +77,7 @@ fn report_script(
             printed: from,
         };
     };
-    let mut table = no_rows();
+    let mut table = zero_table();
     let next = count_script(input, setup, &mut table, total);
     let shape = setup.shape;
     let printed = write_rows(out, from, script, shape.threads, &table);
@@ -86,7 +89,7 @@ fn report_scripts(input: &[u8], out: &mut [u8], from: usize) -> usize
     requires { ⌜ ScriptsThere (now input) (now out) from ⌝ }
     ensures { λ r. ⌜ Wrote (now (out .entry)) (now (out .exit)) from r (scriptsText (theList (readScripts (now (input .entry))))) ⌝ }
 {
-    let mut total = no_figures();
+    let mut total = zero_total();
     let mut at = 0;
     let mut script: u32 = 1;
     let mut printed = from;

@@ -6,7 +6,7 @@ use mathlib.Core.Bool.{Bool, true, false, not, _&&_}
 use lib.Dec.{eqb}
 use Rattle.region.specs.Pick.{pick}
 use Rattle.region.specs.Shape.{between}
-use Rattle.region.specs.Shared.{Shared}
+use Rattle.region.specs.Shared.{Shared, sharedIn, threadIn}
 use Rattle.region.specs.declared.place.Place.{Place}
 use Rattle.region.specs.declared.place.Place.the-variants.{Idle, ReadDepth, ReadLeaf, ReadAncestor, GrowDepth, ReadTarget, InsertAtRoot, ReadParent, InsertBelow, ReadRoot, RemoveHead, MendReadNode, MendReadDepth, MendReadLeft, MendReadRight, MendSwap, MendClean, ListReadRoot, RemoveList, HandOut}
 use Rattle.region.specs.declared.record.Node.{Node}
@@ -21,7 +21,7 @@ use Rattle.insert.specs.Insert.{growDepth, insertAt, insertAtRoot, insertBelow,
 use Rattle.extract.specs.Extract.{afterListRemoval, afterRemoval, casRoot, removeHead, removeList}
 use Rattle.moundify.specs.Moundify.{cleanAt, exchangeAt, exchangeWith, mendClean, mendSwap, nodeAndChildSame, returning}
 use Rattle.permission.specs.Withdraw.{permitted, withdrawal}
-use Rattle.machine.specs.Turn.{decide, decideAt}
+use Rattle.machine.specs.Turn.{decide, decideAt, turnPlan}
 use Rattle.kinds.specs.Kind.{failedUpdate, isNothing, isUpdate, accessKind, makesAccess}
 use Rattle.kinds.specs.Theorems.{FailedIsComparison, comparisonHolds}
 
@@ -30,10 +30,13 @@ record Tells (p : Place) (holds : Bool) (q : Plan) : Type 0 where
   same : failedUpdate p q ≡ makesAccess (q .answer) && not holds
 
 -- Each end of a plan: no access was made; the effect took place, the comparison having held; the comparison failed; a place that only reads.
+neither : (a b c d : Bool) → b ≡ false → a && b && c ≡ b && d
+neither a b c d h = rw h (rw (and-not-right a refl) refl)
+
 module _ {p : Place} {holds : Bool} {q : Plan} where
   no-access : makesAccess (q .answer) ≡ false → Tells p holds q
   unfolding failedUpdate
-  no-access h = record { same = rw h (rw (and-not-right (isUpdate (accessKind p)) refl) refl) }
+  no-access h = record { same = neither (isUpdate (accessKind p)) (makesAccess (q .answer)) (isNothing (q .effect)) (not holds) h }
 
 module _ {p : Place} {q : Plan} where
   took-effect : isNothing (q .effect) ≡ false → Tells p true q
@@ -128,6 +131,11 @@ permits p holds t q h =
     (λ e. h)
 
 pub failed-is-comparison : FailedIsComparison
-unfolding decide
-failed-is-comparison s m t c =
-    permits (t .place) (comparisonHolds m t (t .place)) t (decideAt s m t c (t .place)) (at-place s m t c (t .place)) .same
+unfolding turnPlan decide refused plan makesAccess
+failed-is-comparison f b n c =
+    let t = threadIn f b n in
+    let m = sharedIn f b in
+    pick-good (Tells (t .place) (comparisonHolds m t (t .place))) (between 1 n (f .shape .threads))
+    (λ e. permits (t .place) (comparisonHolds m t (t .place)) t _ (at-place (f .shape) m t c (t .place)))
+    (λ e. no-access refl)
+    .same

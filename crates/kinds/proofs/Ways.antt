@@ -26,30 +26,9 @@ use Rattle.permission.specs.Withdraw.{permitted}
 use Rattle.machine.specs.Turn.{decide, decideAt, turnPlan}
 use Rattle.kinds.specs.Kind.{failedUpdate, isNothing, isUpdate, accessKind, makesAccess}
 use Rattle.kinds.specs.Theorems.{kindTable}
+use Rattle.kinds.proofs.TableIsKinds.{table-is-kinds}
 
 -- The table's entry at each place's number is the place's kind.
-entry : (p : Place) → getD kindTable (placeNumber p) 0 ≡ accessKind p
-entry Idle = refl
-entry ReadDepth = refl
-entry ReadLeaf = refl
-entry ReadAncestor = refl
-entry GrowDepth = refl
-entry ReadTarget = refl
-entry InsertAtRoot = refl
-entry ReadParent = refl
-entry InsertBelow = refl
-entry ReadRoot = refl
-entry RemoveHead = refl
-entry (MendReadNode w) = refl
-entry (MendReadDepth w) = refl
-entry (MendReadLeft w) = refl
-entry (MendReadRight w) = refl
-entry (MendSwap w) = refl
-entry (MendClean w) = refl
-entry ListReadRoot = refl
-entry RemoveList = refl
-entry HandOut = refl
-
 few-places : (p : Place) → placeNumber p < 20
 few-places Idle = omega arith
 few-places ReadDepth = omega arith
@@ -77,7 +56,7 @@ module _ (p : Place) (n : ℕ) (e : n ≡ placeNumber p) where
   in-table = omega (arith, few-places p)
 
   pub table-entry : getD kindTable n 0 ≡ accessKind p
-  table-entry = ap (λ k. getD kindTable k 0) e ∙ entry p
+  table-entry = ap (λ k. getD kindTable k 0) e ∙ table-is-kinds p
 
 -- The updates, and an access that was made.
 pub no-update : (k : ℕ) → k < 2 → false ≡ isUpdate k

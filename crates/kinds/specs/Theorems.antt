@@ -2,28 +2,29 @@
 use Prim.Native.Nat.{ℕ, _+_, _*_}
 use mathlib.Core.Path.{_≡_}
 use mathlib.Core.Bool.{Bool, true, not, _&&_}
-use mathlib.Core.List.{List, [], _∷_, map}
+use mathlib.Core.List.{List, [], _∷_}
 use lib.Dec.{eqb}
+use lib.ListN.{getD}
 use Rattle.region.specs.Pick.{pick}
-use Rattle.region.specs.Place.{places}
-use Rattle.region.specs.Shared.{Shared}
+use Rattle.region.specs.Place.{placeNumber}
+use Rattle.region.specs.Shared.{Shared, sharedIn, threadIn}
+use Rattle.region.specs.declared.frame.Frame.{Frame}
 use Rattle.region.specs.declared.place.Place.{Place}
 use Rattle.region.specs.declared.place.Place.the-variants.{Idle, ReadDepth, ReadLeaf, ReadAncestor, GrowDepth, ReadTarget, InsertAtRoot, ReadParent, InsertBelow, ReadRoot, RemoveHead, MendReadNode, MendReadDepth, MendReadLeft, MendReadRight, MendSwap, MendClean, ListReadRoot, RemoveList, HandOut}
-use Rattle.region.specs.declared.shape.Shape.{Shape}
 use Rattle.region.specs.declared.thread.Thread.{Thread}
 use Rattle.access.specs.Order.{itemLe, valueOf}
 use Rattle.access.specs.Read.{sameNode}
 use Rattle.insert.specs.Insert.{nodeAndParentSame}
 use Rattle.moundify.specs.Moundify.{nodeAndChildSame}
-use Rattle.machine.specs.Turn.{decide}
-use Rattle.kinds.specs.Kind.{failedUpdate, accessKind, makesAccess}
+use Rattle.machine.specs.Turn.{turnPlan}
+use Rattle.kinds.specs.Kind.{accessKind, failedUpdate, makesAccess}
 
--- The constant table of the code, from which `access_kind` reads: its entries, by the places' numbers, are the definition's.
+-- The constant table of the code: its entry at each place's number is the place's kind. The contract of `access_kind` rests on it.
 abbrev pub kindTable : List ℕ
 kindTable = 6 ∷ 1 ∷ 0 ∷ 0 ∷ 2 ∷ 0 ∷ 2 ∷ 0 ∷ 4 ∷ 0 ∷ 2 ∷ 0 ∷ 1 ∷ 0 ∷ 0 ∷ 3 ∷ 2 ∷ 0 ∷ 2 ∷ 5 ∷ []
 
 abbrev pub TableIsKinds : Type 0
-TableIsKinds = (w : ℕ) → kindTable ≡ map accessKind (places w)
+TableIsKinds = (p : Place) → getD kindTable (placeNumber p) 0 ≡ accessKind p
 
 -- the comparison that the update of a place makes; a place without one has none that could fail
 abbrev pub comparisonHolds : Shared → Thread → Place → Bool
@@ -62,5 +63,6 @@ comparisonHolds m t HandOut = true
 -- an update that failed is a turn that made its access and whose comparison did not hold
 abbrev pub FailedIsComparison : Type 0
 FailedIsComparison =
-    (s : Shape) (m : Shared) (t : Thread) (c : ℕ)
-    → failedUpdate (t .place) (decide s m t c) ≡ makesAccess (decide s m t c .answer) && not (comparisonHolds m t (t .place))
+    (f : Frame) (b : List ℕ) (n c : ℕ)
+    → failedUpdate (threadIn f b n .place) (turnPlan f b n c)
+    ≡ makesAccess (turnPlan f b n c .answer) && not (comparisonHolds (sharedIn f b) (threadIn f b n) (threadIn f b n .place))

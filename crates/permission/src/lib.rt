@@ -90,7 +90,7 @@ pub fn withdrawal(t: Thread) -> Plan
     access::plan_of(Effect::Free(own), t.gone_idle(), Answer::Withdrawn)
 }
 
-// The plan of a turn whose place has this plan: it, or the withdrawal where the permission lacks.
+// The plan of a turn, from its place's plan: that plan, or the withdrawal where the permission is lacking.
 pub fn permitted(t: Thread, plan: Plan) -> Plan
     ensures { λ r. ⌜ r ≡ permitted t plan ⌝ }
 {

@@ -1,11 +1,11 @@
--- `figures::counting::count_choice` meets its contract: in the total, and in the row of a thread that has one. Assumes nothing.
+-- `figures::counting::count_turn` meets its contract: in the total, and in the row of a thread that has one. Assumes nothing.
 use borrow.Author.Needs.{needs}
 use Rattle.figures.proofs.TurnsCounted.{both-counted, frame-there, row-fits, some-thread, thread-row, total-counted, total-row}
-use Rattle.figures.proofs.counting.count_choice.Statement.{statement}
-use Rattle.figures.proofs.counting.count_choice.Tie as tie
+use Rattle.figures.proofs.counting.count_turn.Statement.{statement}
+use Rattle.figures.proofs.counting.count_turn.Tie as tie
 
-pub count-choice-spec : {M : Type 1} → statement M
-count-choice-spec =
+pub count-turn-spec : {M : Type 1} → statement M
+count-turn-spec =
     tie.close
     (tie.spec
     (λ c κs. search needs)

@@ -1,11 +1,11 @@
--- `figures::columns::count_turn` meets its contract: three columns, one after the other. Assumes nothing.
+-- `figures::columns::add_turn` meets its contract: three columns, one after the other. Assumes nothing.
 use borrow.Author.Needs.{needs}
 use Rattle.figures.proofs.TurnColumns.{first-room, second-room, third-room, turn-counted}
-use Rattle.figures.proofs.columns.count_turn.Statement.{statement}
-use Rattle.figures.proofs.columns.count_turn.Tie as tie
+use Rattle.figures.proofs.columns.add_turn.Statement.{statement}
+use Rattle.figures.proofs.columns.add_turn.Tie as tie
 
-pub count-turn-spec : {M : Type 1} → statement M
-count-turn-spec =
+pub add-turn-spec : {M : Type 1} → statement M
+add-turn-spec =
     tie.close
     (tie.spec
     (λ c κs. search needs)

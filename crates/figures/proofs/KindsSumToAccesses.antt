@@ -26,7 +26,7 @@ use Rattle.kinds.specs.Kind.{accessKind, makesAccess}
 use Rattle.figures.specs.Scripts.{Script}
 use Rattle.figures.specs.Turns.{TurnMade, allTurns, turnMade, turnsIn}
 use Rattle.figures.specs.Figures.{accesses, figures, isOfKind}
-use Rattle.figures.specs.Theorems.{KindsAreAccesses, accessesMade}
+use Rattle.figures.specs.Theorems.{KindsSumToAccesses, accessesMade}
 use Rattle.figures.proofs.Every.{Every, none, and, every-append, every-group, every-turn}
 
 -- A turn that makes an access stands at a place with one of the six kinds.
@@ -137,6 +137,5 @@ unfolding allTurns
 all-turns [] = none
 all-turns (x ∷ xs) = every-append (script-turns x) (all-turns xs)
 
-pub kinds-are-accesses : KindsAreAccesses
-kinds-are-accesses xs =
-    record { groups = λ x t. kinds-sum (every-group t (script-turns x)); total = kinds-sum (all-turns xs) }
+pub kinds-sum-to-accesses : KindsSumToAccesses
+kinds-sum-to-accesses = (λ x t. kinds-sum (every-group t (script-turns x)), λ xs. kinds-sum (all-turns xs))

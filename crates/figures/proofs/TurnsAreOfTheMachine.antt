@@ -3,8 +3,8 @@ use mathlib.Core.Path.{refl}
 use Rattle.region.specs.Pick.{pick}
 use Rattle.machine.specs.Turn.{turnOnAnswer, turnOnBytes}
 use Rattle.figures.specs.Turns.{turnMade}
-use Rattle.figures.specs.Theorems.{TurnsAreTheMachines}
+use Rattle.figures.specs.Theorems.{TurnsAreOfTheMachine}
 
-pub turns-are-the-machines : TurnsAreTheMachines
+pub turns-are-of-the-machine : TurnsAreOfTheMachine
 unfolding turnOnAnswer turnOnBytes turnMade pick
-turns-are-the-machines b e t c = record { answer = rw e refl; bytes = rw e refl }
+turns-are-of-the-machine b e t c = record { answer = rw e refl; bytes = rw e refl }
