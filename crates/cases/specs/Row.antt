@@ -18,7 +18,6 @@ use Rattle.readable.specs.Readable.{checkAnswer, frameIn}
 use Rattle.permission.specs.Permit.{permitBytes, permitRefusal}
 use Rattle.begin.specs.Begin.{putBytes, putRefusal, takeBytes, takeRefusal}
 use Rattle.run.specs.Run.{Served, runResult}
-use Rattle.figures.specs.Report.{report}
 
 -- the steps of a row: calls on its region, questions about it, and words written into it
 pub data Does : Type 0 where
@@ -39,17 +38,14 @@ pub data Does : Type 0 where
   shows : ℕ → ℕ → Does
   -- a check of the records of a slice of this many bytes, which has these words from its first on; the region has no part in it
   checksRecords : ℕ → List ℕ → Does
-  -- the report over an input of scripts, likewise
-  reports : List ℕ → Does
   -- these words are written into the region, which no call does, and it is checked
   writes : ℕ → List ℕ → Does
 
--- what a step answers: a number, the words of a run's answers, the region's words, or the bytes of a report
+-- what a step answers: a number, the words of a run's answers, or the region's words
 pub data Says : Type 0 where
   answered : ℕ → Says
   served : List ℕ → Says
   shown : List ℕ → Says
-  printed : List ℕ → Says
 
 abbrev pub tagged : ℕ → ℕ → Item
 tagged k t = record { key = k; tag = t }
@@ -102,7 +98,6 @@ outcomeOf b (permits t p) = leaving (permitBytes b t p) (answered (permitRefusal
 outcomeOf b (choosing c ts) = ran (length ts) (runResult b (scheduleOf c ts) 1000 (replicate (12 * length ts) 0))
 outcomeOf b (checks at ws) = leaving b (answered (checkAnswer (setWords b at ws)))
 outcomeOf b (checksRecords n ws) = leaving b (answered (recordsAnswer (setWords (replicate n 0) 0 ws)))
-outcomeOf b (reports s) = leaving b (printed (report s))
 outcomeOf b costs = leaving b (answered (takeCost (sharedIn (frameIn b) b)))
 outcomeOf b depths = leaving b (answered (word b 4))
 outcomeOf b (shows at n) = leaving b (shown (wordsAt b at n))

@@ -1,10 +1,23 @@
--- Cases of request 6, "Figures over many scripts": the rows. Behind script and thread stand node, depth, cas, dcas, dcss, hand, failed, put,
--- take, list, empty, whole and rest.
+-- Cases of request 6, "Figures over many scripts": inputs with their reports, worked out by hand. Behind script and thread stand node, depth,
+-- cas, dcas, dcss, hand, failed, put, take, list, empty, whole and rest.
 use Prim.Native.Nat.{ℕ, zero, suc}
 use Prim.Native.String.{String}
+use mathlib.Core.Path.{_≡_}
 use mathlib.Core.List.{List, [], _∷_, _++_}
 use Rattle.script.specs.Text.{ascii}
-use Rattle.cases.specs.Row.{Does, reports, Says, printed, Row, both, callsRow}
+use Rattle.figures.specs.Report.{report}
+
+-- an input, and what it prints
+pub record Row : Type 0 where
+  pub input : List ℕ
+  pub output : List ℕ
+
+abbrev pub Holds : Row → Type 0
+Holds r = report (r .input) ≡ r .output
+
+abbrev pub AllHold : List Row → Type 0
+AllHold [] = Unit
+AllHold (r ∷ rs) = Holds r × AllHold rs
 
 -- a script of this shape with these lines, and the empty line that ends it
 abbrev script : String → List ℕ → List ℕ
@@ -14,9 +27,9 @@ script shape lines =
 abbrev heading : List ℕ
 heading = ascii "script thread node depth cas dcas dcss hand failed put take list empty whole rest\n"
 
--- a report of these rows
+-- a report of these lines
 abbrev reported : List ℕ → List ℕ → Row
-reported input rows = callsRow both ((reports input, printed (heading ++ rows)) ∷ []) 1
+reported text lines = record { input = text; output = heading ++ lines }
 
 abbrev times : ℕ → List ℕ → List ℕ
 times zero text = []
@@ -95,26 +108,29 @@ abbrev pub no-script : Row
 no-script = reported [] (ascii "0 0 0 0 0 0 0 0 0 0 0 0 0 0 0\n")
 
 -- "prints `unreadable` alone": a line that cannot be read, a refused layout, no empty line at the end, one too many, a 65th script
-abbrev unreadable : List ℕ → Does × Says
-unreadable input = (reports input, printed (ascii "unreadable\n"))
+abbrev unreadable : List ℕ → Row
+unreadable text = record { input = text; output = ascii "unreadable\n" }
 
 abbrev small : List ℕ
 small = script "1 1 1 1 3" []
 
-abbrev pub not-scripts : Row
-not-scripts =
-    callsRow
-    both
-    (unreadable (script "1 1 1 1 3" (ascii "take 1 0\n"))
-    ∷ unreadable (small ++ script "1 2 1 1 3" [])
-    ∷ unreadable (small ++ ascii "depth cells threads threshold permission\n1 1 1 1 3\nwhat thread a b\n")
-    ∷ unreadable (small ++ ascii "\n")
-    ∷ unreadable (times 65 small)
-    ∷ [])
-    1
+abbrev pub bad-line : Row
+bad-line = unreadable (script "1 1 1 1 3" (ascii "take 1 0\n"))
 
-abbrev pub casesOfRequest6 : List Row
-casesOfRequest6 =
+abbrev pub bad-layout : Row
+bad-layout = unreadable (small ++ script "1 2 1 1 3" [])
+
+abbrev pub no-empty-line : Row
+no-empty-line = unreadable (small ++ ascii "depth cells threads threshold permission\n1 1 1 1 3\nwhat thread a b\n")
+
+abbrev pub two-empty-lines : Row
+two-empty-lines = unreadable (small ++ ascii "\n")
+
+abbrev pub too-many : Row
+too-many = unreadable (times 65 small)
+
+abbrev pub table : List Row
+table =
     worked
     ∷ one-failed-cas
     ∷ every-update
@@ -122,5 +138,12 @@ casesOfRequest6 =
     ∷ withdrawn-put
     ∷ no-lines
     ∷ no-script
-    ∷ not-scripts
+    ∷ bad-line
+    ∷ bad-layout
+    ∷ no-empty-line
+    ∷ two-empty-lines
+    ∷ too-many
     ∷ []
+
+abbrev pub ReportsHold : Type 0
+ReportsHold = AllHold table

@@ -1,0 +1,2 @@
+-- Cases of the report over many scripts, and the statement that all hold.
+pub mod Rows
