@@ -1,16 +1,12 @@
 -- The regions along a script: a laid-out region is readable and has the setup's shape, and the call of a line keeps both. Assumes nothing.
 use Prim.Native.Nat.{ℕ}
-use native.Mathlib.Omega.{arith}
-use mathlib.Core.Path.{_≡_, refl, ap, _∙_}
-use mathlib.Core.Bool.{Bool, true, false}
+use mathlib.Core.Path.{_≡_, refl}
+use mathlib.Core.Bool.{true}
 use mathlib.Core.List.{List}
-use lib.Dec.{leb}
-use lib.ListN.{length, replicate, length-replicate}
-use Rattle.region.specs.Answer.{done, badShape}
-use Rattle.region.specs.Pick.{pick}
+use lib.ListN.{replicate}
+use Rattle.region.specs.Answer.{done}
 use Rattle.region.specs.declared.place.Place.the-variants.{ReadRoot, ListReadRoot}
 use Rattle.region.proofs.Picks.{pick-good}
-use Rattle.layout.specs.Layout.{layoutRefusal}
 use Rattle.readable.specs.Readable.{readable, shapeIn}
 use Rattle.begin.specs.Begin.{one-item, whole-list}
 use Rattle.machine.specs.Turn.{turnOnBytes}
@@ -20,6 +16,7 @@ use Rattle.script.specs.Script.{callBytes, laidRegion, permissionsOf, regionLen
 use Rattle.script.specs.declared.reading.Setup.{Setup}
 use Rattle.script.specs.declared.reading.What.{What}
 use Rattle.script.specs.declared.reading.What.the-variants.{Put, Take, TakeList, Permit, Turn}
+use Rattle.script.proofs.Setups.{accepted}
 
 -- The call of a line.
 pub call-keeps-readable : (b : List ℕ) → readable b ≡ true → (what : What) (t : ℕ) → readable (callBytes b what t) ≡ true
@@ -41,22 +38,11 @@ call-keeps-shape b e (Turn c) t =
     pick-good (λ x. shapeIn x ≡ shapeIn b) (readable b) (λ r. turn-keeps-shape b e t c) (λ r. refl)
 
 -- The region of an accepted setup.
-rest-done : (q : Bool) (n : ℕ) → pick q n badShape ≡ done → n ≡ done
-unfolding pick
-rest-done true n e = e
-rest-done false n e = absurd (omega arith)
-
 module _ (u : Setup) (e : setupRefusal u ≡ done) where
-  accepted : layoutRefusal (u .shape) (permissionsOf u) (length {A = ℕ} (replicate (regionLength u) 0)) ≡ done
-  unfolding setupRefusal
-  accepted =
-      ap (layoutRefusal (u .shape) (permissionsOf u)) (length-replicate (regionLength u) 0)
-      ∙ rest-done (leb (u .shape .depth) 8) (layoutRefusal (u .shape) (permissionsOf u) (regionLength u)) e
-
   pub laid-readable : readable (laidRegion u) ≡ true
   unfolding laidRegion
-  laid-readable = laid-out-is-readable (u .shape) (permissionsOf u) (replicate (regionLength u) 0) accepted
+  laid-readable = laid-out-is-readable (u .shape) (permissionsOf u) (replicate (regionLength u) 0) (accepted u e)
 
   pub laid-shape : shapeIn (laidRegion u) ≡ u .shape
   unfolding laidRegion
-  laid-shape = same-shape (u .shape) (permissionsOf u) (replicate (regionLength u) 0) accepted
+  laid-shape = same-shape (u .shape) (permissionsOf u) (replicate (regionLength u) 0) (accepted u e)

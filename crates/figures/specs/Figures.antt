@@ -12,7 +12,7 @@ use Rattle.region.specs.declared.answer.Answer.{Answer}
 use Rattle.region.specs.declared.place.Place.{Place}
 use Rattle.region.specs.declared.place.Place.the-variants.{HandOut}
 use Rattle.access.specs.declared.plan.Plan.{Plan}
-use Rattle.kinds.specs.Kind.{cas, dcas, dcss, failedUpdate, handsOut, accessKind, makesAccess, readsDepth, readsNode}
+use Rattle.kinds.specs.Kind.{accessKind, cas, dcas, dcss, failedUpdate, handsOut, makesAccess, readsDepth, readsNode}
 use Rattle.figures.specs.Turns.{TurnMade}
 
 -- a test of a turn, by the place before it and its plan

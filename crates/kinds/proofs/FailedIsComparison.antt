@@ -22,7 +22,7 @@ use Rattle.extract.specs.Extract.{afterListRemoval, afterRemoval, casRoot, remo
 use Rattle.moundify.specs.Moundify.{cleanAt, exchangeAt, exchangeWith, mendClean, mendSwap, nodeAndChildSame, returning}
 use Rattle.permission.specs.Withdraw.{permitted, withdrawal}
 use Rattle.machine.specs.Turn.{decide, decideAt, turnPlan}
-use Rattle.kinds.specs.Kind.{failedUpdate, isNothing, isUpdate, accessKind, makesAccess}
+use Rattle.kinds.specs.Kind.{accessKind, failedUpdate, isNothing, isUpdate, makesAccess}
 use Rattle.kinds.specs.Theorems.{FailedIsComparison, comparisonHolds}
 
 -- what is claimed of a plan at place p whose comparison held or not

@@ -24,7 +24,7 @@ use Rattle.access.specs.Plan.{accessesOf, refused}
 use Rattle.access.specs.declared.plan.Plan.{Plan}
 use Rattle.permission.specs.Withdraw.{permitted}
 use Rattle.machine.specs.Turn.{decide, decideAt, turnPlan}
-use Rattle.kinds.specs.Kind.{failedUpdate, isNothing, isUpdate, accessKind, makesAccess}
+use Rattle.kinds.specs.Kind.{accessKind, failedUpdate, isNothing, isUpdate, makesAccess}
 use Rattle.kinds.specs.Theorems.{kindTable}
 use Rattle.kinds.proofs.TableIsKinds.{table-is-kinds}
 

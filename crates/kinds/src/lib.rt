@@ -4,7 +4,7 @@ ghost use lib.ListN.{length};
 ghost use Rattle.region.specs.Inner.{Within};
 ghost use Rattle.region.specs.Shared.{sharedIn};
 ghost use Rattle.machine.specs.Turn.{decideAt, turnPlan};
-ghost use Rattle.kinds.specs.Kind.{failedUpdate, isNothing, isUpdate, accessKind, makesAccess};
+ghost use Rattle.kinds.specs.Kind.{accessKind, failedUpdate, isNothing, isUpdate, makesAccess};
 use access::Effect;
 use access::Plan;
 use region::Answer;

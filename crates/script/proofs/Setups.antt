@@ -98,11 +98,10 @@ module _ (u : Setup) (e : setupRefusal u ≡ done) where
       ways true g e = record { shallow = leb-true (u .shape .depth) 8 g; exact = e }
       ways false g e = absurd (omega arith)
 
-  zeros : List ℕ
+  abbrev zeros : List ℕ
   zeros = replicate (regionLength u) 0
 
-  accepted : layoutRefusal (u .shape) (permissionsOf u) (length zeros) ≡ done
-  unfolding zeros
+  pub accepted : layoutRefusal (u .shape) (permissionsOf u) (length zeros) ≡ done
   accepted = ap (layoutRefusal (u .shape) (permissionsOf u)) (length-replicate (regionLength u) 0) ∙ fine .exact
 
   pub fine-shape : InRange (u .shape)
@@ -135,7 +134,7 @@ module _ (u : Setup) (e : setupRefusal u ≡ done) where
       omega (arith, fine-shape, leaves, nodes)
 
   laid-length : length (laidRegion u) ≡ regionLength u
-  unfolding laidRegion zeros
+  unfolding laidRegion
   laid-length = laid-exactly (u .shape) (permissionsOf u) zeros accepted
 
   module _ (w : ℕ) (ew : w ≡ regionWords (u .shape)) where
