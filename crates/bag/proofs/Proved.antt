@@ -30,7 +30,7 @@ use Rattle.begin.proofs.Laws.{put-bytes-in, put-refusal-in, take-bytes-in, take
 use Rattle.run.specs.Run.{Turn}
 use Rattle.machine.specs.Turn.{turnBytes, turnPlan}
 use Rattle.preserved.proofs.Proved.{permit-keeps, put-keeps, take-keeps, turn-keeps}
-use Rattle.mound.proofs.LaidOutIsReadable.{laid-out-is-readable, same-shape}
+use Rattle.preserved.proofs.LaidOutIsReadable.{laid-out-is-readable, same-shape}
 use Rattle.theory.specs.Ledger.{Ledger, Follows, emptyLedger, none, still, stillOwing}
 use Rattle.theory.specs.Told.{Told, nothing, beginsPut, beginsTake, beginsList}
 use Rattle.theory.proofs.Facts.{idle-without, none-when-idle, stage}

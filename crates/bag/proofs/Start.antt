@@ -27,7 +27,7 @@ use Rattle.access.proofs.OrderLaws.{item-refl}
 use Rattle.layout.specs.Layout.{layoutRefusal, layoutBytes}
 use Rattle.layout.proofs.Laws.{laid-shape}
 use Rattle.layout.proofs.LayoutReads.{laid-cell, laid-depth, laid-free, laid-no-thread, laid-node, laid-thread, next-in-chain, next-past, nextFree}
-use Rattle.mound.proofs.LaidOutIsReadable.{laid-good}
+use Rattle.preserved.proofs.LaidOutIsReadable.{laid-good}
 use Rattle.theory.specs.Ledger.{emptyLedger, none}
 use Rattle.theory.proofs.Chains.{Chain, ends, link, among, items}
 use Rattle.theory.proofs.Counts.{inChain}

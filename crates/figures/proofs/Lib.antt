@@ -6,7 +6,6 @@ pub mod KindsSumToAccesses
 mod LinesRead
 pub mod NoLineLeftOut
 mod Printed
-mod Regions
 mod ScriptCounted
 mod ScriptsRead
 pub mod StaysReadable

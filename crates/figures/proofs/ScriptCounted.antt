@@ -22,6 +22,7 @@ use Rattle.script.specs.declared.reading.Opening.the-variants.{Read as OpeningR
 use Rattle.script.specs.declared.reading.ScriptLine.{ScriptLine}
 use Rattle.script.specs.declared.reading.Setup.{Setup}
 use Rattle.script.proofs.Readings.{opening-long}
+use Rattle.script.proofs.Regions.{laid-readable}
 use Rattle.script.proofs.Setups.{fine-shape, laid-part, length-fits, part-length, region-room}
 use Rattle.figures.specs.Scripts.{Found, found, unfound, linesAt, scriptAt}
 use Rattle.figures.specs.Turns.{TurnMade, turnsIn, turnsOf}
@@ -29,7 +30,6 @@ use Rattle.figures.specs.Figures.{Test, counts, figures, ofThread, tests
 use Rattle.figures.specs.Report.{groupRows, rowText, threadGroups}
 use Rattle.figures.specs.Inner.{LinesCounted, LinesThere, Most, RowsRoom, ScriptReported, ScriptThere, SetupThere, endOf, isFound, tableRows, tally, theList, theRows, theTurns, threadRows, totalled}
 use Rattle.figures.proofs.Printed.{row-most}
-use Rattle.figures.proofs.Regions.{laid-readable}
 use Rattle.figures.proofs.ScriptsRead.{accepted, no-script, not-accepted, same-end, withLines}
 use Rattle.figures.proofs.Tally.{most-more, most-zeros, table-rows}
 use Rattle.figures.proofs.TurnsCounted.{not-there}

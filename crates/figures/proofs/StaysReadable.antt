@@ -7,8 +7,8 @@ use mathlib.Core.List.{List, [], _∷_}
 use Rattle.readable.specs.Readable.{readable}
 use Rattle.script.specs.Script.{callBytes, laidRegion}
 use Rattle.script.specs.declared.reading.ScriptLine.{ScriptLine}
+use Rattle.script.proofs.Regions.{call-keeps-readable, laid-readable}
 use Rattle.figures.specs.Theorems.{StaysReadable, regionAfter}
-use Rattle.figures.proofs.Regions.{call-keeps-readable, laid-readable}
 
 after-lines : (ls : List ScriptLine) (b : List ℕ) → readable b ≡ true → readable (regionAfter ls b) ≡ true
 unfolding regionAfter

@@ -30,13 +30,13 @@ use Rattle.script.specs.declared.reading.Opening.the-variants.{Read as OpeningR
 use Rattle.script.specs.declared.reading.ScriptLine.{ScriptLine}
 use Rattle.script.specs.declared.reading.Setup.{Setup}
 use Rattle.script.specs.declared.reading.What.{What}
+use Rattle.script.proofs.Regions.{call-keeps-readable, call-keeps-shape, laid-readable, laid-shape}
 use Rattle.figures.specs.Scripts.{Found, found, unfound, Script, foundThen, inputMost, linesAt, openingAndLines, readScripts, scriptAt, scriptsAt, scriptsMost}
 use Rattle.figures.specs.Turns.{TurnMade, allTurns, turnMade, turnsIn}
 use Rattle.figures.specs.Figures.{Test, answeredEmpty, answeredList, answeredPut, answeredTake, count, counts, figures, ofThread, isOfKind, tests}
 use Rattle.figures.specs.Report.{Group, allGroups, threadGroups}
 use Rattle.figures.specs.Theorems.{TotalIsSum, plus, sums}
 use Rattle.figures.proofs.Every.{Every, none, and, every-turn}
-use Rattle.figures.proofs.Regions.{call-keeps-readable, call-keeps-shape, laid-readable, laid-shape}
 use Rattle.figures.proofs.Tally.{count-group, count-none}
 
 -- Counts of joined lists add up, and so the groups' figures are those of their turns joined.

@@ -19,7 +19,7 @@ use Rattle.access.specs.declared.plan.Plan.{Plan}
 use Rattle.readable.specs.Readable.{frameIn, readable}
 use Rattle.readable.proofs.Laws.{readable-within}
 use Rattle.machine.specs.Turn.{turnPlan}
-use Rattle.script.specs.Inner.{CallMade}
+use Rattle.script.specs.Inner.{CallMade, Ready}
 use Rattle.script.specs.Reading.{readLine}
 use Rattle.script.specs.declared.printing.Outcome.{Outcome}
 use Rattle.script.specs.declared.reading.Line.{Line}
@@ -28,12 +28,12 @@ use Rattle.script.specs.declared.reading.ScriptLine.{ScriptLine}
 use Rattle.script.specs.declared.reading.What.{What}
 use Rattle.script.specs.declared.reading.What.the-variants.{Put, Take, TakeList, Permit, Turn}
 use Rattle.script.proofs.Readings.{line-long}
+use Rattle.script.proofs.Regions.{still-ready}
 use Rattle.figures.specs.Scripts.{Found, found, unfound, foundThen, linesAt}
 use Rattle.figures.specs.Turns.{TurnMade, turnBy, turnMade, turnsOf}
 use Rattle.figures.specs.Inner.{Countable, LineCounted, LinesCounted, LinesThere, Most, RowThere, Tables, TurnCounted, counted, endOf, isFound, tallied, tally, theList, totalled}
 use Rattle.figures.specs.declared.scripts.End.the-variants.{At}
 use Rattle.figures.proofs.LinesRead.{lines-ended, lines-more, lines-past, lines-unread}
-use Rattle.figures.proofs.Regions.{call-keeps-readable}
 use Rattle.figures.proofs.Tally.{most-counted, most-more, most-tallied, tally-append, tally-length, totalled-append, totalled-length}
 
 -- What one turn needs: the frame lies within the region, and the rows are there.
@@ -132,9 +132,9 @@ behind x whole (found ls next) e h = record { there = refl; end = ap endOf (sym 
 behind x whole unfound e h = absurd (not-there whole h e)
 
 -- Counting: what is left from here, counted into what there is so far, gives the whole.
-pub record Counting (s : List ℕ) (start : ℕ) (b₀ l₀ m₀ : List ℕ) (at : ℕ) (b l m : List ℕ) : Type 0 where
+pub record Counting (f : Frame) (s : List ℕ) (start : ℕ) (b₀ l₀ m₀ : List ℕ) (at : ℕ) (b l m : List ℕ) : Type 0 where
   pub there : isFound (linesAt (length s) s at) ≡ true
-  pub region : readable b ≡ true
+  pub ready : Ready f b
   pub same-region : length b ≡ length b₀
   pub same-rows : length l ≡ length l₀
   pub same-columns : length m ≡ length m₀
@@ -143,11 +143,12 @@ pub record Counting (s : List ℕ) (start : ℕ) (b₀ l₀ m₀ : List ℕ) (at
   pub table : tally l (turnsOf (theList (linesAt (length s) s at)) b) ≡ tally l₀ (turnsOf (theList (linesAt (length s) s start)) b₀)
   pub total : totalled m (turnsOf (theList (linesAt (length s) s at)) b) ≡ totalled m₀ (turnsOf (theList (linesAt (length s) s start)) b₀)
 
-pub count-start : (s : List ℕ) (start : ℕ) (b l m : List ℕ) → LinesThere s start b l m → Counting s start b l m start b l m
-count-start s start b l m h =
+pub count-start : (f : Frame) (s : List ℕ) (start : ℕ) (b l m : List ℕ) → LinesThere s start b l m → f ≡ frameIn b
+    → Counting f s start b l m start b l m
+count-start f s start b l m h e =
     record {
       there = h .there;
-      region = h .region;
+      ready = record { region = h .region; frame = e };
       same-region = refl;
       same-rows = refl;
       same-columns = refl;
@@ -157,7 +158,8 @@ count-start s start b l m h =
       total = refl;
     }
 
-module _ {s : List ℕ} {start : ℕ} {b₀ l₀ m₀ : List ℕ} {at : ℕ} {b l m : List ℕ} (e : Counting s start b₀ l₀ m₀ at b l m) where
+module _ {f : Frame} {s : List ℕ} {start : ℕ} {b₀ l₀ m₀ : List ℕ} {at : ℕ} {b l m : List ℕ}
+    (e : Counting f s start b₀ l₀ m₀ at b l m) where
   abbrev lines : Found (List ScriptLine)
   lines = linesAt (length s) s at
 
@@ -170,10 +172,13 @@ module _ {s : List ℕ} {start : ℕ} {b₀ l₀ m₀ : List ℕ} {at : ℕ} {b 
   pub count-same-columns : length m ≡ length m₀
   count-same-columns = e .same-columns
 
+  pub count-ready : Ready f b
+  count-ready = e .ready
+
   pub countable : at < length s → Countable b l m
   countable h =
       record {
-        region = e .region;
+        region = e .ready .region;
         rows = e .tables .rows;
         columns = e .tables .columns;
         few = most-more (omega (arith, e .tables .short)) (e .tables .few);
@@ -217,7 +222,7 @@ module _ {s : List ℕ} {start : ℕ} {b₀ l₀ m₀ : List ℕ} {at : ℕ} {b 
       rest = behind x lines (linesAt (length s) s (x .next)) (lines-more s at h x (sym er ∙ g)) (e .there)
 
       pub count-more : {l′ m′ b′ : List ℕ} (o : Outcome) → LineCounted (turnBy b (x .what) (x .thread)) l l′ m m′
-          → CallMade b b′ (x .what) (x .thread) o → length b′ ≡ length b → Counting s start b₀ l₀ m₀ (x .next) b′ l′ m′
+          → CallMade b b′ (x .what) (x .thread) o → length b′ ≡ length b → Counting f s start b₀ l₀ m₀ (x .next) b′ l′ m′
       unfolding turnsOf
       count-more {l′} {m′} {b′} o t k z =
           let now : List TurnMade = turnBy b (x .what) (x .thread) in
@@ -227,7 +232,7 @@ module _ {s : List ℕ} {start : ℕ} {b₀ l₀ m₀ : List ℕ} {at : ℕ} {b 
           ap (λ ls. turnsOf ls b) (rest .list) ∙ ap (λ y. now ++ turnsOf left y) (sym (k .bytes)) in
           record {
             there = rest .there;
-            region = subst (λ y. readable y ≡ true) (sym (k .bytes)) (call-keeps-readable b (e .region) (x .what) (x .thread));
+            ready = still-ready f b b′ (e .ready) (x .what) (x .thread) o k;
             same-region = z ∙ e .same-region;
             same-rows = ap length (t .table) ∙ tally-length l now ∙ e .same-rows;
             same-columns = ap length (t .total) ∙ totalled-length m now ∙ e .same-columns;

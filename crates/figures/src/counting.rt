@@ -51,6 +51,7 @@ pub fn count_lines(
     requires { ⌜ LinesThere (now input) start (now region) (now table) (now total) ⌝ }
     ensures { λ r. ⌜ LinesCounted (now (input .entry)) start (now (region .entry)) (now (table .entry)) (now (table .exit)) (now (total .entry)) (now (total .exit)) r ⌝ }
 {
+    let f = readable::frame_of(region);
     let mut at = start;
     while at < input.len() {
         if input[at] == b'\n' {
@@ -62,7 +63,7 @@ pub fn count_lines(
         };
         let what = l.what;
         count_line(region, what, l.thread, table, total);
-        script::make_call(region, what, l.thread);
+        script::make_call(f, region, what, l.thread);
         at = l.next;
     }
     at

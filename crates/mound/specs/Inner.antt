@@ -6,3 +6,8 @@ pub record Packable (refusal turns accesses : ℕ) : Type 0 where
   pub known : refusal ≤ 7
   pub few-turns : turns ≤ 4096
   pub few-accesses : accesses ≤ turns
+
+-- the same of a cut's two
+pub record CutPackable (refusal written : ℕ) : Type 0 where
+  pub known : refusal ≤ 16
+  pub short : written ≤ 60000

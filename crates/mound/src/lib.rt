@@ -1,6 +1,6 @@
 // The calls of the queue for a host in another language: numbers and byte slices, a slice as pointer and length. 0 is done
-// or yes, any other answer is the refusal's number; a run answers its counts beside it. No call requires anything of its
-// caller; what it cannot do it refuses.
+// or yes, any other answer is the refusal's number; a run answers its counts beside it, a cut its length. No call requires anything of
+// its caller; what it cannot do it refuses.
 ghost use mathlib.Core.Path.{_≡_};
 ghost use Rattle.region.specs.declared.place.Place.the-variants.{ReadRoot, ListReadRoot};
 ghost use Rattle.layout.specs.Layout.{LaidOut};
@@ -8,8 +8,8 @@ ghost use Rattle.readable.specs.Readable.{checkAnswer};
 ghost use Rattle.begin.specs.Begin.{PutBegun, TakeBegun};
 ghost use Rattle.permission.specs.Permit.{PermitSet};
 ghost use Rattle.records.specs.Accepts.{recordsAnswer};
-ghost use Rattle.mound.specs.Calls.{RunDone, itemGiven, packed, shapeGiven};
-ghost use Rattle.mound.specs.Inner.{Packable};
+ghost use Rattle.mound.specs.Calls.{CutDone, RunDone, itemGiven, packed, packedCut, shapeGiven};
+ghost use Rattle.mound.specs.Inner.{CutPackable, Packable};
 use region::Item;
 use region::Shape;
 
@@ -110,4 +110,22 @@ pub extern "C" fn mound_records(records: &[u8]) -> u32
     ensures { λ r. ⌜ r ≡ recordsAnswer (now (records .entry)) ⌝ }
 {
     records::check_records(records)
+}
+
+// A cut's two numbers in one.
+fn pack_cut(refusal: u32, length: usize) -> u64
+    requires { ⌜ CutPackable refusal length ⌝ }
+    ensures { λ r. ⌜ r ≡ packedCut refusal length ⌝ }
+{
+    refusal as u64 + 4294967296 * (length as u64)
+}
+
+// Cuts a script down to lines each of which is needed for its output to show a refusal with this number, and leaves what remains of the script
+// at the start of out. Bits 0 to 31 are the refusal or 0, bits 32 to 63 how many bytes it has. Refusals 2, 16.
+#[no_mangle]
+pub extern "C" fn mound_cut(script: &[u8], number: u32, out: &mut [u8]) -> u64
+    ensures { λ r. ⌜ CutDone (now (script .entry)) number (now (out .entry)) (now (out .exit)) r ⌝ }
+{
+    let outcome = cut::cut_script(script, number, out);
+    pack_cut(outcome.refusal, outcome.length)
 }

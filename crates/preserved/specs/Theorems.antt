@@ -1,10 +1,11 @@
 -- What holds of every readable region, and of every turn, every beginning and every setting of a permission on one. Each statement is
--- proved under its name in proofs/Proved.antt.
+-- proved under its name in proofs/Proved.antt, the first in proofs/LaidOutIsReadable.antt.
 use Prim.Native.Nat.{ℕ, _+_, _≤_, _<_}
 use mathlib.Core.Path.{_≡_}
 use mathlib.Core.Logic.{_⊎_}
 use mathlib.Core.Bool.{true}
 use mathlib.Core.List.{List}
+use lib.ListN.{length}
 use Rattle.words.specs.Word.{word}
 use Rattle.region.specs.Answer.{done}
 use Rattle.region.specs.Frame.{nodesOf, cellsOf, threadsOf}
@@ -14,13 +15,21 @@ use Rattle.region.specs.Thread.{threadSize}
 use Rattle.region.specs.declared.frame.Frame.{Frame}
 use Rattle.region.specs.declared.place.Place.{Place}
 use Rattle.region.specs.declared.record.Item.{Item}
+use Rattle.region.specs.declared.shape.Shape.{Shape}
 use Rattle.access.specs.Order.{itemLt, topItem}
 use Rattle.access.specs.declared.effect.Effect.{Effect}
 use Rattle.access.specs.declared.effect.Effect.the-variants.{Nothing, Grow, Push, Pop, Exchange, Clean, Detach, Free}
+use Rattle.layout.specs.Layout.{layoutRefusal, layoutBytes}
 use Rattle.readable.specs.Readable.{frameIn, readable, shapeIn}
 use Rattle.permission.specs.Permit.{permitBytes, permitRefusal}
 use Rattle.begin.specs.Begin.{BeginsAt, putBytes, takeBytes}
 use Rattle.machine.specs.Turn.{turnBytes, turnPlan}
+
+-- a laid-out region is readable: for every shape, permission list and slice that layout does not refuse
+abbrev pub LaidOutIsReadable : Type 0
+LaidOutIsReadable =
+    (s : Shape) (permissions b : List ℕ) → layoutRefusal s permissions (length b) ≡ done
+    → readable (layoutBytes s permissions b) ≡ true
 
 -- "an empty node is above every item" (document 02, request 2): what a turn compares an empty node with is less, be it the item of a cell,
 -- the thread's own or a copied one; also where the region was never laid out

@@ -80,6 +80,10 @@ counterSpent = 11
 abbrev pub badRecords : ℕ
 badRecords = 12
 
+-- request 14's
+abbrev pub notShown : ℕ
+notShown = 16
+
 -- "the first refusal that applies": a refusal unless its test holds, otherwise the next, `done` last, read from top to bottom
 infixr 10 _unless_otherwise_
 abbrev pub _unless_otherwise_ : ℕ → Bool → ℕ → ℕ

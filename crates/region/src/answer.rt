@@ -30,6 +30,8 @@ pub const COUNTER_SPENT: u32 = 11;
 
 pub const BAD_RECORDS: u32 = 12;
 
+pub const NOT_SHOWN: u32 = 16;
+
 // "An answer is one of moved 0, idle 1, inserted 2, took 3 with key and tag, empty 4, refused 5 with its number as key."; and
 // withdrawn 6 (request 5).
 pub enum Answer {

@@ -19,6 +19,7 @@ pub use answer::COUNTER_SPENT;
 pub use answer::DONE;
 pub use answer::NO_FREE_CELL;
 pub use answer::NOT_PERMITTED;
+pub use answer::NOT_SHOWN;
 pub use answer::SHORT_ANSWERS;
 pub use answer::THREAD_BUSY;
 pub use answer::UNREADABLE;

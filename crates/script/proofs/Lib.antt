@@ -7,6 +7,7 @@ mod LineCalls
 mod Lines
 pub mod NoLineLeftOut
 pub mod Readings
+pub mod Regions
 pub mod Setups
 pub mod Texts
 mod Whole

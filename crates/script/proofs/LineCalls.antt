@@ -9,15 +9,21 @@ use mir.Syntax.{w32}
 use mir.Val.{Fits}
 use lib.ListN.{length}
 use Rattle.region.specs.Answer.{done}
+use Rattle.region.specs.Inner.{Within}
 use Rattle.region.specs.Pick.{pick}
 use Rattle.region.specs.declared.answer.Answer.{Answer}
 use Rattle.region.specs.declared.answer.Answer.the-variants.{Refused}
+use Rattle.region.specs.declared.frame.Frame.{Frame}
+use Rattle.region.specs.declared.place.Place.{Place}
 use Rattle.region.specs.declared.place.Place.the-variants.{ReadRoot, ListReadRoot}
 use Rattle.region.specs.declared.record.Item.{Item}
-use Rattle.permission.specs.Permit.{PermitSet}
-use Rattle.begin.specs.Begin.{PutBegun, TakeBegun}
-use Rattle.machine.specs.Turn.{TurnedOn}
-use Rattle.script.specs.Inner.{Wrote, CallMade, LinesRan}
+use Rattle.readable.proofs.Laws.{readable-within}
+use Rattle.permission.specs.Permit.{PermitSetIn, permitBytesIn, permitRefusalIn}
+use Rattle.permission.proofs.Laws.{permit-bytes-in, permit-refusal-in}
+use Rattle.begin.specs.Begin.{PutBegunIn, TakeBegunIn, putBytesIn, putRefusalIn, takeBytes, takeBytesIn, takeRefusal, takeRefusalIn}
+use Rattle.begin.proofs.Laws.{put-bytes-in, put-refusal-in, take-bytes-in, take-refusal-in}
+use Rattle.machine.specs.Turn.{Turned, turnAnswer, turnBytes, turnOnAnswer, turnOnBytes}
+use Rattle.script.specs.Inner.{Wrote, CallMade, LinesRan, LinesReady, Ready}
 use Rattle.script.specs.Reading.{readLine}
 use Rattle.script.specs.Printing.{lineText}
 use Rattle.script.specs.Script.{Ran, after, callBytes, callOutcome, doneOr, linesFrom, nothingMore}
@@ -30,6 +36,7 @@ use Rattle.script.specs.declared.reading.Line.the-variants.{Read as Line
 use Rattle.script.specs.declared.reading.ScriptLine.{ScriptLine}
 use Rattle.script.proofs.Lines.{line-most}
 use Rattle.script.proofs.Readings.{line-long}
+use Rattle.script.proofs.Regions.{still-ready}
 use Rattle.script.proofs.Texts.{Printing, print-end, print-more, print-start, wrote-length}
 
 -- A line's call.
@@ -41,7 +48,12 @@ pub call-refused : (o : Outcome) (n : ℕ) → (n ≡ done → ⊥) → Answered
 unfolding pick
 call-refused o n h = rw (ne-eqb n done h) refl
 
-module _ (b b′ : List ℕ) (what : What) (t : ℕ) where
+-- the frame of a readable region lies within it
+pub ready-within : (f : Frame) (b : List ℕ) → Ready f b → Within f (length b)
+ready-within f b h = subst (λ g. Within g (length b)) (sym (h .frame)) (readable-within b (h .region))
+
+-- Under the frame of a readable region the calls are those on the region.
+module _ (f : Frame) (b b′ : List ℕ) (h : Ready f b) (what : What) (t : ℕ) where
   made : (p : What) → what ≡ p → (r : Outcome) → r ≡ callOutcome b p t → b′ ≡ callBytes b p t → CallMade b b′ what t r
   made p e r er eb =
       record {
@@ -49,20 +61,38 @@ module _ (b b′ : List ℕ) (what : What) (t : ℕ) where
         bytes = eb ∙ ap (λ w. callBytes b w t) (sym e);
       }
 
-  pub put-made : (i : Item) → what ≡ Put i → (n : ℕ) → PutBegun b b′ t i n → (r : Outcome) → r ≡ doneOr Begun n → CallMade b b′ what t r
-  put-made i e n p r er = made (Put i) e r (er ∙ ap (doneOr Begun) (p .answer)) (p .bytes)
+  pub put-made : (i : Item) → what ≡ Put i → (n : ℕ) → PutBegunIn f b b′ t i n → (r : Outcome) → r ≡ doneOr Begun n → CallMade b b′ what t r
+  put-made i e n p r er =
+      made (Put i) e r
+      (er ∙ ap (doneOr Begun) (p .answer ∙ ap (λ g. putRefusalIn g b t i) (h .frame) ∙ sym (put-refusal-in b (h .region) t i)))
+      (p .bytes ∙ ap (λ g. putBytesIn g b t i) (h .frame) ∙ sym (put-bytes-in b (h .region) t i))
 
-  pub take-made : what ≡ Take → (n : ℕ) → TakeBegun b b′ t ReadRoot n → (r : Outcome) → r ≡ doneOr Begun n → CallMade b b′ what t r
-  take-made e n p r er = made Take e r (er ∙ ap (doneOr Begun) (p .answer)) (p .bytes)
+  taken : (p : Place) (n : ℕ) → TakeBegunIn f b b′ t p n → (r : Outcome) → r ≡ doneOr Begun n
+      → (r ≡ doneOr Begun (takeRefusal b t)) × (b′ ≡ takeBytes b t p)
+  taken p n k r er = (
+    er ∙ ap (doneOr Begun) (k .answer ∙ ap (λ g. takeRefusalIn g b t) (h .frame) ∙ sym (take-refusal-in b (h .region) t)),
+    k .bytes ∙ ap (λ g. takeBytesIn g b t p) (h .frame) ∙ sym (take-bytes-in b (h .region) t p),
+  )
 
-  pub list-made : what ≡ TakeList → (n : ℕ) → TakeBegun b b′ t ListReadRoot n → (r : Outcome) → r ≡ doneOr Begun n → CallMade b b′ what t r
-  list-made e n p r er = made TakeList e r (er ∙ ap (doneOr Begun) (p .answer)) (p .bytes)
+  pub take-made : what ≡ Take → (n : ℕ) → TakeBegunIn f b b′ t ReadRoot n → (r : Outcome) → r ≡ doneOr Begun n → CallMade b b′ what t r
+  take-made e n k r er = let o = taken ReadRoot n k r er in made Take e r (o .0) (o .1)
 
-  pub permit-made : (x : ℕ) → what ≡ Permit x → (n : ℕ) → PermitSet b b′ t x n → (r : Outcome) → r ≡ doneOr Set n → CallMade b b′ what t r
-  permit-made x e n p r er = made (Permit x) e r (er ∙ ap (doneOr Set) (p .answer)) (p .bytes)
+  pub list-made : what ≡ TakeList → (n : ℕ) → TakeBegunIn f b b′ t ListReadRoot n → (r : Outcome) → r ≡ doneOr Begun n
+      → CallMade b b′ what t r
+  list-made e n k r er = let o = taken ListReadRoot n k r er in made TakeList e r (o .0) (o .1)
 
-  pub turn-made : (c : ℕ) → what ≡ Turn c → (x : Answer) → TurnedOn b b′ t c x → CallMade b b′ what t (Answered x)
-  turn-made c e x p = made (Turn c) e (Answered x) (ap Answered (p .answer)) (p .bytes)
+  pub permit-made : (x : ℕ) → what ≡ Permit x → (n : ℕ) → PermitSetIn f b b′ t x n → (r : Outcome) → r ≡ doneOr Set n → CallMade b b′ what t r
+  permit-made x e n p r er =
+      made (Permit x) e r
+      (er ∙ ap (doneOr Set) (p .answer ∙ ap (λ g. permitRefusalIn g t x) (h .frame) ∙ sym (permit-refusal-in b (h .region) t x)))
+      (p .bytes ∙ ap (λ g. permitBytesIn g b t x) (h .frame) ∙ sym (permit-bytes-in b (h .region) t x))
+
+  pub turn-made : (c : ℕ) → what ≡ Turn c → (x : Answer) → Turned f b b′ t c x → CallMade b b′ what t (Answered x)
+  unfolding turnOnAnswer turnOnBytes pick
+  turn-made c e x p =
+      made (Turn c) e (Answered x)
+      (ap Answered (rw (h .region) (p .answer ∙ ap (λ g. turnAnswer g b t c) (h .frame))))
+      (rw (h .region) (p .bytes ∙ ap (λ g. turnBytes g b t c) (h .frame)))
 
 -- The lines from a position on: none are left, one cannot be read, one is read.
 module _ (s : List ℕ) (at line : ℕ) (b : List ℕ) where
@@ -90,8 +120,9 @@ whole s start b = linesFrom (length s) s start 1 b
 pub rest : List ℕ → ℕ → ℕ → List ℕ → Ran
 rest s at line b = linesFrom (suc (length s) - line) s at line b
 
-pub record Running (s : List ℕ) (start : ℕ) (b₀ out₀ : List ℕ) (a : ℕ) (b out : List ℕ) (at line k : ℕ) : Type 0 where
+pub record Running (f : Frame) (s : List ℕ) (start : ℕ) (b₀ out₀ : List ℕ) (a : ℕ) (b out : List ℕ) (at line k : ℕ) : Type 0 where
   pub short : length s ≤ 60000
+  pub ready : Ready f b
   pub room : a + 330055 ≤ length out₀
   pub same-region : length b ≡ length b₀
   pub first : 1 ≤ line
@@ -101,27 +132,28 @@ pub record Running (s : List ℕ) (start : ℕ) (b₀ out₀ : List ℕ) (a : �
   pub printing : Printing out₀ a (whole s start b₀ .printed) out k (rest s at line b .printed)
   pub region : rest s at line b .region ≡ whole s start b₀ .region
 
-pub run-start : (s : List ℕ) (start : ℕ) (b out : List ℕ) (a : ℕ) → (length s ≤ 60000) × (a + 330055 ≤ length out)
-    → Running s start b out a b out start 1 a
+pub run-start : (f : Frame) (s : List ℕ) (start : ℕ) (b out : List ℕ) (a : ℕ) → LinesReady f s b out a
+    → Running f s start b out a b out start 1 a
 unfolding whole rest
-run-start s start b out a h =
+run-start f s start b out a h =
     let e : suc (length s) - 1 ≡ length s = omega arith in
     record {
-      short = h .0;
-      room = h .1;
+      short = h .short;
+      ready = h .ready;
+      room = h .room;
       same-region = refl;
       first = omega arith;
       counted = omega arith;
       used = omega arith;
-      within = omega (arith, h .1);
+      within = omega (arith, h .room);
       printing =
           subst (λ n. Printing out a (linesFrom (length s) s start 1 b .printed) out a (linesFrom n s start 1 b .printed)) (sym e)
           (print-start out a (linesFrom (length s) s start 1 b .printed));
       region = ap (λ n. linesFrom n s start 1 b .region) e;
     }
 
-module _ {s : List ℕ} {start : ℕ} {b₀ out₀ : List ℕ} {a : ℕ} {b out : List ℕ} {at line k : ℕ}
-    (e : Running s start b₀ out₀ a b out at line k) where
+module _ {f : Frame} {s : List ℕ} {start : ℕ} {b₀ out₀ : List ℕ} {a : ℕ} {b out : List ℕ} {at line k : ℕ}
+    (e : Running f s start b₀ out₀ a b out at line k) where
   pub run-same : length out ≡ length out₀
   run-same = e .printing .same
 
@@ -171,7 +203,7 @@ module _ {s : List ℕ} {start : ℕ} {b₀ out₀ : List ℕ} {a : ℕ} {b out 
 
         pub run-more : {b′ : List ℕ} (o : Outcome) → CallMade b b′ (l .what) (l .thread) o → length b′ ≡ length b
             → {out′ : List ℕ} {k′ : ℕ}
-            → Wrote out out′ k k′ (lineText line (l .thread) o) → Running s start b₀ out₀ a b′ out′ (l .next) (line + 1) k′
+            → Wrote out out′ k k′ (lineText line (l .thread) o) → Running f s start b₀ out₀ a b′ out′ (l .next) (line + 1) k′
         unfolding rest
         run-more {b′} o m z {out′} {k′} w =
             let text : List ℕ = lineText line (l .thread) o in
@@ -185,6 +217,7 @@ module _ {s : List ℕ} {start : ℕ} {b₀ out₀ : List ℕ} {a : ℕ} {b out 
             ∙ ap (λ n. after text (linesFrom more s (l .next) n b′)) (sym (add-one line)) in
             record {
               short = e .short;
+              ready = still-ready f b b′ (e .ready) (l .what) (l .thread) o m;
               room = e .room;
               same-region = z ∙ e .same-region;
               first = omega arith;

@@ -126,14 +126,14 @@ module _ (u : Setup) (e : setupRefusal u ≡ done) where
     pub threads-length : u .shape .threads ≡ length (take (u .shape .threads) all)
     threads-length = sym (ap length threads-part ∙ length-replicate (u .shape .threads) (u .permission))
 
-  fine-length : regionLength u ≤ 13068
+  pub fine-length : regionLength u ≤ 13068
   unfolding regionWords
   fine-length =
       let leaves = pow-mono {i = u .shape .depth - 1} {j = 7} (omega (arith, fine .shallow)) in
       let nodes = pow-mono {i = u .shape .depth} {j = 8} (fine .shallow) in
       omega (arith, fine-shape, leaves, nodes)
 
-  laid-length : length (laidRegion u) ≡ regionLength u
+  pub laid-length : length (laidRegion u) ≡ regionLength u
   unfolding laidRegion
   laid-length = laid-exactly (u .shape) (permissionsOf u) zeros accepted
 
@@ -210,7 +210,7 @@ module _ (s : List ℕ) (u : Setup) (g g₁ out : List ℕ) (a : ℕ) (r : ℕ) 
         }
 
   module _ (d : r ≡ done) where
-    ready : setupRefusal u ≡ done
+    pub ready : setupRefusal u ≡ done
     ready = sym (e .answer) ∙ d
 
     pub ready-shape : InRange (u .shape)
@@ -228,6 +228,9 @@ module _ (s : List ℕ) (u : Setup) (g g₁ out : List ℕ) (a : ℕ) (r : ℕ) 
       pub ready-fits : Fits w64 (4 * w)
       ready-fits = length-fits u ready w ew
 
+      pub ready-laid : take (4 * w) g₁ ≡ laidRegion u
+      ready-laid = laid-part u ready w ew g g₁ laid
+
       module _ (same : length g₁ ≡ length g) (lent : length g ≡ 13068) where
         pub ready-room : 4 * w ≤ length g₁
         ready-room = region-room u ready w ew g₁ (same ∙ lent)
@@ -240,7 +243,7 @@ module _ (s : List ℕ) (u : Setup) (g g₁ out : List ℕ) (a : ℕ) (r : ℕ) 
             → SetupRan s u g (b ++ drop (4 * w) g₁) out out′ a k
         setup-ran b out′ k l z =
             let all : linesFrom (length s) s (u .next) 1 (take (4 * w) g₁) ≡ setupThen s u =
-            ap (linesFrom (length s) s (u .next) 1) (laid-part u ready w ew g g₁ laid) ∙ sym ran in
+            ap (linesFrom (length s) s (u .next) 1) ready-laid ∙ sym ran in
             record {
               output = subst (λ x. Wrote out out′ a k (x .printed)) all (l .output);
               region =

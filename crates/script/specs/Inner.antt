@@ -1,11 +1,16 @@
 -- What only the contracts of inner functions and the proofs need. A reader of the result may skip this file.
 use Prim.Native.Nat.{ℕ, _+_, _≤_}
 use mathlib.Core.Path.{_≡_}
+use mathlib.Core.Bool.{true}
 use mathlib.Core.List.{List, _++_}
 use lib.Dec.{eqb}
 use lib.ListN.{length, drop}
 use Rattle.region.specs.Answer.{done}
 use Rattle.region.specs.Pick.{pick}
+use Rattle.region.specs.declared.frame.Frame.{Frame}
+use Rattle.readable.specs.Readable.{frameIn, readable}
+use Rattle.script.specs.Promises.{linesRoom}
+use Rattle.script.specs.Reading.{scriptMost}
 use Rattle.script.specs.Script.{callBytes, callOutcome, laidRegion, linesFrom, regionLength, setupRefusal, setupThen}
 use Rattle.script.specs.declared.printing.Outcome.{Outcome}
 use Rattle.script.specs.declared.reading.Setup.{Setup}
@@ -17,6 +22,17 @@ pub record Wrote (l l′ : List ℕ) (a k : ℕ) (xs : List ℕ) : Type 0 where
   pub next : k ≡ a + length xs
   pub within : k ≤ length l
   pub bytes : l′ ≡ sets l a xs
+
+-- the region b is readable, and the frame f is its own
+pub record Ready (f : Frame) (b : List ℕ) : Type 0 where
+  pub region : readable b ≡ true
+  pub frame : f ≡ frameIn b
+
+-- lines can be run on the region b, and what they print has room from position a on
+pub record LinesReady (f : Frame) (s b out : List ℕ) (a : ℕ) : Type 0 where
+  pub short : length s ≤ scriptMost
+  pub ready : Ready f b
+  pub room : a + linesRoom ≤ length out
 
 -- what a line's call answers and leaves
 pub record CallMade (b b′ : List ℕ) (what : What) (thread : ℕ) (r : Outcome) : Type 0 where

@@ -7,7 +7,10 @@ mod reading;
 mod script;
 mod text;
 
+pub use numbers::Number;
+pub use numbers::number_then;
 pub use numbers::write_number;
+pub use printing::Outcome;
 pub use reader::line_at;
 pub use reading::Line;
 pub use reading::Opening;
@@ -16,6 +19,7 @@ pub use reading::ScriptLine;
 pub use reading::Setup;
 pub use reading::What;
 pub use reading::opening_at;
+pub use reading::read_opening;
 pub use script::OUTPUT_ROOM;
 pub use script::REGION_ROOM;
 pub use script::lay_region;

@@ -6,7 +6,7 @@ ghost use lib.ListN.{drop, length, replicate};
 ghost use Rattle.script.specs.Reading.{scriptMost};
 ghost use Rattle.script.specs.Script.{doneOr, laidRegion, regionLength, setupRefusal};
 ghost use Rattle.script.specs.Promises.{ScriptRan, linesRoom, regionRoom};
-ghost use Rattle.script.specs.Inner.{CallMade, LinesRan, SetUp, SetupRan};
+ghost use Rattle.script.specs.Inner.{CallMade, LinesRan, LinesReady, Ready, SetUp, SetupRan};
 use crate::printing::Outcome;
 use crate::printing::write_line;
 use crate::reader::line_at;
@@ -19,6 +19,8 @@ use crate::text::write_text;
 use region::Answer;
 use region::BAD_SHAPE;
 use region::DONE;
+use region::Frame;
+use region::Place;
 
 // The bytes of the largest region that a script can lay out: D 8, C 128, T 64.
 pub const REGION_ROOM: usize = 13068;
@@ -36,23 +38,37 @@ fn done_or(done: Outcome, refused: u32) -> Outcome
     Outcome::Answered(Answer::Refused(refused))
 }
 
-// Makes a line's call on the region.
-pub fn make_call(region: &mut [u8], what: What, thread: u32) -> Outcome
+// Makes a line's call on the region. It is readable, since it was laid out and each line's call keeps it so; no call looks at it whole.
+pub fn make_call(f: Frame, region: &mut [u8], what: What, thread: u32) -> Outcome
+    requires { ⌜ Ready f (now region) ⌝ }
     ensures { λ r. ⌜ CallMade (now (region .entry)) (now (region .exit)) what thread r ⌝ }
 {
     match what {
-        What::Put(item) => done_or(Outcome::Begun, begin::begin_put(region, thread, item)),
-        What::Take => done_or(Outcome::Begun, begin::begin_take(region, thread)),
-        What::TakeList => done_or(Outcome::Begun, begin::begin_list(region, thread)),
-        What::Permit(p) => done_or(Outcome::Set, permission::permit(region, thread, p)),
-        What::Turn(choice) => Outcome::Answered(machine::turn_on(region, thread, choice)),
+        What::Put(item) => done_or(Outcome::Begun, begin::begin_put_in(f, region, thread, item)),
+        What::Take => done_or(
+            Outcome::Begun,
+            begin::begin_take_in(f, region, thread, Place::ReadRoot),
+        ),
+        What::TakeList => done_or(
+            Outcome::Begun,
+            begin::begin_take_in(f, region, thread, Place::ListReadRoot),
+        ),
+        What::Permit(p) => done_or(Outcome::Set, permission::permit_in(f, region, thread, p)),
+        What::Turn(choice) => Outcome::Answered(machine::turn(f, region, thread, choice)),
     }
 }
 
 // Makes the calls of the lines from a position on and prints what comes of each, up to the first line that cannot be read.
 // Answers the position after what is printed.
-fn run_lines(input: &[u8], start: usize, region: &mut [u8], out: &mut [u8], from: usize) -> usize
-    requires { ⌜ (length (now input) ≤ scriptMost) × (from + linesRoom ≤ length (now out)) ⌝ }
+fn run_lines(
+    f: Frame,
+    input: &[u8],
+    start: usize,
+    region: &mut [u8],
+    out: &mut [u8],
+    from: usize,
+) -> usize
+    requires { ⌜ LinesReady f (now input) (now region) (now out) from ⌝ }
     ensures { λ r. ⌜ LinesRan (now (input .entry)) start (now (region .entry)) (now (region .exit)) (now (out .entry)) (now (out .exit)) from r ⌝ }
 {
     let mut at = start;
@@ -63,7 +79,7 @@ fn run_lines(input: &[u8], start: usize, region: &mut [u8], out: &mut [u8], from
             return write_line(out, printed, line, 0, Outcome::Unreadable);
         };
         let what = l.what;
-        let outcome = make_call(region, what, l.thread);
+        let outcome = make_call(f, region, what, l.thread);
         printed = write_line(out, printed, line, l.thread, outcome);
         at = l.next;
         line += 1;
@@ -130,7 +146,8 @@ fn run_setup(input: &[u8], setup: Setup, region: &mut [u8], out: &mut [u8], from
     }
     let shape = setup.shape;
     let n = 4 * shape.word_count();
-    run_lines(input, setup.next, &mut region[..n], out, from)
+    let f = Frame::of(shape);
+    run_lines(f, input, setup.next, &mut region[..n], out, from)
 }
 
 // Runs a script: answers how many bytes it prints, and leaves them at the start of the output and the region, as its lines

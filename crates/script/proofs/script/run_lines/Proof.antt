@@ -8,11 +8,11 @@ use Rattle.script.proofs.script.run_lines.Statement.{statement}
 use Rattle.script.proofs.script.run_lines.Tie as tie
 
 abbrev Inv-loop : tie.InvT-loop
-Inv-loop input start region₀ out₀ from at₀ line₀ printed₀ region out at line printed =
-    Running input start region₀ out₀ from region out at line printed
+Inv-loop f input start region₀ out₀ from at₀ line₀ printed₀ region out at line printed =
+    Running f input start region₀ out₀ from region out at line printed
 
 abbrev μ-loop : tie.MeasureT-loop
-μ-loop input start region₀ out₀ from at₀ line₀ printed₀ region out at line printed = length input - at
+μ-loop f input start region₀ out₀ from at₀ line₀ printed₀ region out at line printed = length input - at
 
 loop-holds : tie.Need-loop-holds Inv-loop μ-loop
 loop-holds c = search run-start

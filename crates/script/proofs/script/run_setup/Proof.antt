@@ -1,5 +1,6 @@
 -- `script::script::run_setup` meets its contract: refused, or the lines run. Assumes nothing.
 use borrow.Author.Needs.{needs}
+use Rattle.script.proofs.Regions.{lines-ready}
 use Rattle.script.proofs.Setups.{ready-fits, ready-part, ready-room, ready-shape, setup-ran, setup-refused}
 use Rattle.script.proofs.script.run_setup.Statement.{statement}
 use Rattle.script.proofs.script.run_setup.Tie as tie
@@ -25,6 +26,9 @@ word-count-requires c κs = search ready-shape
 mul-n : tie.Need-mul-n
 mul-n c = search ready-fits
 
+of-requires : tie.Need-of-requires
+of-requires c κs = search ready-shape
+
 slice-relend-prefix-run-lines : tie.Need-slice-relend-prefix-run-lines
 slice-relend-prefix-run-lines c = search ready-room
 
@@ -32,7 +36,7 @@ slice-aggregate-run-lines : tie.Need-slice-aggregate-run-lines
 slice-aggregate-run-lines c = search ready-part
 
 run-lines-requires : tie.Need-run-lines-requires
-run-lines-requires c κs = search needs
+run-lines-requires c κs = search lines-ready
 
 same-length-3 : tie.Need-same-length-3
 same-length-3 c = search needs
@@ -54,6 +58,7 @@ run-setup-spec =
     returns
     word-count-requires
     mul-n
+    of-requires
     slice-relend-prefix-run-lines
     slice-aggregate-run-lines
     run-lines-requires

@@ -24,7 +24,7 @@ use Rattle.layout.proofs.LayoutReads.{laid-cell, laid-depth, laid-free, laid-no
 use Rattle.readable.specs.Readable.{threadMaxima, threadReadable, shapeIn, readable}
 use Rattle.readable.proofs.Laws.{Good, bounded-all, readable-good}
 use Rattle.readable.proofs.Stores.{CellGood, NodeGood, SharedGood, empty-good, make-good}
-use Rattle.mound.specs.Theorems.{LaidOutIsReadable}
+use Rattle.preserved.specs.Theorems.{LaidOutIsReadable}
 
 module _ (s : Shape) (ps b : List ℕ) (e : layoutRefusal s ps (length b) ≡ done) where
   r : InRange s

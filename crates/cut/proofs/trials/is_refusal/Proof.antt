@@ -1,0 +1,19 @@
+-- `cut::trials::is_refusal` meets its contract. Assumes nothing.
+use borrow.Author.Needs.{needs}
+use Rattle.cut.proofs.RowsRun.{answered-so}
+use Rattle.cut.proofs.trials.is_refusal.Statement.{statement}
+use Rattle.cut.proofs.trials.is_refusal.Tie as tie
+
+pub is-refusal-spec : {M : Type 1} → statement M
+is-refusal-spec =
+    tie.close
+    (tie.spec
+    (λ c. search needs)
+    (λ c. search needs)
+    (λ c. search needs)
+    (λ c κs. search needs)
+    (λ c. search needs)
+    (λ c. search needs)
+    (λ c. search needs)
+    (λ c. search answered-so)
+    (λ c. search needs))

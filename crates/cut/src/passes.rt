@@ -1,0 +1,152 @@
+// Passes over the lines that are left, each line tried for removal from the last to the first. `rows` has the lines' rows in the table; those
+// that a pass keeps move to its end.
+ghost use mathlib.Core.Path.{_≡_};
+ghost use Prim.Native.Nat.{_+_};
+ghost use lib.ListN.{length, take};
+ghost use Rattle.script.specs.Script.{laidRegion};
+ghost use Rattle.cut.specs.Inner.{Cuttable, HalfRan, HalfReady, PassReady, RowsCut, RowsTriable, RowsTried, Triable, rowsShow};
+use crate::trials::copy_state;
+use crate::trials::run_rows;
+use region::Frame;
+use script::REGION_ROOM;
+use script::Setup;
+
+// What all trials share: the number, where the parts of the region lie, and the region's size in bytes.
+pub struct Trial {
+    pub number: u32,
+    pub frame: Frame,
+    pub size: usize,
+}
+
+// Tries the line at a position of rows on the region as the lines before it leave it, which is used up. Those of the lines behind it that are
+// left stand from `kept` on. Answers where the lines that are left now start.
+fn try_row(
+    trial: Trial,
+    table: &[u32],
+    rows: &mut [u32],
+    at: usize,
+    kept: usize,
+    region: &mut [u8],
+) -> usize
+    requires { ⌜ Triable trial (now table) (now rows) at (at + 1) kept (now region) ⌝ }
+    ensures { λ r. ⌜ RowsTried (trial .number) (now (table .entry)) (now (rows .entry)) (now (rows .exit)) at (at + 1) kept (now (region .entry)) r ⌝ }
+{
+    let end = rows.len();
+    if run_rows(trial.frame, region, table, rows, kept, end, trial.number) {
+        return kept;
+    }
+    rows[kept - 1] = rows[at];
+    kept - 1
+}
+
+// Runs the lines rows[from..to] on a copy of the region at the start of states, made behind it, and tells whether one of them shows the number.
+fn run_half(
+    trial: Trial,
+    table: &[u32],
+    rows: &[u32],
+    from: usize,
+    to: usize,
+    states: &mut [u8],
+) -> bool
+    requires { ⌜ HalfReady trial (now table) (now rows) from to (now states) ⌝ }
+    ensures { λ r. ⌜ HalfRan trial (now (table .entry)) (now (rows .entry)) from to (now (states .entry)) (now (states .exit)) r ⌝ }
+{
+    let size = trial.size;
+    let end = size + size;
+    copy_state(states, size);
+    run_rows(
+        trial.frame,
+        &mut states[size..end],
+        table,
+        rows,
+        from,
+        to,
+        trial.number,
+    )
+}
+
+// Tries the lines rows[from..to], from the last to the first, on the region at the start of states, as the lines before them leave it. The
+// rest of states is room for the region at the middle of them, at the middle of their second half, and so on. Those of the lines behind them
+// that are left stand from `kept` on. Answers where the lines that are left now start.
+fn try_rows(
+    trial: Trial,
+    table: &[u32],
+    rows: &mut [u32],
+    from: usize,
+    to: usize,
+    kept: usize,
+    states: &mut [u8],
+) -> usize
+    requires { ⌜ RowsTriable trial (now table) (now rows) from to kept (now states) ⌝ }
+    ensures { λ r. ⌜ RowsTried (trial .number) (now (table .entry)) (now (rows .entry)) (now (rows .exit)) from to kept (take (trial .size) (now (states .entry))) r ⌝ }
+{
+    let size = trial.size;
+    if to - from == 1 {
+        return try_row(trial, table, rows, from, kept, &mut states[..size]);
+    }
+    let middle = from + (to - from) / 2;
+    if run_half(trial, table, rows, from, middle, states) {
+        // shown by the first half: the second goes
+        return try_rows(trial, table, rows, from, middle, kept, states);
+    }
+    let left = try_rows(trial, table, rows, middle, to, kept, &mut states[size..]);
+    try_rows(trial, table, rows, from, middle, left, states)
+}
+
+// Whether the lines show the number, on a region that is laid out at the start of states.
+pub fn show(setup: Setup, trial: Trial, table: &[u32], rows: &[u32], states: &mut [u8]) -> bool
+    requires { ⌜ Cuttable setup trial (now table) (now rows) (now states) ⌝ }
+    ensures { λ r. ⌜ r ≡ rowsShow (trial .number) (now (table .entry)) (laidRegion setup) (now (rows .entry)) ⌝ }
+{
+    script::lay_region(&mut states[..REGION_ROOM], setup);
+    let size = trial.size;
+    let end = rows.len();
+    run_rows(
+        trial.frame,
+        &mut states[..size],
+        table,
+        rows,
+        0,
+        end,
+        trial.number,
+    )
+}
+
+// One pass over the lines from a position on, on a region that is laid out at the start of states.
+fn pass_once(
+    setup: Setup,
+    trial: Trial,
+    table: &[u32],
+    rows: &mut [u32],
+    first: usize,
+    states: &mut [u8],
+) -> usize
+    requires { ⌜ PassReady setup trial (now table) (now rows) first (now states) ⌝ }
+    ensures { λ r. ⌜ RowsTried (trial .number) (now (table .entry)) (now (rows .entry)) (now (rows .exit)) first (length (now (rows .entry))) (length (now (rows .entry))) (laidRegion setup) r ⌝ }
+{
+    script::lay_region(&mut states[..REGION_ROOM], setup);
+    let end = rows.len();
+    try_rows(trial, table, rows, first, end, end, states)
+}
+
+// Passes until one removes no line. Answers where the lines that are left start.
+pub fn cut_rows(
+    setup: Setup,
+    trial: Trial,
+    table: &[u32],
+    rows: &mut [u32],
+    states: &mut [u8],
+) -> usize
+    requires { ⌜ Cuttable setup trial (now table) (now rows) (now states) ⌝ }
+    ensures { λ r. ⌜ RowsCut (trial .number) (now (table .entry)) (laidRegion setup) (now (rows .entry)) (now (rows .exit)) r ⌝ }
+{
+    let mut first = 0;
+    while first < rows.len() {
+        let left = pass_once(setup, trial, table, rows, first, states);
+        if left == first {
+            return first;
+        }
+        first = left;
+    }
+    first
+}

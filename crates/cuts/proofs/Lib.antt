@@ -1,0 +1,2 @@
+-- The proof that every case holds.
+pub mod CutsHold
