@@ -7,10 +7,10 @@
 use std::fmt;
 
 use mound::Answer;
+use plain::script::{next_line, Line, Opening, Outcome, MOST_BYTES};
 
 use crate::fields::{place, HEADING, PRESENT_DEPTH};
 use crate::queue::Queue;
-use crate::script::{laid_out, next_line, opening, parsed, Outcome, MOST_BYTES};
 
 /// The most scripts of a report.
 pub const MOST_SCRIPTS: usize = 64;
@@ -102,20 +102,20 @@ fn of_scripts(mut scripts: &[u8]) -> Option<Vec<Vec<Figures>>> {
 
 /// Reads a script with its empty line, and counts for each of its threads.
 fn of_next_script(rest: &mut &[u8]) -> Option<Vec<Figures>> {
-    let (shape, permission) = opening(rest)?;
-    let mut queue = laid_out(shape, permission).ok()?;
-    let mut threads = vec![Figures::default(); shape.threads as usize];
+    let opening = Opening::read(rest)?;
+    let mut queue = Queue { bytes: opening.lay_out().ok()? };
+    let mut threads = vec![Figures::default(); opening.shape.threads as usize];
     loop {
         let line = next_line(rest)?;
         if line.is_empty() {
             return Some(threads);
         }
-        let (thread, call) = parsed(line)?;
+        let line = Line::parse(line)?;
         let before = queue.clone();
-        match call.make(&mut queue, thread) {
-            Outcome::Answered(answer) if answer.is_access() => {
-                let figures = &mut threads[thread as usize - 1];
-                count(figures, thread, answer, &before, &queue);
+        match line.make(&mut queue.machine()) {
+            Ok(Outcome::Answered(answer)) if answer.is_access() => {
+                let figures = &mut threads[line.thread as usize - 1];
+                count(figures, line.thread, answer, &before, &queue);
             }
             _ => {}
         }

@@ -1,8 +1,57 @@
-//! Scripts that tests make: of any lines, damaged, or of a given length.
+//! Scripts that tests make: of any lines, damaged, or of a given length; and what no script may have.
 
 use mound::Shape;
 
 use crate::random::Random;
+
+/// The smallest shape of a script, and the largest.
+pub const SMALLEST: Shape = Shape { depth: 1, cells: 1, threads: 1, threshold: 1 };
+pub const LARGEST: Shape = Shape { depth: 8, cells: 128, threads: 64, threshold: 16 };
+
+/// Shapes with permissions that a script's layout refuses.
+pub const REFUSED: [(Shape, u32); 15] = [
+    (Shape { depth: 0, ..SMALLEST }, 3),
+    (Shape { depth: 9, ..LARGEST }, 3),
+    (Shape { depth: 12, ..LARGEST }, 3),
+    (Shape { depth: 13, ..LARGEST }, 3),
+    (Shape { depth: u32::MAX, ..LARGEST }, 3),
+    (Shape { cells: 0, ..SMALLEST }, 3),
+    (Shape { cells: 2, ..SMALLEST }, 3),
+    (Shape { cells: 129, ..LARGEST }, 3),
+    (Shape { threads: 0, ..SMALLEST }, 3),
+    (Shape { threads: 65, ..SMALLEST }, 3),
+    (Shape { threshold: 0, ..SMALLEST }, 3),
+    (Shape { threshold: 17, ..SMALLEST }, 3),
+    (SMALLEST, 4),
+    (SMALLEST, 256),
+    (SMALLEST, u32::MAX),
+];
+
+/// Lines that are none of a script.
+pub const BAD_LINES: [&str; 22] = [
+    " ",
+    "0",
+    "put",
+    "put 1 5",
+    "put 1 5 9 9",
+    "put 1 5 9 ",
+    " put 1 5 9",
+    "put  1 5 9",
+    "put 1 5 9\r",
+    "Put 1 5 9",
+    "put 1 -5 9",
+    "put 1 5 x",
+    "put 1 4294967296 0",
+    "turn 18446744073709551617 0 0",
+    "turn 1 0 1",
+    "take 1 1 0",
+    "take 1 0 1",
+    "list 1 0 1",
+    "permit 1 3 1",
+    "turns 1 0 0",
+    "depth cells threads threshold permission",
+    "what thread a b",
+];
 
 /// No line that is made here is longer.
 pub const LONGEST_LINE: usize = "permit 65 4294967295 0\n".len();
@@ -54,8 +103,7 @@ pub fn damaged(random: &mut Random, text: &str) -> Vec<u8> {
 
 /// A script of this many bytes: the line again and again, the last one with leading zeros to fill.
 pub fn of_length(length: usize, line: &str) -> String {
-    let shape = Shape { depth: 1, cells: 1, threads: 1, threshold: 1 };
-    let mut script = opening(shape, 3);
+    let mut script = opening(SMALLEST, 3);
     while script.len() + 2 * line.len() <= length {
         script += line;
     }

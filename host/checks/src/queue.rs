@@ -3,6 +3,7 @@
 use std::iter::successors;
 
 use mound::{Answer, Refusal, Shape};
+use plain::Machine;
 
 use crate::fields::{
     place, COPIES, FIRST_FREE_CELL, HEADING, KEY, NODE, OWN_CELL, PERMISSION, PLACE, PRESENT_DEPTH,
@@ -89,6 +90,11 @@ impl Queue {
         queue.match_copies(1);
         queue.set_field(1, PLACE, place::M4);
         queue
+    }
+
+    /// The queue to make calls on, checked once.
+    pub fn machine(&mut self) -> Machine<'_> {
+        Machine::open(&mut self.bytes).expect("a readable region")
     }
 
     pub fn put(&mut self, thread: u32, key: u32, tag: u32) -> Result<(), Refusal> {
@@ -347,8 +353,8 @@ impl Queue {
 
     /// The accesses of a take by that thread while no other moves.
     pub fn accesses_of_a_take_alone(&self, thread: u32) -> u32 {
-        let mut region = self.bytes.clone();
-        let mut machine = plain::Machine::open(&mut region).expect("a readable region");
+        let mut queue = self.clone();
+        let mut machine = queue.machine();
         assert_eq!(machine.take(thread), Ok(()));
         for accesses in 1..=100 {
             match machine.turn(thread, 0) {

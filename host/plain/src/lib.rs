@@ -7,7 +7,8 @@
 //! one turn by itself, and [`take_cost()`] tells how many accesses a take would make.
 //! [`check_records`] checks records of a queue that runs on several cores, with the types
 //! [`Record`](mound::Record), [`Operation`](mound::Operation) and [`Verdict`](mound::Verdict);
-//! [`check_records_by_position`] is the same, made to be fast.
+//! [`check_records_by_position`] is the same, made to be fast. [`script`] reads scripts and makes
+//! their calls.
 //!
 //! ```
 //! use mound::{Answer, Refusal, Shape};
@@ -40,6 +41,7 @@ mod parts;
 mod readable;
 mod record;
 mod run;
+pub mod script;
 mod sizes;
 mod turn;
 mod value;

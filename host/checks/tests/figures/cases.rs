@@ -1,11 +1,12 @@
 //! Cases worked out by hand: one thread at a time. Those where threads meet are in `races.rs`.
 
 use checks::figures::{self, COLUMNS};
+use checks::made_scripts::SMALLEST;
 use checks::program;
 use checks::queue::SMALL;
 use mound::Shape;
 
-use crate::inputs::{script, SMALLEST};
+use crate::inputs::script;
 
 /// A report of these lines is what plain Rust and the program print.
 pub fn assert_prints(scripts: &str, lines: &[&str]) {

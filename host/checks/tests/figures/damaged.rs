@@ -2,38 +2,11 @@
 //! that are refused.
 
 use checks::figures::UNREADABLE;
-use checks::made_scripts::{damaged, opening};
+use checks::made_scripts::{damaged, opening, BAD_LINES, LARGEST, REFUSED, SMALLEST};
 use checks::random::Random;
-use mound::Shape;
 
-use crate::inputs::{any, script, small, LARGEST, SMALLEST};
+use crate::inputs::{any, script, small};
 use crate::report::printed;
-
-/// Lines that are none of a script.
-const BAD_LINES: [&str; 22] = [
-    " ",
-    "0",
-    "put",
-    "put 1 5",
-    "put 1 5 9 9",
-    "put 1 5 9 ",
-    " put 1 5 9",
-    "put  1 5 9",
-    "put 1 5 9\r",
-    "Put 1 5 9",
-    "put 1 -5 9",
-    "put 1 5 x",
-    "put 1 4294967296 0",
-    "turn 18446744073709551617 0 0",
-    "turn 1 0 1",
-    "take 1 1 0",
-    "take 1 0 1",
-    "list 1 0 1",
-    "permit 1 3 1",
-    "turns 1 0 0",
-    "depth cells threads threshold permission",
-    "what thread a b",
-];
 
 #[test]
 fn scripts_cut_short_at_any_byte_are_unreadable() {
@@ -96,24 +69,7 @@ fn a_line_left_out_or_said_twice_may_be_read() {
 
 #[test]
 fn a_refused_layout_of_any_script_is_unreadable() {
-    let refused = [
-        (Shape { depth: 0, ..SMALLEST }, 3),
-        (Shape { depth: 9, ..LARGEST }, 3),
-        (Shape { depth: 12, ..LARGEST }, 3),
-        (Shape { depth: 13, ..LARGEST }, 3),
-        (Shape { depth: u32::MAX, ..LARGEST }, 3),
-        (Shape { cells: 0, ..SMALLEST }, 3),
-        (Shape { cells: 2, ..SMALLEST }, 3),
-        (Shape { cells: 129, ..LARGEST }, 3),
-        (Shape { threads: 0, ..SMALLEST }, 3),
-        (Shape { threads: 65, ..SMALLEST }, 3),
-        (Shape { threshold: 0, ..SMALLEST }, 3),
-        (Shape { threshold: 17, ..SMALLEST }, 3),
-        (SMALLEST, 4),
-        (SMALLEST, 256),
-        (SMALLEST, u32::MAX),
-    ];
-    for (shape, permission) in refused {
+    for (shape, permission) in REFUSED {
         let bad = opening(shape, permission) + "\n";
         for scripts in [bad.clone(), small() + &bad, bad.clone() + &small()] {
             assert_eq!(printed(scripts.as_bytes()), UNREADABLE, "{scripts}");

@@ -7,8 +7,8 @@ use std::fs;
 use chart::{draw, Report};
 use checks::figures;
 use checks::program;
-use checks::script::MOST_BYTES;
 use checks::workloads::{scripts, THRESHOLDS};
+use plain::script::MOST_BYTES;
 
 fn stored(name: &str) -> String {
     let path = format!("../../docs/figures/{name}");

@@ -1,13 +1,9 @@
 //! What the tests give the program.
 
-use checks::made_scripts::{any_line, opening, LONGEST_LINE};
+use checks::made_scripts::{any_line, opening, LONGEST_LINE, SMALLEST};
 use checks::random::Random;
-use checks::script::MOST_BYTES;
 use mound::Shape;
-
-/// The smallest shape of a script, and the largest.
-pub const SMALLEST: Shape = Shape { depth: 1, cells: 1, threads: 1, threshold: 1 };
-pub const LARGEST: Shape = Shape { depth: 8, cells: 128, threads: 64, threshold: 16 };
+use plain::script::MOST_BYTES;
 
 /// A script with its empty line, whose threads may put and take. A line `turns 1 2 2` stands for a
 /// turn of each of these threads, with choice 0.

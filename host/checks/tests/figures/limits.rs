@@ -2,10 +2,10 @@
 //! script should be.
 
 use checks::figures::{MOST_SCRIPTS, UNREADABLE};
-use checks::made_scripts::of_length;
-use checks::script::MOST_BYTES;
+use checks::made_scripts::{of_length, LARGEST, SMALLEST};
+use plain::script::MOST_BYTES;
 
-use crate::inputs::{script, small, LARGEST, SMALLEST};
+use crate::inputs::{script, small};
 use crate::report::{printed, report};
 
 /// A script of this many bytes with its empty line.

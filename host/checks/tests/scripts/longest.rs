@@ -1,10 +1,8 @@
 //! Scripts of the greatest length and beyond it.
 
 use checks::made_scripts::of_length;
-use checks::program;
-use checks::script::MOST_BYTES;
-
-use crate::expected;
+use checks::{program, script};
+use plain::script::MOST_BYTES;
 
 #[test]
 fn a_script_of_60_000_bytes_is_read_whole() {
@@ -12,7 +10,7 @@ fn a_script_of_60_000_bytes_is_read_whole() {
     for line in lines {
         let script = of_length(MOST_BYTES, line);
         let output = program::printed(script.as_bytes());
-        assert_eq!(output, expected::printed(script.as_bytes()));
+        assert_eq!(output, script::printed(script.as_bytes()));
         assert_eq!(output.lines().count() + 2, script.lines().count());
     }
 }
@@ -23,6 +21,6 @@ fn a_longer_script_is_unreadable_as_line_0() {
         let script = of_length(length, "turn 1 0 0\n");
         let output = program::printed(script.as_bytes());
         assert_eq!(output, "line thread answer key tag\n0 0 unreadable 0 0\n");
-        assert_eq!(output, expected::printed(script.as_bytes()));
+        assert_eq!(output, script::printed(script.as_bytes()));
     }
 }

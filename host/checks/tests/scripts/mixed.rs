@@ -1,11 +1,9 @@
 //! Random scripts, whole and damaged, against the program in plain Rust.
 
 use checks::made_scripts::{any_line, damaged, opening};
-use checks::program;
 use checks::random::Random;
+use checks::{program, script};
 use mound::Shape;
-
-use crate::expected;
 
 /// A script of some lines, most of which do something.
 fn script(random: &mut Random) -> String {
@@ -30,7 +28,7 @@ fn random_scripts_print_what_plain_rust_prints() {
     let mut random = Random::new(1);
     for _ in 0..400 {
         let script = script(&mut random);
-        let expected = expected::printed(script.as_bytes());
+        let expected = script::printed(script.as_bytes());
         assert_eq!(program::printed(script.as_bytes()), expected, "{script}");
     }
 }
@@ -42,6 +40,6 @@ fn damaged_scripts_print_what_plain_rust_prints() {
         let whole = script(&mut random);
         let script = damaged(&mut random, &whole);
         let shown = String::from_utf8_lossy(&script);
-        assert_eq!(program::printed(&script), expected::printed(&script), "{shown}");
+        assert_eq!(program::printed(&script), script::printed(&script), "{shown}");
     }
 }
