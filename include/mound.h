@@ -23,7 +23,7 @@ extern "C" {
 enum mound_refusal {
     MOUND_DONE = 0,
     MOUND_REFUSED_SHAPE = 1,          /* a number of the shape or a permission is out of range, or there is not one permission for each thread */
-    MOUND_REFUSED_REGION_LENGTH = 2,  /* the slice does not have the exact length of the shape */
+    MOUND_REFUSED_REGION_LENGTH = 2,  /* the slice does not have the exact length of the shape; of a cut: it is shorter than the script */
     MOUND_REFUSED_THREAD = 3,         /* there is no such thread */
     MOUND_REFUSED_ITEM = 4,           /* the key or the tag is out of range */
     MOUND_REFUSED_ANSWER_LENGTH = 5,  /* the answers have less than 12 bytes a turn */
@@ -33,7 +33,8 @@ enum mound_refusal {
     MOUND_REFUSED_BUSY = 9,           /* the thread has an operation under way */
     MOUND_REFUSED_NO_FREE_CELL = 10,  /* no cell is free */
     MOUND_REFUSED_COUNTER_SPENT = 11, /* only of a turn: its update meets a counter that cannot grow */
-    MOUND_REFUSED_RECORDS = 12        /* a part of a record, more than 1,024, or a kind, thread, key or tag out of range (of an empty: not 0) */
+    MOUND_REFUSED_RECORDS = 12,       /* a part of a record, more than 1,024, or a kind, thread, key or tag out of range (of an empty: not 0) */
+    MOUND_REFUSED_NOT_SHOWN = 16      /* the script has a line that cannot be read, or does not show the refusal */
 };
 
 /* What a turn answers: the first of its three words. The other two are 0, but for took and refused. */
@@ -73,6 +74,7 @@ enum mound_kind {
 #define MOUND_GREATEST_TAG 65535u
 #define MOUND_MOST_TURNS 4096u
 #define MOUND_MOST_RECORDS 1024u
+#define MOUND_MOST_SCRIPT_BYTES 60000u
 
 /* The bytes of a region of that shape, of a turn in a schedule, of a turn's answer, and of a record. */
 #define MOUND_REGION_BYTES(depth, cells, threads) \
@@ -146,6 +148,18 @@ uint32_t mound_check(const uint8_t *region, size_t region_length);
  */
 uint32_t mound_records(const uint8_t *records, size_t records_length);
 
+/*
+ * Cuts a script down, as the script program runs scripts (docs/REFERENCE.md): writes to the start of `out` a script made of lines of this
+ * one, in their order and with its three heading lines, that still shows refusal `number` and from which no other single line can be left
+ * out without losing it. Lines are tried for removal from the last to the first, over and over until a whole pass removes none; what is
+ * left is written as it stands, and bytes of `out` behind it stay. A layout that is refused shows that with no line at all. Answers two
+ * numbers in one, which the functions below take apart; a refused call has written nothing.
+ * Refusals: 2, 16. For 16 every line counts, those behind a refused layout too, and so does a script of more than 60,000 bytes.
+ * Cost: each line is read once; a pass over n lines that keeps k copies the script's region n times and carries out at most
+ * n * (log2(n) + k) lines, none of which checks the region; 400 kB of stack.
+ */
+uint64_t mound_cut(const uint8_t *script, size_t script_length, uint32_t number, uint8_t *out, size_t out_length);
+
 #ifdef __cplusplus
 }
 #endif
@@ -154,6 +168,10 @@ uint32_t mound_records(const uint8_t *records, size_t records_length);
 static inline uint32_t mound_run_refusal(uint64_t run) { return (uint32_t)(run & 65535u); }
 static inline uint32_t mound_run_turns(uint64_t run) { return (uint32_t)(run >> 16 & 65535u); }
 static inline uint32_t mound_run_accesses(uint64_t run) { return (uint32_t)(run >> 32); }
+
+/* The answer of a cut: the refusal or 0, and the length of what was written. */
+static inline uint32_t mound_cut_refusal(uint64_t cut) { return (uint32_t)(cut & 4294967295u); }
+static inline uint32_t mound_cut_length(uint64_t cut) { return (uint32_t)(cut >> 32); }
 
 /* The word of that index, counted from 0, in a region, a schedule, answers or records; and the word set. */
 static inline uint32_t mound_word(const uint8_t *bytes, size_t index)

@@ -2,12 +2,12 @@
 //!
 //! A call may be given anything at all. It answers 0 for done or yes, and otherwise the number of
 //! the [`Refusal`](crate::Refusal) that applies first in the call's order; [`run`] answers its
-//! counts beside that number, and [`records`] 255 for a no. A refused call changes no byte. All
-//! unsafe code of the crate is in this file.
+//! counts beside that number, [`cut`] a length, and [`records`] 255 for a no. A refused call changes
+//! no byte. All unsafe code of the crate is in this file.
 //!
-//! A program uses [`Region`](crate::Region) and [`check_records`](crate::check_records). These
-//! functions are for those who keep schedules and answers as bytes, or who want the refusal of
-//! bytes that are not readable from every call.
+//! A program uses [`Region`](crate::Region), [`check_records`](crate::check_records) and
+//! [`cut`](crate::cut()). These functions are for those who keep schedules and answers as bytes, or
+//! who want the refusal of bytes that are not readable from every call.
 //!
 //! ```
 //! use mound::{calls, Refusal};
@@ -66,6 +66,14 @@ mod exported {
         pub fn mound_check(region: *const u8, region_len: usize) -> u32;
 
         pub fn mound_records(records: *const u8, records_len: usize) -> u32;
+
+        pub fn mound_cut(
+            script: *const u8,
+            script_len: usize,
+            number: u32,
+            out: *mut u8,
+            out_len: usize,
+        ) -> u64;
     }
 }
 
@@ -196,4 +204,22 @@ pub fn check(region: &[u8]) -> u32 {
 pub fn records(records: &[u8]) -> u32 {
     // SAFETY: as in `check`.
     unsafe { exported::mound_records(records.as_ptr(), records.len()) }
+}
+
+/// Cuts a script down to lines that show the refusal of this number, any number, and writes them to
+/// the start of `out`; what is kept is said at [`cut`](crate::cut()). Bytes past them stay as they
+/// were.
+///
+/// Answers two numbers in one: bits 0 to 31 are the refusal or 0, bits 32 to 63 the bytes written; a
+/// refused call has written none.
+///
+/// Refusals, in order: 2 (`out` is shorter than the script), 16 (a line cannot be read, or the
+/// number is not shown). Cost: as said there.
+#[must_use = "the first 32 bits say whether the call was refused"]
+pub fn cut(script: &[u8], number: u32, out: &mut [u8]) -> u64 {
+    // SAFETY: each pointer goes with the length of its own slice. Both slices are lent for the
+    // call, the script to be read, `out` exclusively; the library keeps neither pointer.
+    unsafe {
+        exported::mound_cut(script.as_ptr(), script.len(), number, out.as_mut_ptr(), out.len())
+    }
 }

@@ -45,7 +45,8 @@
 //! ```
 //!
 //! A queue of another make, one that runs on several cores, can have the records of its operations
-//! checked by [`check_records`]; that needs no region.
+//! checked by [`check_records`]; that needs no region. Nor does [`cut()`], which finds in a long
+//! script, as the script program of this repository runs them, the few lines that a refusal needs.
 //!
 //! # Depending on it
 //!
@@ -72,6 +73,7 @@
 //! | [`Region::check`] | none | a check |
 //! | [`Region::is_idle`], [`Region::permission`] | 3 thread | five words |
 //! | [`check_records`] | 12 records | each record four times, a heap's comparisons |
+//! | [`cut()`] | 2 length, 16 not shown | for each line copies and runs, over and over |
 //!
 //! A check reads the words that have a range, in order, up to the first that is out of it; so it
 //! grows with the region. A turn makes at most one access, whatever the size of the region. Inside
@@ -91,6 +93,7 @@ extern crate alloc;
 
 mod answer;
 pub mod calls;
+mod cut;
 mod damage;
 mod permission;
 mod records;
@@ -101,6 +104,7 @@ mod shape;
 mod words;
 
 pub use answer::{Answer, NotAnAnswer};
+pub use cut::{cut, MOST_SCRIPT_BYTES};
 pub use damage::{Damage, OutOfRange, Part};
 pub use permission::Permission;
 pub use records::{check_records, Operation, Record, Verdict};

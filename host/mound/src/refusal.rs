@@ -22,7 +22,8 @@ pub enum Refusal {
     /// 1: the shape is outside its ranges, or a permission is above 3, or the permissions are not
     /// one a thread.
     Shape = 1,
-    /// 2: the slice to lay out does not have the exact length of the shape.
+    /// 2: the slice to lay out does not have the exact length of the shape, or the slice for a
+    /// script that is to be cut down is shorter than the script.
     RegionLength = 2,
     /// 3: the thread is 0 or above the number of threads.
     Thread = 3,
@@ -47,10 +48,12 @@ pub enum Refusal {
     /// 12: the records to check are not whole, or over 1,024; or a kind, a thread, a key or a tag
     /// of them is outside its range.
     Records = 12,
+    /// 16: the script to cut down has a line that cannot be read, or does not show the refusal.
+    NotShown = 16,
 }
 
 impl Refusal {
-    const ALL: [Refusal; 12] = [
+    const ALL: [Refusal; 13] = [
         Refusal::Shape,
         Refusal::RegionLength,
         Refusal::Thread,
@@ -63,6 +66,7 @@ impl Refusal {
         Refusal::NoFreeCell,
         Refusal::CounterSpent,
         Refusal::Records,
+        Refusal::NotShown,
     ];
 
     /// The refusal's number, as the library answers it.
@@ -107,7 +111,9 @@ impl fmt::Display for Refusal {
             Refusal::Shape => {
                 "the shape or a permission is outside its range, or not one permission a thread"
             }
-            Refusal::RegionLength => "the slice does not have the exact length of the shape",
+            Refusal::RegionLength => {
+                "the slice does not have the exact length of the shape, or is shorter than the script"
+            }
             Refusal::Thread => "there is no such thread",
             Refusal::Item => "the key or the tag is outside its range",
             Refusal::AnswerLength => "the answer slice is below 12 bytes a turn",
@@ -121,6 +127,9 @@ impl fmt::Display for Refusal {
             Refusal::CounterSpent => "an update meets a counter that cannot grow",
             Refusal::Records => {
                 "the records are not whole, or over 1,024, or a field of them is outside its range"
+            }
+            Refusal::NotShown => {
+                "the script has a line that cannot be read, or does not show the refusal"
             }
         };
         write!(f, "refused {}: {reason}", self.number())

@@ -1,8 +1,10 @@
-//! The safe types: what a Rust program sees of a queue, and of the check of records.
+//! The safe types: what a Rust program sees of a queue, of the check of records and of the cut of a
+//! script.
 #![allow(clippy::large_stack_arrays, reason = "a schedule of the most turns has 32 KiB")]
 
 use mound::{Permission, Shape};
 
+mod cut;
 mod permits;
 mod records;
 mod regions;
