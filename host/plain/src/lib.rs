@@ -8,7 +8,7 @@
 //! [`check_records`] checks records of a queue that runs on several cores, with the types
 //! [`Record`](mound::Record), [`Operation`](mound::Operation) and [`Verdict`](mound::Verdict);
 //! [`check_records_by_position`] is the same, made to be fast. [`script`] reads scripts and makes
-//! their calls.
+//! their calls, and [`cut()`] cuts one down.
 //!
 //! ```
 //! use mound::{Answer, Refusal, Shape};
@@ -27,6 +27,7 @@
 #![forbid(unsafe_code)]
 
 mod cost;
+mod cut;
 mod extract;
 mod fields;
 mod heap;
@@ -49,6 +50,7 @@ mod words;
 
 use mound::{Answer, Refusal};
 
+pub use cut::cut;
 pub use layout::layout;
 pub use machine::Machine;
 pub use native_by_position::check_records_by_position;

@@ -27,9 +27,14 @@ impl<'a> Machine<'a> {
     /// [`Refusal::Unreadable`] where the region is not readable.
     pub fn open(region: &'a mut [u8]) -> Result<Machine<'a>, Refusal> {
         check(region)?;
+        Ok(Machine::of_readable(region))
+    }
+
+    /// Opens a region that is known to be readable: it was laid out, and calls alone changed it.
+    pub(crate) fn of_readable(region: &'a mut [u8]) -> Machine<'a> {
         let shape = shape_named_by(region);
         let Parts { heading, nodes, cells, threads } = Parts::of(region, shape);
-        Ok(Machine { shape, memory: Memory { heading, nodes, cells }, threads })
+        Machine { shape, memory: Memory { heading, nodes, cells }, threads }
     }
 
     /// Begins a put of an item, which gets the first free cell.
