@@ -8,6 +8,8 @@
 )]
 
 pub mod beginnings;
+pub mod cut;
+pub mod ending_scripts;
 pub mod fields;
 pub mod figures;
 pub mod leaves;

@@ -1,6 +1,7 @@
-//! The two programs, each a file that an environment variable names, or else one in `target/bin` at
+//! The three programs, each a file that an environment variable names, or else one in `target/bin` at
 //! the repository's root, which `rt check` builds: the script program, `SCRIPT_PROGRAM` or
-//! `script_main`, and the figures over many scripts, `FIGURES_PROGRAM` or `figures_main`.
+//! `script_main`; the figures over many scripts, `FIGURES_PROGRAM` or `figures_main`; and the cut of a
+//! script, `CUT_PROGRAM` or `cut_main`.
 
 use std::env;
 use std::io::{ErrorKind, Write};
@@ -15,6 +16,11 @@ pub fn printed(script: &[u8]) -> String {
 /// What the program of the figures prints for scripts that stand one behind the other.
 pub fn figures(scripts: &[u8]) -> String {
     output("FIGURES_PROGRAM", "figures_main", scripts)
+}
+
+/// What the program that cuts a script down prints for a number's line and a script.
+pub fn cut(number_and_script: &[u8]) -> String {
+    output("CUT_PROGRAM", "cut_main", number_and_script)
 }
 
 fn output(variable: &str, name: &str, given: &[u8]) -> String {
