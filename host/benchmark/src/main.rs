@@ -8,6 +8,8 @@ mod play;
 mod record;
 mod work;
 
+use checks::cut::line_count;
+use checks::ending_scripts::{long_scripts, LONG};
 use measure::{measure, share, Times, ROUNDS};
 use mound::Shape;
 use work::{Work, PAIRS};
@@ -51,6 +53,11 @@ A check of records from a simulated run of 8 threads, puts, takes and empties: a
 for the kind of the first record. The share is that of a check in relation to one of all 1,024
 records, both by the library.";
 
+const CUTS: &str = "
+A script of 5,000 lines cut down to those that its last line's refusal needs: that a thread is busy,
+or that no cell is free. Lines that are left behind the opening; times are for a line of the script,
+all passes included.";
+
 fn main() {
     println!("The proved library beside the plain Rust implementation.");
     if cfg!(debug_assertions) {
@@ -58,8 +65,8 @@ fn main() {
     } else {
         println!("Both are release builds, run in turn in this one process on the same bytes.");
     }
-    println!("Nanoseconds: medians of {ROUNDS} rounds. Ratio: library / plain, the median of the");
-    println!("rounds' own. Regions are set up anew before each round, which is not timed.");
+    println!("Nanoseconds: medians of {ROUNDS} rounds, or of fewer long ones. Ratio: library /");
+    println!("plain, the median of the rounds' own. Regions are set up anew before each, untimed.");
     turns();
     pairs();
     lists();
@@ -67,6 +74,7 @@ fn main() {
     permits();
     growth();
     records();
+    cuts();
 }
 
 /// A turn, in long runs and in runs of one.
@@ -255,6 +263,19 @@ fn records_row(name: &str, operations: u32, work: &Work, most: &Work) {
         "{operations:>8}{:>9}{name:>11}{library:>10.1}{plain:>10.1}{ratio:>8.2}{share:>9.4}",
         work.start.len()
     );
+}
+
+/// Long scripts cut down.
+fn cuts() {
+    println!("{CUTS}");
+    println!("{:<42}{:>6}{:>6}{:>9}{:>9}{:>8}", "", "lines", "left", "library", "plain", "ratio");
+    for script in long_scripts() {
+        let mut out = vec![0; script.text.len()];
+        let length = plain::cut(script.text.as_bytes(), script.number, &mut out);
+        let left = line_count(&out[..length.expect("its last line shows it")]);
+        let Times { library, plain, ratio } = measure(&Work::cut(&script), LONG);
+        println!("{:<42}{LONG:>6}{left:>6}{library:>9.1}{plain:>9.1}{ratio:>8.2}", script.name);
+    }
 }
 
 fn of_depth(depth: u32) -> Shape {

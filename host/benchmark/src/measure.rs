@@ -5,7 +5,11 @@ use std::time::Instant;
 use crate::play::{play, Library, Plain, Queue};
 use crate::work::Work;
 
+/// How often a work is measured: fewer times where one implementation would take longer than this
+/// for all of them.
 pub const ROUNDS: usize = 1001;
+const FEWEST_ROUNDS: usize = 25;
+const NANOSECONDS_OF_ROUNDS: f64 = 1e9;
 
 /// How long the work of one measurement takes, about: it is played on several copies of the region,
 /// but on no more than fit in a cache of this size.
@@ -24,7 +28,7 @@ pub struct Times {
 pub fn measure(work: &Work, units: u32) -> Times {
     let mut bench = Bench::of(work);
     bench.compare();
-    let rounds = in_turn(&mut bench, Bench::time::<Library>, Bench::time::<Plain>);
+    let rounds = in_turn(bench.rounds, &mut bench, Bench::time::<Library>, Bench::time::<Plain>);
     let units = f64::from(units);
     Times {
         library: median(rounds.iter().map(|(library, _)| library / units).collect()),
@@ -38,6 +42,7 @@ pub fn measure(work: &Work, units: u32) -> Times {
 pub fn share(part: &Work, whole: &Work) -> f64 {
     let mut benches = (Bench::of(part), Bench::of(whole));
     let rounds = in_turn(
+        ROUNDS,
         &mut benches,
         |(part, _)| part.time::<Library>() / f64::from(part.work.call_count()),
         |(_, whole)| whole.time::<Library>() / f64::from(whole.work.call_count()),
@@ -47,6 +52,7 @@ pub fn share(part: &Work, whole: &Work) -> f64 {
 
 /// Both measurements in each round; which of them is first alternates.
 fn in_turn<B>(
+    rounds: usize,
     bench: &mut B,
     one: impl Fn(&mut B) -> f64,
     other: impl Fn(&mut B) -> f64,
@@ -60,7 +66,7 @@ fn in_turn<B>(
             (one(bench), by_other)
         }
     };
-    (0..ROUNDS).map(round).collect()
+    (0..rounds).map(round).collect()
 }
 
 /// Nanoseconds since then.
@@ -76,6 +82,7 @@ pub fn median(mut values: Vec<f64>) -> f64 {
 /// A work with the memory to play it in.
 struct Bench<'a> {
     work: &'a Work,
+    rounds: usize,
     regions: Vec<u8>,
     answers: Vec<u8>,
 }
@@ -83,15 +90,18 @@ struct Bench<'a> {
 impl Bench<'_> {
     #[allow(
         clippy::cast_possible_truncation,
+        clippy::cast_precision_loss,
         clippy::cast_sign_loss,
         reason = "a time is above 0, and the number of copies no greater than the cache allows"
     )]
     fn of(work: &Work) -> Bench<'_> {
-        let answers = vec![0; 12 * work.turns as usize];
-        let mut once = Bench { work, regions: work.start.clone(), answers };
+        let answers = vec![0; work.answer_bytes()];
+        let mut once = Bench { work, rounds: 0, regions: work.start.clone(), answers };
         let fastest = (0..20).map(|_| once.time::<Plain>()).fold(f64::INFINITY, f64::min);
         let copies = ((NANOSECONDS / fastest) as usize).min(CACHE / work.start.len()).max(1);
         once.regions = work.start.repeat(copies);
+        let rounds = NANOSECONDS_OF_ROUNDS / (fastest * copies as f64);
+        once.rounds = (rounds as usize).clamp(FEWEST_ROUNDS, ROUNDS);
         once
     }
 

@@ -1,4 +1,5 @@
-//! Calls played on a region, or on records, by the library or by the plain implementation.
+//! Calls played on a region, on records or on a script, by the library or by the plain
+//! implementation.
 
 use std::hint::black_box;
 use std::ops::Range;
@@ -10,7 +11,7 @@ use crate::work::Work;
 /// A key with a tag.
 pub type Item = (u32, u32);
 
-/// A call on a region, or on records.
+/// A call on a region, on records or on a script.
 #[derive(Clone)]
 pub enum Call {
     Put {
@@ -32,6 +33,10 @@ pub enum Call {
     Check,
     /// A check of records, which the bytes are instead of a region.
     Records,
+    /// A cut of a script, which the bytes are instead of a region; the answer is what is left.
+    Cut {
+        number: u32,
+    },
 }
 
 /// An implementation of the calls. Their answers are computed and not looked at.
@@ -43,6 +48,7 @@ pub trait Queue {
     fn run(region: &mut [u8], schedule: &[u8], answers: &mut [u8]);
     fn check(region: &[u8]);
     fn records(records: &[u8]);
+    fn cut(script: &[u8], number: u32, out: &mut [u8]);
 }
 
 /// The proved library.
@@ -75,6 +81,10 @@ impl Queue for Library {
 
     fn records(records: &[u8]) {
         black_box(calls::records(black_box(records)));
+    }
+
+    fn cut(script: &[u8], number: u32, out: &mut [u8]) {
+        black_box(calls::cut(script, number, out));
     }
 }
 
@@ -109,6 +119,10 @@ impl Queue for Plain {
     fn records(records: &[u8]) {
         _ = black_box(plain::check_records_by_position(black_box(records)));
     }
+
+    fn cut(script: &[u8], number: u32, out: &mut [u8]) {
+        _ = black_box(plain::cut(script, number, out));
+    }
 }
 
 /// Makes the calls of a work, one after the other.
@@ -124,6 +138,7 @@ pub fn play<Q: Queue>(work: &Work, region: &mut [u8], answers: &mut [u8]) {
             }
             Call::Check => Q::check(region),
             Call::Records => Q::records(region),
+            Call::Cut { number } => Q::cut(region, *number, answers),
         }
     }
 }

@@ -1,5 +1,7 @@
-//! What is measured: calls on a region, with the region as it stands before them; or on records.
+//! What is measured: calls on a region, with the region as it stands before them; or on records, or
+//! on a script.
 
+use checks::ending_scripts::LongScript;
 use mound::{Permission, Record, Shape, Verdict};
 
 use crate::native;
@@ -12,7 +14,7 @@ pub const PAIRS: u32 = 32;
 /// Calls to be made on a region.
 #[derive(Default)]
 pub struct Work {
-    /// The region before the calls, or the records.
+    /// The region before the calls, or the records, or the script.
     pub start: Vec<u8>,
     pub calls: Vec<Call>,
     /// The turns of all runs, eight bytes each.
@@ -25,6 +27,14 @@ pub struct Work {
 impl Work {
     pub fn call_count(&self) -> u32 {
         u32::try_from(self.calls.len()).expect("a work has few calls")
+    }
+
+    /// The bytes that the answers need: twelve for each turn, or those of a script that is cut.
+    pub fn answer_bytes(&self) -> usize {
+        match self.calls[..] {
+            [Call::Cut { .. }] => self.start.len(),
+            _ => 12 * self.turns as usize,
+        }
     }
 
     /// One run in which every second thread has begun a take and each other one a put, with half of
@@ -136,6 +146,12 @@ impl Work {
         assert_eq!(mound::check_records(&start), Ok(Verdict::Accepted));
         assert_eq!(plain::check_records_by_position(&start), Ok(Verdict::Accepted));
         Work { start, calls: vec![Call::Records; checks], ..Work::default() }
+    }
+
+    /// A cut of a script for the number that it shows.
+    pub fn cut(script: &LongScript) -> Work {
+        let start = script.text.clone().into_bytes();
+        Work { start, calls: vec![Call::Cut { number: script.number }], ..Work::default() }
     }
 
     /// The same calls on bytes in which the word behind this many others is out of any range.
