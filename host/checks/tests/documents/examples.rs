@@ -4,7 +4,7 @@
 use std::fs;
 use std::process::Command;
 
-use checks::program::{figures, printed};
+use checks::program::{cut, figures, printed};
 use mound::{Permission, Region, Shape, Turn};
 
 use crate::repository::{blocks, path};
@@ -42,19 +42,25 @@ fn the_picture_of_a_queue_has_its_words() {
     assert_eq!((bytes.len(), compared), (288, 27));
 }
 
-/// Two scripts of the script program, and one of the report, which ends in an empty line.
+/// Two scripts of the script program, one of the report, which ends in an empty line, and one that
+/// is cut down, behind a number's line. What a program prints stands in the next block.
 #[test]
 fn the_scripts_of_the_reference_print_what_it_says() {
     let blocks = blocks("docs/REFERENCE.md", "text");
-    let scripts = blocks.windows(2).filter(|pair| pair[0].starts_with("depth cells"));
-    let mut tried = [0, 0];
-    for pair in scripts {
-        let many = pair[0].ends_with("\n\n");
-        let program = if many { figures } else { printed };
-        assert_eq!(program(pair[0].as_bytes()), pair[1]);
-        tried[usize::from(many)] += 1;
+    let mut blocks = blocks.iter();
+    let mut tried = [0, 0, 0];
+    while let Some(block) = blocks.next() {
+        let Some((before, _)) = block.split_once("depth cells") else { continue };
+        let (program, index): (fn(&[u8]) -> String, usize) = match before {
+            "" if block.ends_with("\n\n") => (figures, 1),
+            "" => (printed, 0),
+            _ if before.trim_end().parse::<u32>().is_ok() => (cut, 2),
+            _ => continue,
+        };
+        assert_eq!(Some(&program(block.as_bytes())), blocks.next());
+        tried[index] += 1;
     }
-    assert_eq!(tried, [2, 1]);
+    assert_eq!(tried, [2, 1, 1]);
 }
 
 #[test]

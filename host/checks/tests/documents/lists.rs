@@ -1,7 +1,7 @@
 //! Tables, header and crates.txt list what there is, with its numbers.
 
 use checks::fields::place;
-use mound::{Answer, Operation, Permission, Record, Refusal, Shape, Turn};
+use mound::{Answer, Operation, Permission, Record, Refusal, Shape, Turn, MOST_SCRIPT_BYTES};
 
 use crate::repository::text;
 
@@ -105,6 +105,7 @@ fn the_header_has_permissions_kinds_and_ranges() {
         ("MOUND_GREATEST_TAG", u16::MAX.into()),
         ("MOUND_MOST_TURNS", Turn::MOST as u64),
         ("MOUND_MOST_RECORDS", Record::MOST as u64),
+        ("MOUND_MOST_SCRIPT_BYTES", MOST_SCRIPT_BYTES as u64),
         ("MOUND_KIND_PUT", kind(Operation::Put { key: 0, tag: 0 })),
         ("MOUND_KIND_TAKE", kind(Operation::Take { key: 0, tag: 0 })),
         ("MOUND_KIND_EMPTY", kind(Operation::Empty)),
@@ -118,7 +119,7 @@ fn the_header_has_permissions_kinds_and_ranges() {
 fn header_and_reference_have_every_call() {
     let [header, reference] = ["include/mound.h", "docs/REFERENCE.md"].map(text);
     let calls = exported();
-    assert!(calls.len() >= 8, "{calls:?}");
+    assert!(calls.len() >= 9, "{calls:?}");
     for call in calls {
         assert!(header.contains(&format!(" {call}(")), "include/mound.h lacks {call}");
         assert!(reference.contains(&format!("\n### {call}\n")), "docs/REFERENCE.md lacks {call}");
