@@ -1,7 +1,7 @@
 /*
  * A wake-up queue of two plugin threads, from C. Both put wake-ups, whose turns cross; then one takes the least, one takes the rest as a
- * list, and one loses its permission while it puts. Then records of threads that ran at the same time are checked. ./test builds this
- * program, runs it and compares what it prints with wake_ups.out.
+ * list, and one loses its permission while it puts. Then records of threads that ran at the same time are checked, and a script is cut
+ * down. ./test builds this program, runs it and compares what it prints with wake_ups.out.
  */
 #include <stdio.h>
 
@@ -76,6 +76,25 @@ static void check_records(const char *what, uint32_t put_position, uint32_t take
         report(what, answer);
 }
 
+/* Cuts a script down to the lines that a refusal needs, and prints these. */
+static void cut_script(const char *what, uint32_t refusal)
+{
+    static const char script[] =
+        "depth cells threads threshold permission\n"
+        "2 2 2 1 3\n"
+        "what thread a b\n"
+        "put 1 5 9\n"
+        "put 2 3 1\n"
+        "turn 1 0 0\n"
+        "take 1 0 0\n"
+        "turn 2 0 0\n";
+    uint8_t out[sizeof script];
+    uint64_t cut = mound_cut((const uint8_t *)script, sizeof script - 1, refusal, out, sizeof out);
+
+    report(what, mound_cut_refusal(cut));
+    printf("%.*s", (int)mound_cut_length(cut), (const char *)out);
+}
+
 int main(void)
 {
     static const uint8_t permissions[THREADS] = {MOUND_MAY_PUT_AND_TAKE, MOUND_MAY_PUT_AND_TAKE};
@@ -110,5 +129,8 @@ int main(void)
     check_records("records, the put first", 1, 2, 2 * MOUND_RECORD_BYTES);
     check_records("records, the take first", 2, 1, 2 * MOUND_RECORD_BYTES);
     check_records("records, cut short", 1, 2, 2 * MOUND_RECORD_BYTES - 1);
+
+    cut_script("a script cut down to where a thread is busy", MOUND_REFUSED_BUSY);
+    cut_script("the same to where no cell is free", MOUND_REFUSED_NO_FREE_CELL);
     return 0;
 }
