@@ -156,7 +156,7 @@ uint32_t mound_records(const uint8_t *records, size_t records_length);
  * numbers in one, which the functions below take apart; a refused call has written nothing.
  * Refusals: 2, 16. For 16 every line counts, those behind a refused layout too, and so does a script of more than 60,000 bytes.
  * Cost: each line is read once; a pass over n lines that keeps k copies the script's region n times and carries out at most
- * n * (log2(n) + k) lines, none of which checks the region; 400 kB of stack.
+ * n * (log2(n) + k) lines, none of which checks the region; 360 kB of stack.
  */
 uint64_t mound_cut(const uint8_t *script, size_t script_length, uint32_t number, uint8_t *out, size_t out_length);
 
