@@ -15,6 +15,7 @@ mod RowsRun
 mod RowsTrying
 pub mod ScriptIsItsLines
 mod ScriptsRead
+mod Slots
 pub mod StaysReadable
 mod Sublists
 mod Tables

@@ -4,10 +4,12 @@ use native.Mathlib.Omega.{arith}
 use mathlib.Core.Path.{_≡_, refl, sym, ap, subst, _∙_}
 use mathlib.Core.Bool.{Bool, true, false}
 use mathlib.Core.List.{List, [], _∷_, _++_, append-assoc}
+use mir.Syntax.{w64}
+use mir.Val.{Fits}
 use borrow.Author.Tests.{ne-eqb}
 use lib.Dec.{eqb}
 use lib.ListN.{length, take, drop, length-append, length-drop, drop-of-length-le}
-use lib.Seq.{drop-length, length-take-le, slice, take-at, take-length}
+use lib.Seq.{drop-at, drop-length, length-take-le, slice, take-at}
 use Rattle.region.specs.Answer.{done}
 use Rattle.region.specs.Pick.{pick}
 use Rattle.script.specs.Inner.{Ready}
@@ -16,7 +18,7 @@ use Rattle.script.specs.declared.reading.Setup.{Setup}
 use Rattle.script.proofs.Regions.{laid-ready}
 use Rattle.script.proofs.Setups.{fine-length, laid-length}
 use Rattle.cut.specs.Cut.{pass, passes}
-use Rattle.cut.specs.Inner.{Cuttable, PassReady, RowsCut, RowsIn, RowsRan, RowsTriable, RowsTried, Runnable, StatesRoom, rowsShow, triedOn}
+use Rattle.cut.specs.Inner.{Cuttable, LastLaid, LastReady, PassReady, RowsCut, RowsIn, RowsRan, RowsTriable, RowsTried, Runnable, StatesRoom, regionIn, rowsShow, slotOf, triedOn}
 use Rattle.cut.specs.declared.passes.Trial.{Trial}
 use Rattle.cut.proofs.PassesEnd.{passes-end}
 use Rattle.cut.proofs.RowsTrying.{slice-to-end}
@@ -24,81 +26,105 @@ use Rattle.cut.proofs.Sublists.{part-same}
 use Rattle.cut.proofs.Tried.{pass-part, passes-same}
 use Rattle.cut.proofs.TriedOn.{pass-is}
 
--- The region laid out at the start of the states.
+-- The region laid out in the last slot.
+module _ {u : Setup} {l : List ℕ} (h : LastReady u l) where
+  pub laid-ends : 183628 ≤ length l
+  laid-ends = omega (arith, h .room)
+
+  part-long : length (take (183628 - 170560) (drop 170560 l)) ≡ 13068
+  part-long = length-take-le 13068 (drop 170560 l) (omega (arith, length-drop 170560 l, h .room))
+
+  pub lay-ready : (setupRefusal u ≡ 0) × (length (take (183628 - 170560) (drop 170560 l)) ≡ 13068)
+  lay-ready = (h .accepted, part-long)
+
+  pub last-laid : (g : List ℕ) → g ≡ laidRegion u ++ drop (regionLength u) (take (183628 - 170560) (drop 170560 l))
+      → length g ≡ length (take (183628 - 170560) (drop 170560 l))
+      → LastLaid u (take 170560 l ++ (g ++ drop (183628 - 170560) (drop 170560 l)))
+  unfolding regionIn slotOf
+  last-laid g laid z =
+      let rest : List ℕ = drop (183628 - 170560) (drop 170560 l) in
+      let front : length (take 170560 l) ≡ 170560 = length-take-le 170560 l (omega (arith, h .room)) in
+      let at : length (take 170560 l ++ (g ++ rest)) - 13120 ≡ 170560 =
+      omega (
+        arith,
+        length-append (take 170560 l) (g ++ rest),
+        length-append g rest,
+        length-drop (183628 - 170560) (drop 170560 l),
+        length-drop 170560 l,
+        front,
+        part-long,
+        h .room,
+      ) in
+      record {
+        laid =
+            ap (λ k. take (regionLength u) (drop k (take 170560 l ++ (g ++ rest)))) at
+            ∙ ap (take (regionLength u)) (drop-at (take 170560 l) (g ++ rest) 170560 front)
+            ∙ ap (λ x. take (regionLength u) (x ++ rest)) laid
+            ∙ ap (take (regionLength u)) (append-assoc (laidRegion u) (drop (regionLength u) (take (183628 - 170560) (drop 170560 l))) rest)
+            ∙ take-at (laidRegion u) (drop (regionLength u) (take (183628 - 170560) (drop 170560 l)) ++ rest) (regionLength u)
+            (laid-length u (h .accepted));
+      }
+
 module _ {u : Setup} {trial : Trial} {t rows l : List ℕ} (h : Cuttable u trial t rows l) where
-  pub states-room : 13068 ≤ length l
-  states-room = omega (arith, h .room)
+  pub run-fits : Fits w64 (170560 + trial .size)
+  run-fits = record { fits = omega (arith, fine-length u (h .accepted), h .trial-of .size-same) }
 
-  pub room-long : 13068 ≡ length (take 13068 l)
-  room-long = sym (length-take-le 13068 l states-room)
+  pub last-ready : LastReady u l
+  last-ready = record { accepted = h .accepted; room = h .room }
 
-  pub lay-ready : (setupRefusal u ≡ 0) × (length (take 13068 l) ≡ 13068)
-  lay-ready = (h .accepted, sym room-long)
-
-  module _ (g : List ℕ) (laid : g ≡ laidRegion u ++ drop (regionLength u) (take 13068 l)) where
-    abbrev states : List ℕ
-    states = g ++ drop 13068 l
-
-    size-is : length (laidRegion u) ≡ trial .size
-    size-is = laid-length u (h .accepted) ∙ sym (h .trial-of .size-same)
-
-    pub region-there : take (trial .size) (g ++ drop 13068 l) ≡ laidRegion u
-    region-there =
-        ap (λ x. take (trial .size) (x ++ drop 13068 l)) laid
-        ∙ ap (take (trial .size)) (append-assoc (laidRegion u) (drop (regionLength u) (take 13068 l)) (drop 13068 l))
-        ∙ take-at (laidRegion u) (drop (regionLength u) (take 13068 l) ++ drop 13068 l) (trial .size) size-is
+  module _ (l₁ : List ℕ) (e : LastLaid u l₁) (same : length l₁ ≡ length l) where
+    region-there : regionIn (trial .size) l₁ ≡ laidRegion u
+    region-there = ap (λ k. regionIn k l₁) (h .trial-of .size-same) ∙ e .laid
 
     small : trial .size ≤ 13068
     small = omega (arith, fine-length u (h .accepted), h .trial-of .size-same)
 
-    states-long : length states ≡ 182952
-    states-long =
-        omega (
-          arith,
-          length-append g (drop 13068 l),
-          ap length laid,
-          length-append (laidRegion u) (drop (regionLength u) (take 13068 l)),
-          length-drop (regionLength u) (take 13068 l),
-          length-drop 13068 l,
-          room-long,
-          laid-length u (h .accepted),
-          fine-length u (h .accepted),
-          h .room,
-        )
-
-    pub size-room : trial .size ≤ length (g ++ drop 13068 l)
-    size-room = omega (arith, small, states-long)
-
-    pub size-part : trial .size ≡ length (take (trial .size) (g ++ drop 13068 l))
-    size-part = sym (length-take-le (trial .size) states size-room)
-
-    ready : Ready (trial .frame) (take (trial .size) states)
+    ready : Ready (trial .frame) (regionIn (trial .size) l₁)
     ready =
         subst (Ready (trial .frame)) (sym region-there)
         (subst (λ f. Ready f (laidRegion u)) (sym (h .trial-of .frame-same)) (laid-ready u (h .accepted)))
 
-    pub run-ready : Runnable (trial .frame) (take (trial .size) (g ++ drop 13068 l)) t rows 0 (length rows)
-    run-ready = record { ready = ready; there = h .there; within = omega arith }
-
-    pub all-shown : (b′ : List ℕ) (q : Bool) → RowsRan (trial .number) t rows 0 (length rows) (take (trial .size) (g ++ drop 13068 l)) b′ q
-        → q ≡ rowsShow (trial .number) t (laidRegion u) rows
-    all-shown b′ q e =
-        e .shown
-        ∙ ap (λ b. rowsShow (trial .number) t b (slice 0 (length rows) rows)) region-there
-        ∙ ap (rowsShow (trial .number) t (laidRegion u)) (slice-to-end 0 rows)
-
-    pub pass-able : (first : ℕ) → first < length rows → RowsTriable trial t rows first (length rows) (length rows) (g ++ drop 13068 l)
+    pub pass-able : (first : ℕ) → first < length rows → RowsTriable trial t rows first (length rows) (length rows) l₁
     pass-able first some =
         record {
           able = record { ready = ready; there = h .there; some = some; before = omega arith; within = omega arith };
-          room = record { halvings = 13; few = omega (arith, h .few); fit = omega (arith, small, states-long) };
+          small = small;
+          room = record { halvings = 13; few = omega (arith, h .few); fit = omega (arith, same, h .room) };
         }
 
     pub pass-tried : (first r : ℕ) (rows′ : List ℕ)
-        → RowsTried (trial .number) t rows rows′ first (length rows) (length rows) (take (trial .size) (g ++ drop 13068 l)) r
+        → RowsTried (trial .number) t rows rows′ first (length rows) (length rows) (regionIn (trial .size) l₁) r
         → RowsTried (trial .number) t rows rows′ first (length rows) (length rows) (laidRegion u) r
     pass-tried first r rows′ e =
         subst (λ b. RowsTried (trial .number) t rows rows′ first (length rows) (length rows) b r) region-there e
+
+    pub run-ends : 170560 + trial .size ≤ length l₁
+    run-ends = omega (arith, small, same, h .room)
+
+    module _ (end : ℕ) (ee : end ≡ 170560 + trial .size) where
+      part-is : take (end - 170560) (drop 170560 l₁) ≡ laidRegion u
+      unfolding regionIn slotOf
+      part-is =
+          let k : end - 170560 ≡ trial .size = omega arith in
+          let at : 170560 ≡ length l₁ - 13120 = omega (arith, same, h .room) in
+          ap (λ j. take j (drop 170560 l₁)) k ∙ ap (λ j. take (trial .size) (drop j l₁)) at ∙ region-there
+
+      pub run-ready : Runnable (trial .frame) (take (end - 170560) (drop 170560 l₁)) t rows 0 (length rows)
+      run-ready =
+          record {
+            ready =
+                subst (Ready (trial .frame)) (sym part-is)
+                (subst (λ f. Ready f (laidRegion u)) (sym (h .trial-of .frame-same)) (laid-ready u (h .accepted)));
+            there = h .there;
+            within = omega arith;
+          }
+
+      pub all-shown : (b′ : List ℕ) (q : Bool) → RowsRan (trial .number) t rows 0 (length rows) (take (end - 170560) (drop 170560 l₁)) b′ q
+          → q ≡ rowsShow (trial .number) t (laidRegion u) rows
+      all-shown b′ q e =
+          e .shown
+          ∙ ap (λ b. rowsShow (trial .number) t b (slice 0 (length rows) rows)) part-is
+          ∙ ap (rowsShow (trial .number) t (laidRegion u)) (slice-to-end 0 rows)
 
 -- The loop over passes: what passes leave of the lines that are left, from here, is what they leave of all.
 pub record Cutting (u : Setup) (trial : Trial) (t rows₀ l₀ rows l : List ℕ) (first : ℕ) : Type 0 where

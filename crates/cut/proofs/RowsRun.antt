@@ -1,4 +1,4 @@
--- Running lines of the table: one pass of the loop over plain variables; a refusal told from others; the copy of a region. Assumes nothing.
+-- Running lines of the table: one pass of the loop over plain variables; a refusal told from others. Assumes nothing.
 use Prim.Native.Nat.{ℕ, _+_, _*_, _≤_, _<_}
 use native.Mathlib.Numerals.{add-one}
 use native.Mathlib.Omega.{arith}
@@ -113,51 +113,3 @@ module _ {n : ℕ} {f : Frame} {t rows : List ℕ} {from to : ℕ} {b₀ b : Lis
             region =
                 ap (rowsRegion t (slice (k + 1) to rows)) (sym next) ∙ ap (λ l. rowsRegion t l b) (sym first) ∙ e .region;
           }
-
--- The copy: the first k bytes stand behind the first size ones too.
-pub record Copying (l₀ : List ℕ) (size : ℕ) (l : List ℕ) (k : ℕ) : Type 0 where
-  pub room : size + size ≤ length l₀
-  pub within : k ≤ size
-  pub same : length l ≡ length l₀
-  pub bytes : l ≡ paste l₀ size l₀ k
-
-pub copy-start : (l : List ℕ) (size : ℕ) → size + size ≤ length l → Copying l size l 0
-copy-start l size h = record { room = h; within = omega arith; same = refl; bytes = paste-zero l size l }
-
-module _ {l₀ : List ℕ} {size : ℕ} {l : List ℕ} {k : ℕ} (e : Copying l₀ size l k) where
-  pub copy-same : length l ≡ length l₀
-  copy-same = e .same
-
-  pub copy-end : size ≤ k → l ≡ paste l₀ size l₀ size
-  copy-end h =
-      let all : k ≡ size = omega (arith, e .within) in
-      e .bytes ∙ ap (paste l₀ size l₀) all
-
-  module _ (h : k < size) where
-    pub copy-read : k < length l
-    copy-read = omega (arith, e .room, e .same)
-
-    pub copy-write : size + k < length l
-    copy-write = omega (arith, e .room, e .same)
-
-    -- the byte read is one that the copy does not touch
-    before : getD l k 0 ≡ getD l₀ k 0
-    before =
-        ap (λ x. getD x k 0) (e .bytes)
-        ∙ List·getD-append (take size l₀ ++ take k l₀) (drop (size + k) l₀) 0 k
-        (omega (arith, e .room, length-append (take size l₀) (take k l₀), length-take size l₀))
-        ∙ List·getD-append (take size l₀) (take k l₀) 0 k (omega (arith, e .room, length-take size l₀))
-        ∙ getD-take size l₀ k 0 h
-
-    pub copy-more : Copying l₀ size (set l (size + k) (getD l k 0)) (k + 1)
-    copy-more =
-        record {
-          room = e .room;
-          within = omega arith;
-          same = length-set l (size + k) (getD l k 0) ∙ e .same;
-          bytes =
-              ap (set l (size + k)) before
-              ∙ ap (λ x. set x (size + k) (getD l₀ k 0)) (e .bytes)
-              ∙ paste-suc l₀ size l₀ k 0 (omega (arith, e .room)) (omega (arith, e .room))
-              ∙ ap (paste l₀ size l₀) (sym (add-one k));
-        }

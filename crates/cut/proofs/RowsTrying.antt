@@ -1,22 +1,25 @@
 -- Lines tried one by one and by halves: each way out of the functions, over plain variables. Assumes nothing.
 use Prim.Native.Nat.{ℕ, zero, suc, _+_, _-_, _*_, _/_, _^_, _≤_, _<_}
-use native.Mathlib.Nat.{mul-suc, pow-suc}
+use native.Mathlib.Nat.{pow-suc}
 use native.Mathlib.Numerals.{add-one}
 use native.Mathlib.Omega.{arith}
 use mathlib.Core.Path.{_≡_, refl, sym, ap, subst, _∙_}
 use mathlib.Core.Bool.{Bool, true, false}
-use mathlib.Core.List.{List, [], _∷_, _++_, append-assoc}
+use mathlib.Core.List.{List, [], _∷_, _++_}
+use mir.Syntax.{w64}
+use mir.Val.{Fits}
 use borrow.Author.Tests.{eqb-false, eqb-true}
 use lib.Dec.{eqb}
-use lib.ListN.{length, getD, set, take, drop, length-append, length-drop, length-set, length-take, take-append-drop}
-use lib.Seq.{drop-append-le, drop-at, drop-cons, drop-set-lt, getD-set-other, getD-set-same, length-take-le, paste, length-paste, slice, slice-cons, slice-empty, take-all, take-at, take-length, take-set-le, take-take}
+use lib.ListN.{length, getD, set, take, drop, length-set, take-append-drop}
+use lib.Seq.{drop-append-le, drop-cons, drop-set-lt, getD-set-other, getD-set-same, length-take-le, slice, slice-cons, slice-empty, take-length, take-set-le, take-take}
 use Rattle.region.specs.Pick.{pick}
 use Rattle.region.specs.declared.frame.Frame.{Frame}
 use Rattle.script.specs.Inner.{Ready}
 use Rattle.script.specs.Script.{callBytes}
 use Rattle.script.proofs.Regions.{still-ready}
-use Rattle.cut.specs.Inner.{HalfRan, HalfReady, RowsIn, RowsRan, RowsTriable, RowsTried, Runnable, StatesRoom, Triable, callIn, leftOn, regionAfter, rowsRegion, rowsShow, triedOn}
+use Rattle.cut.specs.Inner.{HalfRan, HalfReady, RowsIn, RowsRan, RowsTriable, RowsTried, Runnable, StatesRoom, Triable, callIn, copiedDown, regionAfter, regionIn, rowsRegion, rowsShow, slotOf, triedOn}
 use Rattle.cut.specs.declared.passes.Trial.{Trial}
+use Rattle.cut.proofs.Slots.{copy-is, last-kept, last-long, pair-room, region-long, slot-before, slot-kept, slots-long}
 use Rattle.cut.proofs.TriedOn.{tried-both, tried-one}
 
 -- A region is ready after lines that were run on it.
@@ -93,91 +96,89 @@ module _ {trial : Trial} {t rows : List ℕ} {at kept : ℕ} {b : List ℕ} (h :
               h .there .each i (omega (arith, length-set rows (kept - 1) (getD rows at 0))),
             )
 
--- Room for regions: for two, and for those of each half.
-record Halved (m size room : ℕ) : Type 0 where
-  two : size + size ≤ room
-  upper : StatesRoom (m - m / 2) size (room - size)
-  lower : StatesRoom (m / 2) size room
+-- Slots: for two regions, and for those of each half.
+record Halved (m room : ℕ) : Type 0 where
+  two : 26240 ≤ room
+  upper : StatesRoom (m - m / 2) (room - 13120)
+  lower : StatesRoom (m / 2) room
 
-halved : (m size room : ℕ) → 2 ≤ m → StatesRoom m size room → Halved m size room
-halved m size room h r = ways (r .halvings) (r .few) (r .fit)
+halved : (m room : ℕ) → 2 ≤ m → StatesRoom m room → Halved m room
+halved m room h r = ways (r .halvings) (r .few) (r .fit)
   where
-    ways : (k : ℕ) → m ≤ 2 ^ k → size * suc k ≤ room → Halved m size room
+    ways : (k : ℕ) → m ≤ 2 ^ k → 13120 * suc k ≤ room → Halved m room
     ways zero few fit = absurd (omega arith)
     ways (suc k) few fit =
         let twice = pow-suc 2 k in
-        let more = mul-suc size (suc k) in
-        let once = mul-suc size k in
         record {
           two = omega arith;
           upper = record { halvings = k; few = omega arith; fit = omega arith };
           lower = record { halvings = suc k; few = omega arith; fit = fit };
         }
 
-pub one-room : {m size room : ℕ} → StatesRoom m size room → size ≤ room
-one-room {m} {size} r = omega (arith, mul-suc size (r .halvings), r .fit)
-
--- A part of a list stored anew.
-part-before : (a : ℕ) (xs ys : List ℕ) → a ≤ length xs → take a (take a xs ++ ys) ≡ take a xs
-part-before a xs ys h = take-at (take a xs) ys a (length-take-le a xs h)
-
-part-behind : (a : ℕ) (xs ys : List ℕ) → a ≤ length xs → drop a (take a xs ++ ys) ≡ ys
-part-behind a xs ys h = drop-at (take a xs) ys a (length-take-le a xs h)
+one-slot : {m room : ℕ} → StatesRoom m room → 13120 ≤ room
+one-slot {m} r = omega (arith, r .fit)
 
 -- Lines run on a copy.
 module _ {trial : Trial} {t rows : List ℕ} {from to : ℕ} {l : List ℕ} (h : HalfReady trial t rows from to l) where
-  abbrev bytes : ℕ
-  bytes = trial .size
+  pub two-slots : 26240 ≤ length l
+  two-slots = h .room
 
-  abbrev whole-region : List ℕ
-  whole-region = take bytes l
+  pub pair-fits : 13120 + trial .size ≤ length (take (length l - (length l - 26240)) (drop (length l - 26240) l))
+  pair-fits = pair-room (trial .size) (h .small) l (h .room)
 
-  fits : bytes ≤ length l
-  fits = omega (arith, h .room)
+  module _ (p′ : List ℕ) (copied : p′ ≡ copiedDown (take (length l - (length l - 26240)) (drop (length l - 26240) l)) (trial .size)) where
+    abbrev l₁ : List ℕ
+    l₁ = take (length l - 26240) l ++ (p′ ++ drop (length l - (length l - 26240)) (drop (length l - 26240) l))
 
-  pub copy-room : bytes + bytes ≤ length l
-  copy-room = h .room
+    pub part-ends : (length l - 26240) + trial .size
+        ≤ length (take (length l - 26240) l ++ (p′ ++ drop (length l - (length l - 26240)) (drop (length l - 26240) l)))
+    part-ends = omega (arith, slots-long (trial .size) (h .small) l (h .room) p′ copied, h .small, h .room)
 
-  pub part-ends : (l₁ : List ℕ) → length l₁ ≡ length l → bytes + bytes ≤ length l₁
-  part-ends l₁ z = omega (arith, h .room)
+    module _ (end : ℕ) (ee : end ≡ (length l - 26240) + trial .size) where
+      part-is : take (end - (length l - 26240)) (drop (length l - 26240) l₁) ≡ regionIn (trial .size) l
+      part-is = copy-is (trial .size) (h .small) l (h .room) p′ copied end ee
 
-  module _ (end : ℕ) (ee : end ≡ bytes + bytes) (l₁ : List ℕ) (copied : l₁ ≡ paste l bytes l bytes) where
-    copy-is : l₁ ≡ whole-region ++ (whole-region ++ drop (bytes + bytes) l)
-    copy-is = copied ∙ append-assoc whole-region whole-region (drop (bytes + bytes) l)
+      pub half-runs :
+          Runnable (trial .frame)
+          (take (end - (length l - 26240))
+          (drop (length l - 26240)
+          (take (length l - 26240) l ++ (p′ ++ drop (length l - (length l - 26240)) (drop (length l - 26240) l)))))
+          t rows from to
+      half-runs =
+          record { ready = subst (Ready (trial .frame)) (sym part-is) (h .ready); there = h .there; within = h .within }
 
-    copy-long : length l₁ ≡ length l
-    copy-long = ap length copied ∙ length-paste l bytes l bytes (h .room) fits
-
-    copy-first : take bytes l₁ ≡ whole-region
-    copy-first = ap (take bytes) copy-is ∙ part-before bytes l (whole-region ++ drop (bytes + bytes) l) fits
-
-    copy-second : take (end - bytes) (drop bytes l₁) ≡ whole-region
-    copy-second =
-        let k : end - bytes ≡ bytes = omega arith in
-        ap (λ j. take j (drop bytes l₁)) k
-        ∙ ap (λ x. take bytes (drop bytes x)) copy-is
-        ∙ ap (take bytes) (part-behind bytes l (whole-region ++ drop (bytes + bytes) l) fits)
-        ∙ take-at whole-region (drop (bytes + bytes) l) bytes (length-take-le bytes l fits)
-
-    pub half-runs : Runnable (trial .frame) (take (end - bytes) (drop bytes l₁)) t rows from to
-    half-runs =
-        record { ready = subst (Ready (trial .frame)) (sym copy-second) (h .ready); there = h .there; within = h .within }
-
-    pub half-ran : (b′ : List ℕ) (q : Bool) → RowsRan (trial .number) t rows from to (take (end - bytes) (drop bytes l₁)) b′ q
-        → length b′ ≡ length (take (end - bytes) (drop bytes l₁))
-        → HalfRan trial t rows from to l (take bytes l₁ ++ (b′ ++ drop (end - bytes) (drop bytes l₁))) q
-    half-ran b′ q e same =
-        let inside : bytes ≤ length l₁ = omega (arith, copy-long, fits) in
-        let rest : List ℕ = drop (end - bytes) (drop bytes l₁) in
-        record {
-          kept = part-before bytes l₁ (b′ ++ rest) inside ∙ copy-first;
-          shown = e .shown ∙ ap (λ x. rowsShow (trial .number) t x (slice from to rows)) copy-second;
-          region = λ g.
-              ap (take bytes) (part-behind bytes l₁ (b′ ++ rest) inside)
-              ∙ take-at b′ rest bytes (same ∙ ap length copy-second ∙ length-take-le bytes l fits)
-              ∙ e .region g
-              ∙ ap (rowsRegion t (slice from to rows)) copy-second;
-        }
+      pub half-ran : (b′ : List ℕ) (q : Bool)
+          → RowsRan (trial .number) t rows from to
+          (take (end - (length l - 26240))
+          (drop (length l - 26240)
+          (take (length l - 26240) l ++ (p′ ++ drop (length l - (length l - 26240)) (drop (length l - 26240) l)))))
+          b′ q
+          → length b′
+          ≡ length
+          (take (end - (length l - 26240))
+          (drop (length l - 26240)
+          (take (length l - 26240) l ++ (p′ ++ drop (length l - (length l - 26240)) (drop (length l - 26240) l)))))
+          → HalfRan trial t rows from to l
+          (take (length l - 26240)
+          (take (length l - 26240) l ++ (p′ ++ drop (length l - (length l - 26240)) (drop (length l - 26240) l)))
+          ++ (b′
+          ++ drop (end - (length l - 26240))
+          (drop (length l - 26240)
+          (take (length l - 26240) l ++ (p′ ++ drop (length l - (length l - 26240)) (drop (length l - 26240) l))))))
+          q
+      half-ran b′ q e same =
+          let long : length b′ ≡ trial .size =
+          same
+          ∙ ap length part-is
+          ∙ region-long (trial .size) l (omega (arith, h .small)) (omega (arith, h .room)) in
+          record {
+            kept = slot-kept (trial .size) (h .small) l (h .room) p′ copied end ee b′ long;
+            shown = e .shown ∙ ap (λ x. rowsShow (trial .number) t x (slice from to rows)) part-is;
+            region = λ g.
+                slot-before (trial .size) (h .small) l (h .room) p′ copied end ee b′ long
+                ∙ e .region g
+                ∙ ap (rowsRegion t (slice from to rows)) part-is;
+          }
 
 module _ {trial : Trial} {t rows : List ℕ} {from to kept : ℕ} {l : List ℕ} (h : RowsTriable trial t rows from to kept l) where
   abbrev n : ℕ
@@ -187,36 +188,47 @@ module _ {trial : Trial} {t rows : List ℕ} {from to kept : ℕ} {l : List ℕ}
   size = trial .size
 
   abbrev region : List ℕ
-  region = take size l
+  region = regionIn size l
 
-  pub size-fits : size ≤ length l
-  size-fits = one-room (h .room)
+  pub slot-fits : 13120 ≤ length l
+  slot-fits = one-slot (h .room)
 
-  pub size-long : size ≡ length (take size l)
-  size-long = sym (length-take-le size l size-fits)
+  pub last-ends : (length l - 13120) + trial .size ≤ length l
+  last-ends = omega (arith, slot-fits, h .small)
+
+  pub last-fits : length l < 2 ^ 64 → Fits w64 ((length l - 13120) + trial .size)
+  last-fits z = record { fits = omega (arith, last-ends) }
 
   -- One line.
-  module _ (one : to - from ≡ 1) where
+  module _ (one : to - from ≡ 1) (end : ℕ) (ee : end ≡ (length l - 13120) + trial .size) where
     only : from + 1 ≡ to
     only = omega (arith, h .able .some)
 
-    pub one-able : Triable trial t rows from (from + 1) kept (take size l)
-    one-able = subst (λ k. Triable trial t rows from k kept region) (sym only) (h .able)
+    last-is : take (end - (length l - 13120)) (drop (length l - 13120) l) ≡ region
+    unfolding regionIn slotOf
+    last-is =
+        let k : end - (length l - 13120) ≡ size = omega arith in
+        ap (λ j. take j (drop (length l - 13120) l)) k
 
-    pub one-tried : (rows′ : List ℕ) (r : ℕ) → RowsTried n t rows rows′ from (from + 1) kept (take size l) r
-        → RowsTried n t rows rows′ from to kept (take size l) r
-    one-tried rows′ r e = subst (λ k. RowsTried n t rows rows′ from k kept region r) only e
+    pub one-able : Triable trial t rows from (from + 1) kept (take (end - (length l - 13120)) (drop (length l - 13120) l))
+    one-able =
+        subst (Triable trial t rows from (from + 1) kept) (sym last-is)
+        (subst (λ k. Triable trial t rows from k kept region) (sym only) (h .able))
+
+    pub one-tried : (rows′ : List ℕ) (r : ℕ)
+        → RowsTried n t rows rows′ from (from + 1) kept (take (end - (length l - 13120)) (drop (length l - 13120) l)) r
+        → RowsTried n t rows rows′ from to kept (regionIn (trial .size) l) r
+    one-tried rows′ r e =
+        subst (λ k. RowsTried n t rows rows′ from k kept region r) only
+        (subst (λ x. RowsTried n t rows rows′ from (from + 1) kept x r) last-is e)
 
   -- Two halves.
   module _ (more : to - from ≡ 1 → ⊥) where
     many : 2 ≤ to - from
     many = omega (arith, h .able .some)
 
-    rooms : Halved (to - from) size (length l)
-    rooms = halved (to - from) size (length l) many (h .room)
-
-    two-fit : size + size ≤ length l
-    two-fit = rooms .two
+    rooms : Halved (to - from) (length l)
+    rooms = halved (to - from) (length l) many (h .room)
 
     module _ (mid : ℕ) (em : mid ≡ from + (to - from) / 2) where
       first-some : from < mid
@@ -243,7 +255,8 @@ module _ {trial : Trial} {t rows : List ℕ} {from to kept : ℕ} {l : List ℕ}
             ready = h .able .ready;
             there = h .able .there;
             within = omega (arith, second-some, h .able .before, h .able .within);
-            room = two-fit;
+            small = h .small;
+            room = rooms .two;
           }
 
       module _ (l₂ : List ℕ) (q : Bool) (e : HalfRan trial t rows from mid l l₂ q) (long : length l₂ ≡ length l) where
@@ -260,7 +273,7 @@ module _ {trial : Trial} {t rows : List ℕ} {from to kept : ℕ} {l : List ℕ}
             ∙ tried-both n t (slice from mid rows) (slice mid to rows) region (drop kept rows)
             ∙ ap (λ x. triedOn n t region (slice from mid rows) (second x)) (sym (e .shown) ∙ g)
 
-        first-able : (rows₁ : List ℕ) (left : ℕ) (x : List ℕ) → take size x ≡ region → length x ≡ length l → RowsIn t rows₁ → mid ≤ left
+        first-able : (rows₁ : List ℕ) (left : ℕ) (x : List ℕ) → regionIn size x ≡ region → length x ≡ length l → RowsIn t rows₁ → mid ≤ left
             → left ≤ length rows₁ → RowsTriable trial t rows₁ from mid left x
         first-able rows₁ left x ex lx there least most =
             record {
@@ -272,18 +285,22 @@ module _ {trial : Trial} {t rows : List ℕ} {from to kept : ℕ} {l : List ℕ}
                     before = least;
                     within = most;
                   };
+              small = h .small;
               room =
                   let half : mid - from ≡ (to - from) / 2 = omega arith in
-                  subst (λ k. StatesRoom k size (length x)) (sym half)
-                  (subst (StatesRoom ((to - from) / 2) size) (sym lx) (rooms .lower));
+                  subst (λ k. StatesRoom k (length x)) (sym half) (subst (StatesRoom ((to - from) / 2)) (sym lx) (rooms .lower));
             }
+
+        first-kept : regionIn size l₂ ≡ region
+        unfolding regionIn
+        first-kept = ap (take size) (e .kept)
 
         pub shown-able : RowsTriable trial t rows from mid kept l₂
         shown-able =
-            first-able rows kept l₂ (e .kept) long (h .able .there) (omega (arith, second-some, h .able .before)) (h .able .within)
+            first-able rows kept l₂ first-kept long (h .able .there) (omega (arith, second-some, h .able .before)) (h .able .within)
 
-        pub shown-tried : q ≡ true → (rows′ : List ℕ) (r : ℕ) → RowsTried n t rows rows′ from mid kept (take size l₂) r
-            → RowsTried n t rows rows′ from to kept (take size l) r
+        pub shown-tried : q ≡ true → (rows′ : List ℕ) (r : ℕ) → RowsTried n t rows rows′ from mid kept (regionIn (trial .size) l₂) r
+            → RowsTried n t rows rows′ from to kept (regionIn (trial .size) l) r
         unfolding second pick
         shown-tried g rows′ r d =
             record {
@@ -291,21 +308,20 @@ module _ {trial : Trial} {t rows : List ℕ} {from to kept : ℕ} {l : List ℕ}
               most = d .most;
               there = d .there;
               front = d .front;
-              left = d .left ∙ ap (λ x. triedOn n t x (slice from mid rows) (drop kept rows)) (e .kept) ∙ sym (whole true g);
+              left = d .left ∙ ap (λ x. triedOn n t x (slice from mid rows) (drop kept rows)) first-kept ∙ sym (whole true g);
             }
 
-        pub second-start : size ≤ length l₂
-        second-start = omega (arith, long, size-fits)
+        pub before-fits : length l - 13120 ≤ length l₂
+        before-fits = omega (arith, long)
+
+        pub before-long : length l - 13120 ≡ length (take (length l - 13120) l₂)
+        before-long = sym (length-take-le (length l - 13120) l₂ before-fits)
 
         module _ (g : q ≡ false) where
-          -- the room behind the first region
-          behind : take (length l₂ - size) (drop size l₂) ≡ drop size l₂
-          behind = take-all (length l₂ - size) (drop size l₂) (omega (arith, length-drop size l₂))
+          second-region : regionIn size (take (length l - 13120) l₂) ≡ rowsRegion t (slice from mid rows) region
+          second-region = e .region g
 
-          second-region : take size (take (length l₂ - size) (drop size l₂)) ≡ rowsRegion t (slice from mid rows) region
-          second-region = ap (take size) behind ∙ e .region g
-
-          pub second-able : RowsTriable trial t rows mid to kept (take (length l₂ - size) (drop size l₂))
+          pub second-able : RowsTriable trial t rows mid to kept (take (length l - 13120) l₂)
           second-able =
               record {
                 able =
@@ -318,40 +334,38 @@ module _ {trial : Trial} {t rows : List ℕ} {from to kept : ℕ} {l : List ℕ}
                       before = h .able .before;
                       within = h .able .within;
                     };
+                small = h .small;
                 room =
-                    let room : length (take (length l₂ - size) (drop size l₂)) ≡ length l - size =
-                    ap length behind ∙ length-drop size l₂ ∙ ap (λ k. k - size) long in
-                    subst (λ k. StatesRoom k size (length (take (length l₂ - size) (drop size l₂)))) (sym second-part)
-                    (subst (StatesRoom ((to - from) - (to - from) / 2) size) (sym room) (rooms .upper));
+                    subst (λ k. StatesRoom k (length (take (length l - 13120) l₂))) (sym second-part)
+                    (subst (StatesRoom ((to - from) - (to - from) / 2)) before-long (rooms .upper));
               }
 
           -- the second half was tried
-          module _ (rows₁ : List ℕ) (left : ℕ) (d : RowsTried n t rows rows₁ mid to kept (take size (take (length l₂ - size) (drop size l₂))) left)
-              (same-rows : length rows₁ ≡ length rows) (x : List ℕ) where
-            third-kept : take size (take size l₂ ++ (x ++ drop (length l₂ - size) (drop size l₂))) ≡ region
-            third-kept = part-before size l₂ (x ++ drop (length l₂ - size) (drop size l₂)) second-start ∙ e .kept
+          module _ (rows₁ : List ℕ) (left : ℕ) (d : RowsTried n t rows rows₁ mid to kept (regionIn (trial .size) (take (length l - 13120) l₂)) left)
+              (same-rows : length rows₁ ≡ length rows) (x : List ℕ) (same-x : length x ≡ length (take (length l - 13120) l₂)) where
+            abbrev l₃ : List ℕ
+            l₃ = x ++ drop (length l - 13120) l₂
 
-            pub first-half-able : length x ≡ length (take (length l₂ - size) (drop size l₂))
-                → RowsTriable trial t rows₁ from mid left (take size l₂ ++ (x ++ drop (length l₂ - size) (drop size l₂)))
-            first-half-able z =
-                let all : length (take size l₂ ++ (x ++ drop (length l₂ - size) (drop size l₂))) ≡ length l =
-                omega (
-                  arith,
-                  length-append (take size l₂) (x ++ drop (length l₂ - size) (drop size l₂)),
-                  length-append x (drop (length l₂ - size) (drop size l₂)),
-                  length-drop (length l₂ - size) (drop size l₂),
-                  length-drop size l₂,
-                  length-take-le size l₂ second-start,
-                  ap length behind,
-                  long,
-                  size-fits,
-                ) in
-                first-able rows₁ left (take size l₂ ++ (x ++ drop (length l₂ - size) (drop size l₂))) third-kept all (d .there) (d .least)
-                (omega (arith, d .most, h .able .within))
+            same-cut : length x ≡ length (take (length l₂ - 13120) l₂)
+            same-cut = same-x ∙ ap (λ k. length (take (k - 13120) l₂)) (sym long)
+
+            l₃-is : x ++ drop (length l₂ - 13120) l₂ ≡ l₃
+            l₃-is = ap (λ k. x ++ drop (k - 13120) l₂) long
+
+            third-kept : regionIn size l₃ ≡ region
+            unfolding regionIn
+            third-kept =
+                ap (λ y. take size (slotOf y)) (sym l₃-is)
+                ∙ ap (take size) (last-kept l₂ x (omega (arith, long, slot-fits)) same-cut ∙ e .kept)
+
+            pub first-half-able : RowsTriable trial t rows₁ from mid left (x ++ drop (length l - 13120) l₂)
+            first-half-able =
+                let all : length l₃ ≡ length l = ap length (sym l₃-is) ∙ last-long l₂ x (omega (arith, long, slot-fits)) same-cut ∙ long in
+                first-able rows₁ left l₃ third-kept all (d .there) (d .least) (omega (arith, d .most, h .able .within))
 
             pub halves-tried : (rows₂ : List ℕ) (r : ℕ)
-                → RowsTried n t rows₁ rows₂ from mid left (take size (take size l₂ ++ (x ++ drop (length l₂ - size) (drop size l₂)))) r
-                → RowsTried n t rows rows₂ from to kept (take size l) r
+                → RowsTried n t rows₁ rows₂ from mid left (regionIn (trial .size) (x ++ drop (length l - 13120) l₂)) r
+                → RowsTried n t rows rows₂ from to kept (regionIn (trial .size) l) r
             unfolding second pick
             halves-tried rows₂ r w =
                 let fronts : take from rows₁ ≡ take from rows =

@@ -154,11 +154,23 @@ triedOn n t b [] rest = rest
 triedOn n t b (row ∷ rows) rest =
     leftOn n t b row (pick (rowsShow n t b (row ∷ [])) rest (triedOn n t (rowsRegion t (row ∷ []) b) rows rest))
 
--- room for the region at a line, and for one each time that m lines can be halved
-pub record StatesRoom (m size room : ℕ) : Type 0 where
+-- Regions in slots of 13,120 bytes: the last slot of the states l, and the region of size bytes at its start; and two slots, the first of
+-- which has had the region of the second copied into it.
+unfoldable pub slotOf : List ℕ → List ℕ
+slotOf l = drop (length l - 13120) l
+
+unfoldable pub regionIn : ℕ → List ℕ → List ℕ
+unfolding slotOf
+regionIn size l = take size (slotOf l)
+
+unfoldable pub copiedDown : List ℕ → ℕ → List ℕ
+copiedDown l size = take size (drop 13120 l) ++ drop size l
+
+-- a slot for the region at a line, and one each time that m lines can be halved
+pub record StatesRoom (m room : ℕ) : Type 0 where
   pub halvings : ℕ
   pub few : m ≤ 2 ^ halvings
-  pub fit : size * suc halvings ≤ room
+  pub fit : 13120 * suc halvings ≤ room
 
 -- lines rows[from..to] can be tried on the region b
 pub record Triable (trial : Trial) (t rows : List ℕ) (from to kept : ℕ) (b : List ℕ) : Type 0 where
@@ -170,20 +182,24 @@ pub record Triable (trial : Trial) (t rows : List ℕ) (from to kept : ℕ) (b :
 
 -- there is room for a second region behind the first, on which lines rows[from..to] can be run; and what running them there leaves
 pub record HalfReady (trial : Trial) (t rows : List ℕ) (from to : ℕ) (states : List ℕ) : Type 0 where
-  pub ready : Ready (trial .frame) (take (trial .size) states)
+  pub ready : Ready (trial .frame) (regionIn (trial .size) states)
   pub there : RowsIn t rows
   pub within : to ≤ length rows
-  pub room : trial .size + trial .size ≤ length states
+  pub small : trial .size ≤ 13068
+  pub room : 26240 ≤ length states
 
 pub record HalfRan (trial : Trial) (t rows : List ℕ) (from to : ℕ) (states states′ : List ℕ) (r : Bool) : Type 0 where
-  pub kept : take (trial .size) states′ ≡ take (trial .size) states
-  pub shown : r ≡ rowsShow (trial .number) t (take (trial .size) states) (slice from to rows)
-  pub region : r ≡ false
-      → take (trial .size) (drop (trial .size) states′) ≡ rowsRegion t (slice from to rows) (take (trial .size) states)
+  pub kept : slotOf states′ ≡ slotOf states
+  pub shown : r ≡ rowsShow (trial .number) t (regionIn (trial .size) states) (slice from to rows)
+  pub region :
+      r ≡ false
+      → regionIn (trial .size) (take (length states - 13120) states′)
+      ≡ rowsRegion t (slice from to rows) (regionIn (trial .size) states)
 
 pub record RowsTriable (trial : Trial) (t rows : List ℕ) (from to kept : ℕ) (states : List ℕ) : Type 0 where
-  pub able : Triable trial t rows from to kept (take (trial .size) states)
-  pub room : StatesRoom (to - from) (trial .size) (length states)
+  pub able : Triable trial t rows from to kept (regionIn (trial .size) states)
+  pub small : trial .size ≤ 13068
+  pub room : StatesRoom (to - from) (length states)
 
 pub record RowsTried (n : ℕ) (t rows rows′ : List ℕ) (from to kept : ℕ) (b : List ℕ) (r : ℕ) : Type 0 where
   pub least : from ≤ r
@@ -204,7 +220,15 @@ pub record Cuttable (u : Setup) (trial : Trial) (t rows states : List ℕ) : Typ
   pub trial-of : IsTrial u (trial .number) trial
   pub there : RowsIn t rows
   pub few : length rows ≤ 6000
-  pub room : length states ≡ 182952
+  pub room : length states ≡ 183680
+
+-- an accepted setup's region can be laid out in the last slot, and is
+pub record LastReady (u : Setup) (states : List ℕ) : Type 0 where
+  pub accepted : setupRefusal u ≡ done
+  pub room : length states ≡ 183680
+
+pub record LastLaid (u : Setup) (states : List ℕ) : Type 0 where
+  pub laid : regionIn (regionLength u) states ≡ laidRegion u
 
 pub record PassReady (u : Setup) (trial : Trial) (t rows : List ℕ) (first : ℕ) (states : List ℕ) : Type 0 where
   pub able : Cuttable u trial t rows states

@@ -16,6 +16,7 @@ use crate::lines::span_at;
 use crate::passes::Trial;
 use crate::passes::cut_rows;
 use crate::passes::show;
+use crate::states::STATES_ROOM;
 use region::BAD_LENGTH;
 use region::DONE;
 use region::Frame;
@@ -26,9 +27,6 @@ use script::write_text;
 
 // The most lines of a script: 60,000 bytes, ten or more of them for each.
 const LINES_MOST: usize = 6000;
-
-// Room for fourteen regions of the largest size: one at the first line, and one for each time that 6,000 lines can be halved.
-const STATES_ROOM: usize = 182952;
 
 // The refusal or 0, and how many bytes were written.
 pub struct Cut {
@@ -49,7 +47,7 @@ fn zero_table() -> [u32; TABLE_ROOM]
 }
 
 fn zero_states() -> [u8; STATES_ROOM]
-    ensures { λ r. ⌜ r ≡ replicate 182952 0 ⌝ }
+    ensures { λ r. ⌜ r ≡ replicate 183680 0 ⌝ }
 {
     [0; STATES_ROOM]
 }

@@ -3,6 +3,7 @@ mod cutting;
 mod lines;
 mod passes;
 mod program;
+mod states;
 mod trials;
 
 pub use cutting::Cut;

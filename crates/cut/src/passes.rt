@@ -2,10 +2,13 @@
 // that a pass keeps move to its end.
 ghost use mathlib.Core.Path.{_≡_};
 ghost use Prim.Native.Nat.{_+_};
-ghost use lib.ListN.{length, take};
+ghost use lib.ListN.{length};
 ghost use Rattle.script.specs.Script.{laidRegion};
-ghost use Rattle.cut.specs.Inner.{Cuttable, HalfRan, HalfReady, PassReady, RowsCut, RowsTriable, RowsTried, Triable, rowsShow};
-use crate::trials::copy_state;
+ghost use Rattle.cut.specs.Inner.{Cuttable, HalfRan, HalfReady, LastLaid, LastReady, PassReady, RowsCut, RowsTriable, RowsTried, Triable, regionIn, rowsShow};
+use crate::states::SLOT;
+use crate::states::STATES_ROOM;
+use crate::states::TWO_SLOTS;
+use crate::states::copy_down;
 use crate::trials::run_rows;
 use region::Frame;
 use script::REGION_ROOM;
@@ -39,7 +42,7 @@ fn try_row(
     kept - 1
 }
 
-// Runs the lines rows[from..to] on a copy of the region at the start of states, made behind it, and tells whether one of them shows the number.
+// Runs the lines rows[from..to] on a copy of the region at hand, made in the slot before it, and tells whether one of them shows the number.
 fn run_half(
     trial: Trial,
     table: &[u32],
@@ -52,11 +55,12 @@ fn run_half(
     ensures { λ r. ⌜ HalfRan trial (now (table .entry)) (now (rows .entry)) from to (now (states .entry)) (now (states .exit)) r ⌝ }
 {
     let size = trial.size;
-    let end = size + size;
-    copy_state(states, size);
+    let start = states.len() - TWO_SLOTS;
+    let end = start + size;
+    copy_down(&mut states[start..], size);
     run_rows(
         trial.frame,
-        &mut states[size..end],
+        &mut states[start..end],
         table,
         rows,
         from,
@@ -65,9 +69,9 @@ fn run_half(
     )
 }
 
-// Tries the lines rows[from..to], from the last to the first, on the region at the start of states, as the lines before them leave it. The
-// rest of states is room for the region at the middle of them, at the middle of their second half, and so on. Those of the lines behind them
-// that are left stand from `kept` on. Answers where the lines that are left now start.
+// Tries the lines rows[from..to], from the last to the first, on the region in the last slot of states, as the lines before them leave it. The
+// slots before it are room for the region at the middle of them, at the middle of their second half, and so on. Those of the lines behind
+// them that are left stand from `kept` on. Answers where the lines that are left now start.
 fn try_rows(
     trial: Trial,
     table: &[u32],
@@ -78,41 +82,53 @@ fn try_rows(
     states: &mut [u8],
 ) -> usize
     requires { ⌜ RowsTriable trial (now table) (now rows) from to kept (now states) ⌝ }
-    ensures { λ r. ⌜ RowsTried (trial .number) (now (table .entry)) (now (rows .entry)) (now (rows .exit)) from to kept (take (trial .size) (now (states .entry))) r ⌝ }
+    ensures { λ r. ⌜ RowsTried (trial .number) (now (table .entry)) (now (rows .entry)) (now (rows .exit)) from to kept (regionIn (trial .size) (now (states .entry))) r ⌝ }
 {
-    let size = trial.size;
+    let start = states.len() - SLOT;
     if to - from == 1 {
-        return try_row(trial, table, rows, from, kept, &mut states[..size]);
+        let end = start + trial.size;
+        return try_row(trial, table, rows, from, kept, &mut states[start..end]);
     }
     let middle = from + (to - from) / 2;
     if run_half(trial, table, rows, from, middle, states) {
         // shown by the first half: the second goes
         return try_rows(trial, table, rows, from, middle, kept, states);
     }
-    let left = try_rows(trial, table, rows, middle, to, kept, &mut states[size..]);
+    let left = try_rows(trial, table, rows, middle, to, kept, &mut states[..start]);
     try_rows(trial, table, rows, from, middle, left, states)
 }
 
-// Whether the lines show the number, on a region that is laid out at the start of states.
+// Lays out the region of an accepted setup in the last slot of states.
+fn lay_last(setup: Setup, states: &mut [u8])
+    requires { ⌜ LastReady setup (now states) ⌝ }
+    ensures { λ r. ⌜ LastLaid setup (now (states .exit)) ⌝ }
+{
+    let start = STATES_ROOM - SLOT;
+    let end = start + REGION_ROOM;
+    script::lay_region(&mut states[start..end], setup);
+}
+
+// Whether the lines show the number, on a region that is laid out in the last slot of states.
 pub fn show(setup: Setup, trial: Trial, table: &[u32], rows: &[u32], states: &mut [u8]) -> bool
     requires { ⌜ Cuttable setup trial (now table) (now rows) (now states) ⌝ }
     ensures { λ r. ⌜ r ≡ rowsShow (trial .number) (now (table .entry)) (laidRegion setup) (now (rows .entry)) ⌝ }
 {
-    script::lay_region(&mut states[..REGION_ROOM], setup);
-    let size = trial.size;
-    let end = rows.len();
+    lay_last(setup, states);
+    let start = STATES_ROOM - SLOT;
+    let end = start + trial.size;
+    let count = rows.len();
     run_rows(
         trial.frame,
-        &mut states[..size],
+        &mut states[start..end],
         table,
         rows,
         0,
-        end,
+        count,
         trial.number,
     )
 }
 
-// One pass over the lines from a position on, on a region that is laid out at the start of states.
+// One pass over the lines from a position on, on a region that is laid out in the last slot of states.
 fn pass_once(
     setup: Setup,
     trial: Trial,
@@ -124,7 +140,7 @@ fn pass_once(
     requires { ⌜ PassReady setup trial (now table) (now rows) first (now states) ⌝ }
     ensures { λ r. ⌜ RowsTried (trial .number) (now (table .entry)) (now (rows .entry)) (now (rows .exit)) first (length (now (rows .entry))) (length (now (rows .entry))) (laidRegion setup) r ⌝ }
 {
-    script::lay_region(&mut states[..REGION_ROOM], setup);
+    lay_last(setup, states);
     let end = rows.len();
     try_rows(trial, table, rows, first, end, end, states)
 }

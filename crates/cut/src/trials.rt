@@ -1,9 +1,6 @@
 // Trials: the lines that are left are run from a region on, up to the first that shows the number. No line's call looks at the whole region:
 // it is laid out, so it is readable, and every call keeps it so.
 ghost use mathlib.Core.Path.{_≡_};
-ghost use Prim.Native.Nat.{_+_, _≤_};
-ghost use lib.ListN.{length};
-ghost use lib.Seq.{paste};
 ghost use Rattle.cut.specs.Shown.{isRefusal};
 ghost use Rattle.cut.specs.Inner.{RowsRan, Runnable, isRefused};
 use crate::lines::call_at;
@@ -57,16 +54,4 @@ pub fn run_rows(
         k += 1;
     }
     false
-}
-
-// Copies the first size bytes over those behind them.
-pub fn copy_state(states: &mut [u8], size: usize)
-    requires { ⌜ size + size ≤ length (now states) ⌝ }
-    ensures { λ r. ⌜ now (states .exit) ≡ paste (now (states .entry)) size (now (states .entry)) size ⌝ }
-{
-    let mut k = 0;
-    while k < size {
-        states[size + k] = states[k];
-        k += 1;
-    }
 }

@@ -5,7 +5,7 @@ use mathlib.Core.Path.{refl}
 use borrow.Author.Needs.{needs}
 use borrow.Fn.Kinds.{In}
 use borrow.Fn.PlainCycle.{Measures, is, falls, and}
-use Rattle.cut.proofs.RowsTrying.{first-half-able, half-ready, halves-tried, one-able, one-tried, second-able, second-start, shown-able, shown-tried, size-fits, size-long}
+use Rattle.cut.proofs.RowsTrying.{before-fits, before-long, first-half-able, half-ready, halves-tried, last-ends, last-fits, one-able, one-tried, second-able, shown-able, shown-tried, slot-fits}
 use Rattle.cut.proofs.passes.try_rows.Reads as try-rows
 use Rattle.cut.proofs.passes.try_rows.Kinds as try-rows-kinds
 use Rattle.cut.proofs.passes.+try_rows.Lts-try_rows as try-rows-lts
@@ -35,9 +35,12 @@ pub +try-rows-spec : {M : Type 1} → statement M
 )
     (try-rows-at t)
     try-rows.Post
+    (λ c. search slot-fits)
     (λ c. search needs)
-    (λ c. search size-fits)
-    (λ c. search size-long)
+    (λ c. search last-fits)
+    (λ c. omega arith)
+    (λ c. omega arith)
+    (λ c. search last-ends)
     (λ c κs. search one-able)
     (λ c. search needs)
     (λ c. search needs)
@@ -49,14 +52,14 @@ pub +try-rows-spec : {M : Type 1} → statement M
     let ran = c .before .before .before .before .before in
     let many = ran .before .before .before in (
       omega arith,
-      shown-able (many .before .before .before .before .pre .1) (many .if1 .left) _ refl _ _ (ran .run-half .ensures) (ran .run-half .kept .1 .1 .1 .1 .1 .0),
+      shown-able (many .before .before .before .before .pre .1) (many .if1 .left) _ refl _ _ (ran .run-half .ensures)
+          (ran .run-half .kept .1 .1 .1 .1 .1 .0),
     ))
     (λ c. search needs)
     (λ c. search needs)
     (λ c. search shown-tried)
-    (λ c. search needs)
-    (λ c. search second-start)
-    (λ c. search needs)
+    (λ c. search before-fits)
+    (λ c. search before-long)
     (λ c κs.
     let left = c .before .before in
     let ran = left .before .before .before in
@@ -73,8 +76,7 @@ pub +try-rows-spec : {M : Type 1} → statement M
       omega arith,
       first-half-able (many .before .before .before .before .pre .1) (many .if1 .left) _ refl _ _ (ran .run-half .ensures)
           (ran .run-half .kept .1 .1 .1 .1 .1 .0) (left .if2 .left) _ _ (second .try-rows2 .ensures) (second .try-rows2 .kept .1 .1 .0)
-          (second .try-rows2 .last .1 .1 .1 .1 .1 .1 .0)
-          (second .try-rows2 .kept .1 .1 .1 .1 .1 .1 .0),
+          (second .try-rows2 .last .1 .1 .1 .1 .1 .1 .0) (second .try-rows2 .kept .1 .1 .1 .1 .1 .1 .0),
     ))
     (λ c. search needs)
     (λ c. search needs)

@@ -1,0 +1,27 @@
+// Regions as they are before some of the lines, in slots of one size: the last slot has the region at hand, those before it are room for the
+// region at later lines. A copy goes from a slot to the one before it, at a distance that is a constant, so that the compiler makes it a
+// `memmove`.
+ghost use mathlib.Core.Path.{_≡_};
+ghost use Prim.Native.Nat.{_+_, _≤_};
+ghost use lib.ListN.{length};
+ghost use Rattle.cut.specs.Inner.{copiedDown};
+
+// The bytes of a slot: a region of the largest size, and some more so that slots begin at cache lines of the states.
+pub const SLOT: usize = 13120;
+
+pub const TWO_SLOTS: usize = 26240;
+
+// Fourteen slots: one at the first line, and one for each time that 6,000 lines can be halved.
+pub const STATES_ROOM: usize = 183680;
+
+// Copies the region of the second of two slots, which has size bytes, to the first.
+pub fn copy_down(slots: &mut [u8], size: usize)
+    requires { ⌜ 13120 + size ≤ length (now slots) ⌝ }
+    ensures { λ r. ⌜ now (slots .exit) ≡ copiedDown (now (slots .entry)) size ⌝ }
+{
+    let mut k = 0;
+    while k < size {
+        slots[k] = slots[SLOT + k];
+        k += 1;
+    }
+}
