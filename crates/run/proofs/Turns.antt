@@ -167,18 +167,18 @@ module _ (b s a : List ℕ) (limit : ℕ) (q : Bool) (eq : q ≡ readable b) whe
       subst (Ran b b s limit a a) (sym ex)
       (record { refusal = rw (← eq, not-true q g) refl; served = rw (← eq, not-true q g) refl })
 
-  module _ (gq : not q ≡ false) where
-    pub run-readable : readable b ≡ true
-    run-readable = sym eq ∙ not-false q gq
+  pub run-readable : not q ≡ false → readable b ≡ true
+  run-readable g = sym eq ∙ not-false q g
 
-    module _ (f : Frame) (ef : f ≡ frameIn b) where
-      pub run-within : Within f (length b)
-      run-within = subst (λ g. Within g (length b)) (sym ef) (readable-within b run-readable)
+-- In the frame of a readable region.
+module _ (b s a : List ℕ) (limit : ℕ) (e : readable b ≡ true) (f : Frame) (ef : f ≡ frameIn b) where
+  pub run-within : Within f (length b)
+  run-within = subst (λ g. Within g (length b)) (sym ef) (readable-within b e)
 
-      pub run-served : (b′ a′ : List ℕ) (x : Outcome) → RanIn f b b′ s limit a a′ x → Ran b b′ s limit a a′ x
-      unfolding runRefusal runResult runResultIn pick
-      run-served b′ a′ x h =
-          record {
-            refusal = rw run-readable (h .refusal);
-            served = rw run-readable (h .served ∙ ap (λ g. runResultIn g b s limit a) ef);
-          }
+  pub run-served : (b′ a′ : List ℕ) (x : Outcome) → RanIn f b b′ s limit a a′ x → Ran b b′ s limit a a′ x
+  unfolding runRefusal runResult runResultIn pick
+  run-served b′ a′ x h =
+      record {
+        refusal = rw e (h .refusal);
+        served = rw e (h .served ∙ ap (λ g. runResultIn g b s limit a) ef);
+      }

@@ -1,10 +1,12 @@
 // A run: the turns of a schedule, served in order until it ends or the accesses made equal the limit.
 ghost use mathlib.Core.Path.{_≡_};
+ghost use mathlib.Core.Bool.{true};
 ghost use Prim.Native.Nat.{_+_, _*_, _/_, _≤_};
 ghost use lib.ListN.{length};
 ghost use Rattle.words.specs.Word.{setWords};
 ghost use Rattle.region.specs.Answer.{answerWords};
 ghost use Rattle.region.specs.Inner.{Within};
+ghost use Rattle.readable.specs.Readable.{readable};
 ghost use Rattle.run.specs.Run.{scheduleRefusal, serve, serveAll, soFar, turnAt, turnsFrom};
 ghost use Rattle.run.specs.Inner.{Ran, RanIn, RunWithin, TurnWithin, refused};
 use region::Answer;
@@ -120,6 +122,15 @@ pub fn run_in(f: Frame, b: &mut [u8], schedule: &[u8], limit: u32, answers: &mut
     }
 }
 
+// Runs a schedule on a region that holds one queue, which is not looked at again.
+pub fn run_ready(b: &mut [u8], schedule: &[u8], limit: u32, answers: &mut [u8]) -> Outcome
+    requires { ⌜ readable (now b) ≡ true ⌝ }
+    ensures { λ r. ⌜ Ran (now (b .entry)) (now (b .exit)) (now (schedule .entry)) limit (now (answers .entry)) (now (answers .exit)) r ⌝ }
+{
+    let f = readable::frame_of(b);
+    run_in(f, b, schedule, limit, answers)
+}
+
 // Runs a schedule on a region that holds one queue. Refused 7, 6, 5 in that order; a refused run changes no byte.
 pub fn run(b: &mut [u8], schedule: &[u8], limit: u32, answers: &mut [u8]) -> Outcome
     ensures { λ r. ⌜ Ran (now (b .entry)) (now (b .exit)) (now (schedule .entry)) limit (now (answers .entry)) (now (answers .exit)) r ⌝ }
@@ -127,6 +138,5 @@ pub fn run(b: &mut [u8], schedule: &[u8], limit: u32, answers: &mut [u8]) -> Out
     if !readable::is_readable(b) {
         return refused(UNREADABLE);
     }
-    let f = readable::frame_of(b);
-    run_in(f, b, schedule, limit, answers)
+    run_ready(b, schedule, limit, answers)
 }

@@ -1,7 +1,7 @@
--- `run::run` meets its contract: the region is not readable, or the run is made in its frame. Assumes nothing.
+-- `run::run` meets its contract: the region is not readable, or the run is made on it. Assumes nothing.
 use borrow.Author.Needs.{needs}
 use Rattle.run.proofs.run.Statement.{statement}
-use Rattle.run.proofs.Turns.{run-unreadable, run-readable, run-within, run-served}
+use Rattle.run.proofs.Turns.{run-unreadable, run-readable}
 use Rattle.run.proofs.run.Tie as tie
 
 pub run-spec : {M : Type 1} → statement M
@@ -13,7 +13,6 @@ run-spec =
     (λ c. search needs)
     (λ c. search run-unreadable)
     (λ c κs. search run-readable)
-    (λ c κs. search run-within)
     (λ c. search needs)
     (λ c. search needs)
-    (λ c. search run-served))
+    (λ c. search needs))
