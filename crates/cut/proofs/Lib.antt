@@ -22,4 +22,5 @@ mod Tables
 mod TextsRead
 mod Tried
 mod TriedOn
+mod TurnAnswers
 mod Written

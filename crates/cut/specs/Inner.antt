@@ -7,10 +7,10 @@ use mathlib.Core.Option.{Option, none, some}
 use lib.Dec.{eqb}
 use lib.ListN.{length, getD, take, drop}
 use lib.Seq.{sets, slice}
-use Rattle.region.specs.Answer.{answerCode, answerKey, done}
+use Rattle.words.specs.Word.{word}
+use Rattle.region.specs.Answer.{done}
 use Rattle.region.specs.Frame.{frameOf}
 use Rattle.region.specs.Pick.{pick}
-use Rattle.region.specs.declared.answer.Answer.{Answer}
 use Rattle.region.specs.declared.frame.Frame.{Frame}
 use Rattle.script.specs.Inner.{Ready}
 use Rattle.script.specs.Script.{callBytes, callOutcome, laidRegion, regionLength, setupRefusal}
@@ -111,10 +111,19 @@ pub record LinesRead (s : List ℕ) (start : ℕ) (t : List ℕ) (r : Lines) : T
   pub few : (n : ℕ) → r ≡ Read n → n ≤ 6000
   pub placed : Placed s t
 
--- Trials. Whether one of these calls shows the number n, on the region b, and the region after them.
-abbrev pub isRefused : ℕ → Answer → Bool
-isRefused n a = eqb (answerCode a) 5 && eqb (answerKey a) n
+-- Trials. Whether a call that answers r is refused with the number n, and whether answer k of a run is that refusal.
+unfoldable pub refusedWith : ℕ → ℕ → Bool
+refusedWith n r = pick (eqb r done) false (eqb r n)
 
+unfoldable pub refusedAt : ℕ → List ℕ → ℕ → Bool
+refusedAt n a k = eqb (word a (3 * k)) 5 && eqb (word a (3 * k + 1)) n
+
+-- whether a line's call shows the number n, and what it leaves
+pub record CallShown (n : ℕ) (b b′ : List ℕ) (what : What) (thread : ℕ) (r : Bool) : Type 0 where
+  pub shown : r ≡ isRefusal n (callOutcome b what thread)
+  pub bytes : b′ ≡ callBytes b what thread
+
+-- Whether one of these calls shows the number n, on the region b, and the region after them.
 unfoldable pub callsShow : ℕ → List Call → List ℕ → Bool
 callsShow n [] b = false
 callsShow n (c ∷ cs) b =

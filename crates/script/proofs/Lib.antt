@@ -3,7 +3,7 @@ pub mod Computing
 pub mod Decimals
 pub mod Laws
 mod Layouts
-mod LineCalls
+pub mod LineCalls
 mod Lines
 pub mod NoLineLeftOut
 pub mod Readings

@@ -24,7 +24,6 @@ run-rows-spec =
     (λ c κs. search needs)
     (λ c κs. search row-there)
     (λ c κs. search try-ready)
-    (λ c κs. search needs)
     (λ c. search try-kept)
     (λ c. search try-shown)
     (λ c. omega arith)
