@@ -74,7 +74,8 @@ pub fn filling(shape: Shape) -> String {
     let mut script = opening(shape, 3);
     let mut queue = Queue::open_to_all(shape);
     for key in 1..=shape.cells {
-        script += &format!("put 1 {key} 0\n");
+        let put = format!("put 1 {key} 0\n");
+        script += &put;
         assert_eq!(queue.put(1, key, 0), Ok(()));
         while queue.place(1) != place::IDLE {
             script += "turn 1 0 0\n";
