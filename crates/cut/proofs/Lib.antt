@@ -3,6 +3,7 @@ pub mod Computing
 pub mod CutIsRight
 mod CutWays
 mod Entries
+mod Groups
 pub mod Laws
 pub mod NoLineLeftOut
 pub mod PassesEnd

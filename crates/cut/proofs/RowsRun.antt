@@ -1,44 +1,42 @@
 -- Running lines of the table: one pass of the loop over plain variables; a refusal told from others. Assumes nothing.
-use Prim.Native.Nat.{ℕ, _+_, _*_, _^_, _≤_, _<_}
+use Prim.Native.Nat.{ℕ, suc, _+_, _-_, _*_, _^_, _≤_, _<_}
 use native.Mathlib.Numerals.{add-one}
 use native.Mathlib.Omega.{arith}
 use mathlib.Core.Path.{_≡_, refl, sym, ap, subst, _∙_}
 use mathlib.Core.Bool.{Bool, true, false, _||_, true≢false}
-use mathlib.Core.List.{List, [], _∷_, _++_}
+use mathlib.Core.List.{List, [], _∷_, _++_, map}
 use borrow.Author.Tests.{eq-eqb, ne-eqb}
+use mir.Syntax.{w64}
+use mir.Val.{Fits}
 use lib.Dec.{eqb}
 use lib.ListN.{length, getD, set, take, drop, replicate, length-append, length-replicate, length-set, length-take, drop-of-length-le, List·getD-append}
 use lib.Seq.{paste, paste-suc, paste-zero, getD-take, slice, slice-cons}
-use Rattle.words.specs.Word.{setWord, setWords, word}
-use Rattle.words.proofs.Laws.{length-setWord, word-other, word-same}
-use Rattle.region.specs.Answer.{answerWords, done}
+use Rattle.words.specs.Word.{word}
+use Rattle.region.specs.Answer.{done}
+use Rattle.region.specs.Inner.{Within}
 use Rattle.region.specs.Pick.{pick}
 use Rattle.region.specs.declared.answer.Answer.the-variants.{Refused}
 use Rattle.region.specs.declared.frame.Frame.{Frame}
 use Rattle.region.specs.declared.place.Place.the-variants.{ListReadRoot, ReadRoot}
 use Rattle.region.specs.declared.record.Item.{Item}
-use Rattle.access.specs.Plan.{accessesOf}
-use Rattle.readable.specs.Readable.{readable}
 use Rattle.permission.specs.Permit.{PermitSetIn}
 use Rattle.begin.specs.Begin.{PutBegunIn, TakeBegunIn}
-use Rattle.machine.specs.Turn.{turnOnAnswer, turnOnBytes}
-use Rattle.run.specs.Inner.{Ran}
-use Rattle.run.specs.Run.{runResult, soFar}
-use Rattle.run.specs.Theorems.{IsTurn}
-use Rattle.run.specs.declared.Outcome.{Outcome as RunOutcome}
-use Rattle.run.proofs.RunOfOneIsTurn.{run-of-one-is-turn}
+use Rattle.run.specs.Run.{turnsFrom}
 use Rattle.script.specs.Inner.{CallMade, Ready}
-use Rattle.script.specs.Script.{callBytes, callOutcome, doneOr}
+use Rattle.script.specs.Script.{callOutcome, doneOr}
 use Rattle.script.specs.declared.printing.Outcome.{Outcome}
 use Rattle.script.specs.declared.printing.Outcome.the-variants.{Answered, Begun, Set}
 use Rattle.script.specs.declared.reading.What.{What}
 use Rattle.script.specs.declared.reading.What.the-variants.{Permit, Put, Take, TakeList, Turn}
-use Rattle.script.proofs.LineCalls.{list-made, permit-made, put-made, take-made}
-use Rattle.script.proofs.Regions.{still-ready}
+use Rattle.script.proofs.LineCalls.{list-made, permit-made, put-made, ready-within, take-made}
 use Rattle.cut.specs.Shown.{isRefusal}
-use Rattle.cut.specs.Inner.{CallShown, RowsIn, RowsRan, Runnable, callIn, callsShow, refusedAt, refusedWith, regionAfter, rowsRegion, rowsShow}
+use Rattle.cut.specs.Inner.{CallReady, CallShown, Gatherable, Gathered, RowReady, RowsIn, RowsRan, Runnable, TurnsReady, TurnsShown, callIn, callsShow, isTurn, refusedAt, refusedWith, regionAfter, rowsRegion, rowsShow, turnCall}
 use Rattle.cut.specs.declared.lines.Call.{Call}
-use Rattle.cut.proofs.TurnAnswers.{stored-refusal, turn-few}
+use Rattle.cut.proofs.Groups.{calls-both, calls-ready, regions-both, turns-then}
+
+or-false : (q : Bool) → (q || false) ≡ q
+or-false true = refl
+or-false false = refl
 
 -- Whether a call that is not a turn is refused with the number.
 pub done-shows-none : (n r : ℕ) → r ≡ done → false ≡ refusedWith n r
@@ -68,94 +66,66 @@ shows-so n r o e = go (eqb r done)
     go false = refl
 
 -- A line's call.
-module _ (n : ℕ) (f : Frame) (b b′ : List ℕ) (h : Ready f b) (what : What) (t : ℕ) (r : ℕ) (q : Bool) (eq : q ≡ refusedWith n r) where
+module _ (n : ℕ) (f : Frame) (b b′ : List ℕ) (what : What) (h : CallReady f b what) (t : ℕ) (r : ℕ) (q : Bool) (eq : q ≡ refusedWith n r) where
   shown-by : (o : Outcome) → isRefusal n o ≡ false → CallMade b b′ what t (doneOr o r) → CallShown n b b′ what t q
   shown-by o e m = record { shown = eq ∙ shows-so n r o e ∙ ap (isRefusal n) (m .outcome); bytes = m .bytes }
 
   pub put-shown : (i : Item) → what ≡ Put i → PutBegunIn f b b′ t i r → CallShown n b b′ what t q
-  put-shown i e p = shown-by Begun refl (put-made f b b′ h what t i e r p (doneOr Begun r) refl)
+  put-shown i e p = shown-by Begun refl (put-made f b b′ (h .ready) what t i e r p (doneOr Begun r) refl)
 
   pub take-shown : what ≡ Take → TakeBegunIn f b b′ t ReadRoot r → CallShown n b b′ what t q
-  take-shown e p = shown-by Begun refl (take-made f b b′ h what t e r p (doneOr Begun r) refl)
+  take-shown e p = shown-by Begun refl (take-made f b b′ (h .ready) what t e r p (doneOr Begun r) refl)
 
   pub list-shown : what ≡ TakeList → TakeBegunIn f b b′ t ListReadRoot r → CallShown n b b′ what t q
-  list-shown e p = shown-by Begun refl (list-made f b b′ h what t e r p (doneOr Begun r) refl)
+  list-shown e p = shown-by Begun refl (list-made f b b′ (h .ready) what t e r p (doneOr Begun r) refl)
 
   pub permit-shown : (x : ℕ) → what ≡ Permit x → PermitSetIn f b b′ t x r → CallShown n b b′ what t q
-  permit-shown x e p = shown-by Set refl (permit-made f b b′ h what t x e r p (doneOr Set r) refl)
+  permit-shown x e p = shown-by Set refl (permit-made f b b′ (h .ready) what t x e r p (doneOr Set r) refl)
 
-pub turn-shown : (n : ℕ) (b b′ : List ℕ) (what : What) (t c : ℕ) → what ≡ Turn c → (q : Bool) → CallShown n b b′ (Turn c) t q
-    → CallShown n b b′ what t q
-turn-shown n b b′ what t c e q m = subst (λ w. CallShown n b b′ w t q) (sym e) m
+pub turn-not : (n : ℕ) (f : Frame) (b : List ℕ) (what : What) (t : ℕ) → CallReady f b what → (c : ℕ) → what ≡ Turn c
+    → CallShown n b b what t false
+turn-not n f b what t h c e = absurd (true≢false (sym (ap isTurn e) ∙ h .other))
 
--- A turn as a run of one: its answer is stored as words and read back.
-module _ (n : ℕ) (b : List ℕ) (e : readable b ≡ true) (t c : ℕ) (ft : t < 2 ^ 32) (fc : c < 2 ^ 32) where
-  schedule : List ℕ
-  schedule = setWord (setWord (replicate 8 0) 0 t) 1 c
+pub call-within : (f : Frame) (b : List ℕ) (what : What) → CallReady f b what → Within f (length b)
+call-within f b what h = ready-within f b (h .ready)
 
-  thread-is : word schedule 0 ≡ t
-  unfolding schedule
-  thread-is =
-      word-other (setWord (replicate 8 0) 0 t) 1 0 c (omega arith)
-      ∙ word-same (replicate 8 0) 0 t (omega (arith, length-replicate {A = ℕ} 8 0)) ft
+-- The call of a row.
+pub row-call : (f : Frame) (b t : List ℕ) (row : ℕ) → RowReady f b t row → (c : Call) → c ≡ callIn t row → CallReady f b (c .what)
+row-call f b t row h c e = record { ready = h .ready; other = ap (λ x. isTurn (x .what)) e ∙ h .other }
 
-  long : length (setWord (replicate 8 0) 0 t) ≡ 8
-  long = length-setWord (replicate 8 0) 0 t ∙ length-replicate {A = ℕ} 8 0
-
-  choice-is : word schedule 1 ≡ c
-  unfolding schedule
-  choice-is = word-same (setWord (replicate 8 0) 0 t) 1 c (omega (arith, long)) fc
-
-  eight : length schedule ≡ 8
-  unfolding schedule
-  eight = length-setWord (setWord (replicate 8 0) 0 t) 1 c ∙ long
-
-  one : IsTurn b schedule 4294967295 (replicate 12 0) t c
-  one =
-      subst (λ x. IsTurn b schedule 4294967295 (replicate 12 0) x c) thread-is
-      (subst (IsTurn b schedule 4294967295 (replicate 12 0) (word schedule 0)) choice-is
-      (run-of-one-is-turn b schedule 4294967295 (replicate 12 0) eight (omega (arith, length-replicate {A = ℕ} 12 0)) (omega arith)))
-
-  pub one-shown : (s : List ℕ) → s ≡ setWord (replicate 8 0) 0 t → (s′ : List ℕ) → s′ ≡ setWord s 1 c
-      → (b′ a′ : List ℕ) (x : RunOutcome) → Ran b b′ s′ 4294967295 (replicate 12 0) a′ x
-      → (q : Bool) → q ≡ refusedAt n a′ 0 → CallShown n b b′ (Turn c) t q
-  unfolding schedule
-  one-shown s es s′ es′ b′ a′ x m q eq =
-      let is : s′ ≡ schedule = es′ ∙ ap (λ l. setWord l 1 c) es in
-      let all : soFar b′ a′ (x .counts .turns) (x .counts .accesses)
-      ≡ soFar (turnOnBytes b t c) (setWords (replicate 12 0) 0 (answerWords (turnOnAnswer b t c))) 1 (accessesOf (turnOnAnswer b t c)) =
-      m .served ∙ ap (λ l. runResult b l 4294967295 (replicate 12 0)) is ∙ one .served e in
-      let answers : a′ ≡ setWords (replicate 12 0) 0 (answerWords (turnOnAnswer b t c)) = ap (λ y. y .answers) all in
-      record {
-        shown =
-            eq ∙ ap (λ l. refusedAt n l 0) answers
-            ∙ stored-refusal n (replicate 12 0) 0 (omega (arith, length-replicate {A = ℕ} 12 0)) (turnOnAnswer b t c) (turn-few b t c);
-        bytes = ap (λ y. y .region) all;
-      }
+pub row-shown : (n : ℕ) (b b′ t : List ℕ) (row : ℕ) (c : Call) → c ≡ callIn t row → (q : Bool)
+    → CallShown n b b′ (c .what) (c .thread) q → CallShown n b b′ (callIn t row .what) (callIn t row .thread) q
+row-shown n b b′ t row c e q m = subst (λ x. CallShown n b b′ (x .what) (x .thread) q) e m
 
 -- The loop: the lines that are left, from here, show the number where all do, and leave the region that all leave.
-pub record Trying (n : ℕ) (f : Frame) (t rows : List ℕ) (from to : ℕ) (b₀ b : List ℕ) (k : ℕ) : Type 0 where
+pub record Trying (n : ℕ) (f : Frame) (t rows : List ℕ) (from to : ℕ) (b₀ b s : List ℕ) (k : ℕ) : Type 0 where
   pub ready : Ready f b
   pub there : RowsIn t rows
   pub within : to ≤ length rows
   pub same : length b ≡ length b₀
+  pub room : length s ≡ 128
   pub shown : rowsShow n t b (slice k to rows) ≡ rowsShow n t b₀ (slice from to rows)
   pub region : rowsRegion t (slice k to rows) b ≡ rowsRegion t (slice from to rows) b₀
 
 pub try-start : (n : ℕ) (f : Frame) (t rows : List ℕ) (from to : ℕ) (b : List ℕ) → Runnable f b t rows from to
-    → Trying n f t rows from to b b from
+    → Trying n f t rows from to b b (replicate 128 0) from
 try-start n f t rows from to b h =
-    record { ready = h .ready; there = h .there; within = h .within; same = refl; shown = refl; region = refl }
+    record {
+      ready = h .ready;
+      there = h .there;
+      within = h .within;
+      same = refl;
+      room = length-replicate {A = ℕ} 128 0;
+      shown = refl;
+      region = refl;
+    }
 
-module _ {n : ℕ} {f : Frame} {t rows : List ℕ} {from to : ℕ} {b₀ b : List ℕ} {k : ℕ} (e : Trying n f t rows from to b₀ b k) where
+module _ {n : ℕ} {f : Frame} {t rows : List ℕ} {from to : ℕ} {b₀ b s : List ℕ} {k : ℕ} (e : Trying n f t rows from to b₀ b s k) where
   pub try-same : length b ≡ length b₀
   try-same = e .same
 
   pub try-kept : (b′ : List ℕ) → length b′ ≡ length b → length b′ ≡ length b₀
   try-kept b′ z = z ∙ e .same
-
-  pub try-ready : Ready f b
-  try-ready = e .ready
 
   pub try-end : to ≤ k → RowsRan n t rows from to b₀ b false
   unfolding callsShow regionAfter
@@ -167,52 +137,96 @@ module _ {n : ℕ} {f : Frame} {t rows : List ℕ} {from to : ℕ} {b₀ b : Lis
         region = λ g. ap (λ l. rowsRegion t l b) (sym none) ∙ e .region;
       }
 
+  -- calls cs and then lines from j on: what is left after them
+  module _ (cs : List Call) (j : ℕ) (split : map (callIn t) (slice k to rows) ≡ cs ++ map (callIn t) (slice j to rows))
+      (b′ : List ℕ) (eb : b′ ≡ regionAfter cs b) (q : Bool) (eq : q ≡ callsShow n cs b) where
+    left-shown : rowsShow n t b (slice k to rows) ≡ (q || rowsShow n t b′ (slice j to rows))
+    left-shown =
+        ap (λ l. callsShow n l b) split
+        ∙ calls-both n cs (map (callIn t) (slice j to rows)) b
+        ∙ ap (λ p. p || rowsShow n t (regionAfter cs b) (slice j to rows)) (sym eq)
+        ∙ ap (λ y. q || rowsShow n t y (slice j to rows)) (sym eb)
+
+    left-region : rowsRegion t (slice k to rows) b ≡ rowsRegion t (slice j to rows) b′
+    left-region =
+        ap (λ l. regionAfter l b) split
+        ∙ regions-both cs (map (callIn t) (slice j to rows)) b
+        ∙ ap (rowsRegion t (slice j to rows)) (sym eb)
+
+    calls-shown : q ≡ true → RowsRan n t rows from to b₀ b′ true
+    calls-shown g =
+        record {
+          shown = ap (λ p. p || rowsShow n t b′ (slice j to rows)) (sym g) ∙ sym left-shown ∙ e .shown;
+          region = λ w. absurd (true≢false w);
+        }
+
+    calls-more : q ≡ false → length b′ ≡ length b → (s′ : List ℕ) → length s′ ≡ 128 → Trying n f t rows from to b₀ b′ s′ j
+    calls-more g z s′ zs =
+        record {
+          ready = subst (Ready f) (sym eb) (calls-ready f cs b (e .ready));
+          there = e .there;
+          within = e .within;
+          same = z ∙ e .same;
+          room = zs;
+          shown = ap (λ p. p || rowsShow n t b′ (slice j to rows)) (sym g) ∙ sym left-shown ∙ e .shown;
+          region = sym left-region ∙ e .region;
+        }
+
   module _ (h : k < to) where
+    pub try-gather : Gatherable t rows k to (length s)
+    try-gather = record { there = e .there; some = h; within = e .within; room = e .room }
+
     pub row-read : k < length rows
     row-read = omega (arith, e .within)
 
-    pub row-there : (row : ℕ) → row ≡ getD rows k 0 → 6 * row + 6 ≤ length t
-    row-there row er = omega (arith, e .there .each k row-read)
+    module _ (s′ : List ℕ) (turns : ℕ) (g : Gathered t rows k to s′ turns) where
+      -- a call that is not a turn
+      module _ (row : ℕ) (er : row ≡ getD rows k 0) where
+        pub row-ready : turns ≡ 0 → RowReady f b t row
+        row-ready z =
+            record {
+              ready = e .ready;
+              there = omega (arith, e .there .each k row-read);
+              other = ap (λ r. isTurn (callIn t r .what)) er ∙ g .none z;
+            }
 
-    first : slice k to rows ≡ getD rows k 0 ∷ slice (k + 1) to rows
-    first = slice-cons k to rows 0 h (e .within) ∙ ap (λ m. getD rows k 0 ∷ slice m to rows) (sym (add-one k))
+        module _ (b′ : List ℕ) (q : Bool) (m : CallShown n b b′ (callIn t row .what) (callIn t row .thread) q) where
+          first : map (callIn t) (slice k to rows) ≡ (callIn t row ∷ []) ++ map (callIn t) (slice (k + 1) to rows)
+          first =
+              ap (map (callIn t)) (slice-cons k to rows 0 h (e .within))
+              ∙ ap (λ r. callIn t r ∷ map (callIn t) (slice (suc k) to rows)) (sym er)
+              ∙ ap (λ j. callIn t row ∷ map (callIn t) (slice j to rows)) (sym (add-one k))
 
-    module _ (row : ℕ) (er : row ≡ getD rows k 0) (c : Call) (ec : c ≡ callIn t row) (b′ : List ℕ) (q : Bool)
-        (m : CallShown n b b′ (c .what) (c .thread) q) where
-      that : callIn t (getD rows k 0) ≡ c
-      that = ap (callIn t) (sym er) ∙ sym ec
+          leaves : b′ ≡ regionAfter (callIn t row ∷ []) b
+          unfolding regionAfter
+          leaves = m .bytes
 
-      this : isRefusal n (callOutcome b (callIn t (getD rows k 0) .what) (callIn t (getD rows k 0) .thread)) ≡ q
-      this = ap (λ x. isRefusal n (callOutcome b (x .what) (x .thread))) that ∙ sym (m .shown)
+          shows : q ≡ callsShow n (callIn t row ∷ []) b
+          unfolding callsShow
+          shows = m .shown ∙ sym (or-false (isRefusal n (callOutcome b (callIn t row .what) (callIn t row .thread))))
 
-      next : callBytes b (callIn t (getD rows k 0) .what) (callIn t (getD rows k 0) .thread) ≡ b′
-      next = ap (λ x. callBytes b (x .what) (x .thread)) that ∙ sym (m .bytes)
+          pub try-shown : q ≡ true → RowsRan n t rows from to b₀ b′ true
+          try-shown = calls-shown (callIn t row ∷ []) (k + 1) first b′ leaves q shows
 
-      left-shown : rowsShow n t b (slice k to rows) ≡ (q || rowsShow n t b′ (slice (k + 1) to rows))
-      unfolding callsShow
-      left-shown =
-          ap (rowsShow n t b) first
-          ∙ ap (λ p. p || rowsShow n t (callBytes b (callIn t (getD rows k 0) .what) (callIn t (getD rows k 0) .thread)) (slice (k + 1) to rows)) this
-          ∙ ap (λ y. q || rowsShow n t y (slice (k + 1) to rows)) next
+          pub try-more : q ≡ false → length b′ ≡ length b → Trying n f t rows from to b₀ b′ s′ (k + 1)
+          try-more w z = calls-more (callIn t row ∷ []) (k + 1) first b′ leaves q shows w z s′ (g .room)
 
-      pub try-shown : q ≡ true → RowsRan n t rows from to b₀ b′ true
-      try-shown g =
-          record {
-            shown = ap (λ p. p || rowsShow n t b′ (slice (k + 1) to rows)) (sym g) ∙ sym left-shown ∙ e .shown;
-            region = λ w. absurd (true≢false w);
-          }
+      -- turns
+      pub turns-ready : TurnsReady b (length s′) turns
+      turns-ready = record { region = e .ready .region; room = g .room; few = g .few }
 
-      pub try-more : q ≡ false → length b′ ≡ length b → Trying n f t rows from to b₀ b′ (k + 1)
-      unfolding regionAfter
-      try-more g z =
-          record {
-            ready =
-                still-ready f b b′ (e .ready) (c .what) (c .thread) (callOutcome b (c .what) (c .thread))
-                (record { outcome = refl; bytes = m .bytes });
-            there = e .there;
-            within = e .within;
-            same = z ∙ e .same;
-            shown = ap (λ p. p || rowsShow n t b′ (slice (k + 1) to rows)) (sym g) ∙ sym left-shown ∙ e .shown;
-            region =
-                ap (rowsRegion t (slice (k + 1) to rows)) (sym next) ∙ ap (λ l. rowsRegion t l b) (sym first) ∙ e .region;
-          }
+      pub turns-fit : to < 2 ^ 64 → Fits w64 (k + turns)
+      turns-fit w = record { fits = omega (arith, g .before) }
+
+      pub turns-less : (turns ≡ 0 → ⊥) → to - (k + turns) < to - k
+      turns-less z = omega arith
+
+      module _ (b′ : List ℕ) (q : Bool) (m : TurnsShown n (turnsFrom s′ 0 turns) b b′ q) where
+        pub group-shown : q ≡ true → RowsRan n t rows from to b₀ b′ true
+        group-shown =
+            calls-shown (map turnCall (turnsFrom s′ 0 turns)) (k + turns) (turns-then t rows s′ k to (e .within) turns g) b′ (m .bytes) q (m .shown)
+
+        pub group-more : q ≡ false → length b′ ≡ length b → Trying n f t rows from to b₀ b′ s′ (k + turns)
+        group-more w z =
+            calls-more (map turnCall (turnsFrom s′ 0 turns)) (k + turns) (turns-then t rows s′ k to (e .within) turns g) b′ (m .bytes) q (m .shown)
+            w z s′ (g .room)

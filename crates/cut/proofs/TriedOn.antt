@@ -12,7 +12,7 @@ use Rattle.cut.specs.Inner.{callIn, callsShow, leftOn, regionAfter, rows
 use Rattle.cut.specs.declared.lines.Call.{Call}
 
 -- Calls one after the other.
-or-assoc : (p q r : Bool) → (p || (q || r)) ≡ ((p || q) || r)
+pub or-assoc : (p q r : Bool) → (p || (q || r)) ≡ ((p || q) || r)
 or-assoc true q r = refl
 or-assoc false q r = refl
 

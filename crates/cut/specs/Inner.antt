@@ -1,7 +1,7 @@
 -- What only the contracts of inner functions and the proofs need. A reader of the result may skip this file.
 use Prim.Native.Nat.{ℕ, zero, suc, _+_, _-_, _*_, _^_, _≤_, _<_}
 use mathlib.Core.Path.{_≡_}
-use mathlib.Core.Bool.{Bool, false, _&&_, _||_}
+use mathlib.Core.Bool.{Bool, true, false, _&&_, _||_}
 use mathlib.Core.List.{List, [], _∷_, _++_, map}
 use mathlib.Core.Option.{Option, none, some}
 use lib.Dec.{eqb}
@@ -12,6 +12,8 @@ use Rattle.region.specs.Answer.{done}
 use Rattle.region.specs.Frame.{frameOf}
 use Rattle.region.specs.Pick.{pick}
 use Rattle.region.specs.declared.frame.Frame.{Frame}
+use Rattle.readable.specs.Readable.{readable}
+use Rattle.run.specs.Run.{Turn as ScheduleTurn, turnAt}
 use Rattle.script.specs.Inner.{Ready}
 use Rattle.script.specs.Script.{callBytes, callOutcome, laidRegion, regionLength, setupRefusal}
 use Rattle.script.specs.declared.reading.ScriptLine.{ScriptLine}
@@ -118,6 +120,29 @@ refusedWith n r = pick (eqb r done) false (eqb r n)
 unfoldable pub refusedAt : ℕ → List ℕ → ℕ → Bool
 refusedAt n a k = eqb (word a (3 * k)) 5 && eqb (word a (3 * k + 1)) n
 
+-- whether one of the m answers from answer k on is
+unfoldable pub anyRefusedAt : ℕ → List ℕ → ℕ → ℕ → Bool
+unfolding refusedAt
+anyRefusedAt n a k zero = false
+anyRefusedAt n a k (suc m) = refusedAt n a k || anyRefusedAt n a (suc k) m
+
+abbrev pub isTurn : What → Bool
+isTurn (Put i) = false
+isTurn Take = false
+isTurn TakeList = false
+isTurn (Permit p) = false
+isTurn (Turn c) = true
+
+-- a call that is not a turn can be made on the region b; so can that of a row of the table t
+pub record CallReady (f : Frame) (b : List ℕ) (what : What) : Type 0 where
+  pub ready : Ready f b
+  pub other : isTurn what ≡ false
+
+pub record RowReady (f : Frame) (b t : List ℕ) (row : ℕ) : Type 0 where
+  pub ready : Ready f b
+  pub there : 6 * row + 6 ≤ length t
+  pub other : isTurn (callIn t row .what) ≡ false
+
 -- whether a line's call shows the number n, and what it leaves
 pub record CallShown (n : ℕ) (b b′ : List ℕ) (what : What) (thread : ℕ) (r : Bool) : Type 0 where
   pub shown : r ≡ isRefusal n (callOutcome b what thread)
@@ -133,6 +158,31 @@ unfoldable pub regionAfter : List Call → List ℕ → List ℕ
 regionAfter [] b = b
 regionAfter (c ∷ cs) b = regionAfter cs (callBytes b (c .what) (c .thread))
 
+-- a turn of a schedule as a call
+abbrev pub turnCall : ScheduleTurn → Call
+turnCall t = record { what = Turn (t .choice); thread = t .thread }
+
+-- turn k is stored in the schedule s, and those before it stay
+pub record TurnStored (s : List ℕ) (k thread choice : ℕ) (s′ : List ℕ) : Type 0 where
+  pub same : length s′ ≡ length s
+  pub stored : turnAt s′ k ≡ record { thread = thread; choice = choice }
+  pub others : (j : ℕ) → j < k → turnAt s′ j ≡ turnAt s j
+
+-- a row is in a table of m words, and turn k in a schedule of l bytes
+pub record EnterRoom (m row l k : ℕ) : Type 0 where
+  pub there : 6 * row + 6 ≤ m
+  pub room : 8 * k + 8 ≤ l
+
+-- the first turns of a schedule of m bytes can be served on the region b, and whether they show the number n, and what they leave
+pub record TurnsReady (b : List ℕ) (m turns : ℕ) : Type 0 where
+  pub region : readable b ≡ true
+  pub room : m ≡ 128
+  pub few : turns ≤ 16
+
+pub record TurnsShown (n : ℕ) (ts : List ScheduleTurn) (b b′ : List ℕ) (r : Bool) : Type 0 where
+  pub shown : r ≡ callsShow n (map turnCall ts) b
+  pub bytes : b′ ≡ regionAfter (map turnCall ts) b
+
 -- the same of the calls of rows of the table t
 abbrev pub rowsShow : ℕ → List ℕ → List ℕ → List ℕ → Bool
 rowsShow n t b rows = callsShow n (map (callIn t) rows) b
@@ -143,6 +193,20 @@ rowsRegion t rows b = regionAfter (map (callIn t) rows) b
 -- all rows are in the table
 pub record RowsIn (t rows : List ℕ) : Type 0 where
   pub each : (k : ℕ) → k < length rows → 6 * getD rows k 0 + 6 ≤ length t
+
+-- the turns with which the lines rows[from..to] start can be entered into a schedule of m bytes, and those that are
+pub record Gatherable (t rows : List ℕ) (from to m : ℕ) : Type 0 where
+  pub there : RowsIn t rows
+  pub some : from < to
+  pub within : to ≤ length rows
+  pub room : m ≡ 128
+
+pub record Gathered (t rows : List ℕ) (from to : ℕ) (s : List ℕ) (r : ℕ) : Type 0 where
+  pub room : length s ≡ 128
+  pub few : r ≤ 16
+  pub before : from + r ≤ to
+  pub each : (j : ℕ) → j < r → callIn t (getD rows (from + j) 0) ≡ turnCall (turnAt s j)
+  pub none : r ≡ 0 → isTurn (callIn t (getD rows from 0) .what) ≡ false
 
 pub record Runnable (f : Frame) (b t rows : List ℕ) (from to : ℕ) : Type 0 where
   pub ready : Ready f b

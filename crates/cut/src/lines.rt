@@ -2,7 +2,7 @@
 // the line's bytes start and end.
 ghost use mathlib.Core.Path.{_≡_};
 ghost use Prim.Native.Nat.{_+_, _*_, _≤_};
-ghost use lib.ListN.{length};
+ghost use lib.ListN.{getD, length};
 ghost use Rattle.cut.specs.Inner.{LinesRead, RowRoom, TableReady, callIn, entered, fieldsOf, spanIn, whatOf};
 use region::Item;
 use script::Line;
@@ -10,7 +10,10 @@ use script::ScriptLine;
 use script::What;
 
 // The words of a row, and room for the rows of any script: 60,000 bytes, ten or more of them for each line.
-const ROW: usize = 6;
+pub const ROW: usize = 6;
+
+// The kind of a turn.
+pub const TURN: u32 = 4;
 
 pub const TABLE_ROOM: usize = 36000;
 
@@ -94,6 +97,14 @@ pub fn position(word: u32) -> usize
     ensures { λ r. ⌜ r ≡ word ⌝ }
 {
     word as usize
+}
+
+// The kind of a row's call.
+pub fn kind_at(table: &[u32], row: usize) -> u32
+    requires { ⌜ 6 * row + 6 ≤ length (now table) ⌝ }
+    ensures { λ r. ⌜ r ≡ getD (now (table .entry)) (6 * row) 0 ⌝ }
+{
+    table[ROW * row]
 }
 
 // The call of a row.

@@ -1,7 +1,6 @@
 -- `cut::trials::call_shows` meets its contract, by the call. Assumes nothing.
 use borrow.Author.Needs.{needs}
-use Rattle.script.proofs.LineCalls.{ready-within}
-use Rattle.cut.proofs.RowsRun.{list-shown, permit-shown, put-shown, take-shown, turn-shown}
+use Rattle.cut.proofs.RowsRun.{call-within, list-shown, permit-shown, put-shown, take-shown, turn-not}
 use Rattle.cut.proofs.trials.call_shows.Statement.{statement}
 use Rattle.cut.proofs.trials.call_shows.Tie as tie
 
@@ -10,19 +9,18 @@ call-shows-spec =
     tie.close
     (tie.spec
     (λ c. search needs)
-    (λ c κs. search ready-within)
+    (λ c κs. search call-within)
     (λ c κs. search needs)
     (λ c. search needs)
-    (λ c κs. search ready-within)
+    (λ c κs. search call-within)
     (λ c κs. search needs)
     (λ c. search needs)
-    (λ c κs. search ready-within)
+    (λ c κs. search call-within)
     (λ c κs. search needs)
     (λ c. search needs)
-    (λ c κs. search ready-within)
+    (λ c κs. search call-within)
     (λ c κs. search needs)
     (λ c. search needs)
-    (λ c κs. search needs)
     (λ c. search needs)
     (λ c. search put-shown)
     (λ c. search needs)
@@ -31,5 +29,4 @@ call-shows-spec =
     (λ c. search list-shown)
     (λ c. search needs)
     (λ c. search permit-shown)
-    (λ c. search needs)
-    (λ c. search turn-shown))
+    (λ c. search turn-not))
