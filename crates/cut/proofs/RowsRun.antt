@@ -1,4 +1,4 @@
--- Running lines of the table: one pass of the loop over plain variables; a refusal told from others. Assumes nothing.
+-- Running lines of the table: one pass of the loop over plain variables, and a refusal told from others. Assumes nothing.
 use Prim.Native.Nat.{ℕ, suc, _+_, _-_, _*_, _^_, _≤_, _<_}
 use native.Mathlib.Numerals.{add-one}
 use native.Mathlib.Omega.{arith}

@@ -67,7 +67,7 @@ fn fields_of(what: What) -> Fields
             b: 0,
         },
         What::Turn(choice) => Fields {
-            kind: 4,
+            kind: TURN,
             a: choice,
             b: 0,
         },
@@ -77,7 +77,7 @@ fn fields_of(what: What) -> Fields
 fn what_of(kind: u32, a: u32, b: u32) -> What
     ensures { λ r. ⌜ r ≡ whatOf kind a b ⌝ }
 {
-    if kind == 4 {
+    if kind == TURN {
         return What::Turn(a);
     }
     if kind == 0 {

@@ -1,5 +1,5 @@
 // Trials: the lines that are left are run from a region on, up to the first that shows the number. No line's call looks at the whole region:
-// it is laid out, so it is readable, and every call keeps it so.
+// it is laid out, so it is readable, and every call keeps it so. Turns that follow each other are served together, by a run.
 ghost use mathlib.Core.Path.{_≡_};
 ghost use Prim.Native.Nat.{_+_, _*_, _≤_};
 ghost use lib.ListN.{getD, length};
@@ -104,7 +104,7 @@ fn turns_show(region: &mut [u8], schedule: &[u8], turns: usize, number: u32) -> 
     any_refusal(&answers, turns, number)
 }
 
-// Makes the call of a row that is not a turn, and tells whether it shows the number.
+// Makes a call that is not a turn, and tells whether it shows the number.
 fn call_shows(f: Frame, region: &mut [u8], what: What, thread: u32, number: u32) -> bool
     requires { ⌜ CallReady f (now region) what ⌝ }
     ensures { λ r. ⌜ CallShown number (now (region .entry)) (now (region .exit)) what thread r ⌝ }
@@ -124,6 +124,7 @@ fn call_shows(f: Frame, region: &mut [u8], what: What, thread: u32, number: u32)
     }
 }
 
+// Makes the call of a row that is not a turn, and tells whether it shows the number.
 fn row_shows(f: Frame, region: &mut [u8], table: &[u32], row: usize, number: u32) -> bool
     requires { ⌜ RowReady f (now region) (now table) row ⌝ }
     ensures { λ r. ⌜ CallShown number (now (region .entry)) (now (region .exit)) (callIn (now (table .entry)) row .what) (callIn (now (table .entry)) row .thread) r ⌝ }
