@@ -148,7 +148,7 @@ pub record CallShown (n : ℕ) (b b′ : List ℕ) (what : What) (thread : ℕ) 
   pub shown : r ≡ isRefusal n (callOutcome b what thread)
   pub bytes : b′ ≡ callBytes b what thread
 
--- Whether one of these calls shows the number n, on the region b, and the region after them.
+-- whether one of these calls shows the number n, on the region b, and the region after them
 unfoldable pub callsShow : ℕ → List Call → List ℕ → Bool
 callsShow n [] b = false
 callsShow n (c ∷ cs) b =
@@ -183,7 +183,7 @@ pub record TurnsShown (n : ℕ) (ts : List ScheduleTurn) (b b′ : List ℕ) (r 
   pub shown : r ≡ callsShow n (map turnCall ts) b
   pub bytes : b′ ≡ regionAfter (map turnCall ts) b
 
--- the same of the calls of rows of the table t
+-- whether the calls of rows of the table t show the number n, and the region after them
 abbrev pub rowsShow : ℕ → List ℕ → List ℕ → List ℕ → Bool
 rowsShow n t b rows = callsShow n (map (callIn t) rows) b
 
@@ -253,7 +253,7 @@ pub record Triable (trial : Trial) (t rows : List ℕ) (from to kept : ℕ) (b :
   pub before : to ≤ kept
   pub within : kept ≤ length rows
 
--- there is room for a second region behind the first, on which lines rows[from..to] can be run; and what running them there leaves
+-- there is a slot before the last one for a copy of its region, on which lines rows[from..to] can be run; and what running them there leaves
 pub record HalfReady (trial : Trial) (t rows : List ℕ) (from to : ℕ) (states : List ℕ) : Type 0 where
   pub ready : Ready (trial .frame) (regionIn (trial .size) states)
   pub there : RowsIn t rows
