@@ -154,8 +154,9 @@ uint32_t mound_records(const uint8_t *records, size_t records_length);
  * out without losing it. Lines are tried for removal from the last to the first, over and over until a whole pass removes none; what is
  * left is written as it stands, and bytes of `out` behind it stay. A layout that is refused shows that with no line at all. Answers two
  * numbers in one, which the functions below take apart; a refused call has written nothing.
- * Refusals: 2, 16. For 16 every line counts, those behind a refused layout too, and so does a script of more than 60,000 bytes.
- * Cost: each line is read once; a pass over n lines that keeps k copies the script's region n times and carries out at most
+ * Refusals: 2, 16. 16 also for a line behind a refused layout that cannot be read, though it would not be run, and for a script of more than
+ * 60,000 bytes.
+ * Cost: each line is read once; a pass over n lines that keeps k copies the script's region at most n times and carries out at most
  * n * (log2(n) + k) lines, none of which checks the region; 360 kB of stack.
  */
 uint64_t mound_cut(const uint8_t *script, size_t script_length, uint32_t number, uint8_t *out, size_t out_length);

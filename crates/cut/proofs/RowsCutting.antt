@@ -1,4 +1,4 @@
--- Passes on a laid-out region: the region at the start of the states, a pass, and the loop over passes. Assumes nothing.
+-- Passes on a laid-out region: the region in the last slot of the states, a pass, and the loop over passes. Assumes nothing.
 use Prim.Native.Nat.{ℕ, zero, suc, _+_, _-_, _*_, _≤_, _<_}
 use native.Mathlib.Omega.{arith}
 use mathlib.Core.Path.{_≡_, refl, sym, ap, subst, _∙_}

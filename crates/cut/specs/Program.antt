@@ -1,5 +1,5 @@
--- What the program `cut_main` prints, from its input: the number in decimal, LF, and then the script. "It prints the cut script, or the one line
--- `refused 16`".
+-- What the program `cut_main` prints, from its input, the number in decimal, LF, and then the script: what is left of the script, or the one
+-- line `refused 16`. The request names no program; this one is for people.
 use Prim.Native.Nat.{ℕ}
 use mathlib.Core.Path.{_≡_}
 use mathlib.Core.List.{List, _++_}
@@ -26,7 +26,7 @@ abbrev pub numberAndScript : List ℕ → Number → List ℕ
 numberAndScript input Unreadable = refusedLine
 numberAndScript input (Read n at) = cutOrRefused (drop at input) n
 
--- ten digits, LF, and a script of 60,000 bytes
+-- the most bytes of the input: ten digits, LF, and a script of 60,000. A longer one is refused, be it by leading zeros of the number alone.
 abbrev pub inputMost : ℕ
 inputMost = 60011
 

@@ -41,7 +41,7 @@ pub record PassesEnd (A : Type 0) : Type 0 where
 
 -- What is written when the script s, read as x, is cut down to the number n, in the request's words.
 pub record IsCut (s : List ℕ) (n : ℕ) (x : Script) (written : List ℕ) : Type 0 where
-  -- "made of lines of the first in their order with the three heading lines kept"
+  -- "made of lines of the first in their order with the three heading lines kept"; a Sublistᴰ has some of the elements, in their order
   pub made-of-lines : Sublistᴰ (cutOf n x .lines) (x .lines)
   pub is-its-lines : written ≡ scriptBytes (cutOf n x)
   pub can-be-read : readScript written ≡ some (cutOf n x)
@@ -53,7 +53,7 @@ pub record IsCut (s : List ℕ) (n : ℕ) (x : Script) (written : List ℕ) : Ty
       (front : List Entry) (e : Entry) (back : List Entry) → cutOf n x .lines ≡ front ++ (e ∷ back)
       → (readScript (scriptBytes (withLines x (front ++ back))) ≡ some (withLines x (front ++ back)))
       × (shows n (x .setup) (front ++ back) ≡ false)
-  -- cutting what was cut changes nothing
+  -- cutting what was cut, for the same number, changes nothing
   pub cut-again : (room : ℕ) → length written ≤ room → (cutRefusal written n room ≡ done) × (cutScript written n room ≡ written)
 
 -- of every call that is not refused

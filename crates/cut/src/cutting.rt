@@ -170,8 +170,8 @@ fn cut_read(s: &[u8], setup: Setup, table: &[u32], count: usize, number: u32, ou
     }
 }
 
-// Cuts a script down to the lines without which its output does not show a refusal with this number: answers the refusal or 0 and how many
-// bytes the script that is left has, and leaves them at the start of out. All else in it stays as it was. Refusals 2, 16.
+// Cuts a script down to lines that still show a refusal with this number, and of which none can be left out: answers the refusal or 0 and how
+// many bytes the script that is left has, and leaves them at the start of out. All else in it stays as it was. Refusals 2, 16.
 pub fn cut_script(s: &[u8], number: u32, out: &mut [u8]) -> Cut
     ensures { λ r. ⌜ CutDown (now (s .entry)) number (now (out .entry)) (now (out .exit)) (r .refusal) (r .length) ⌝ }
 {

@@ -9,13 +9,14 @@ use script::Line;
 use script::ScriptLine;
 use script::What;
 
-// The words of a row, and room for the rows of any script: 60,000 bytes, ten or more of them for each line.
+// The words of a row.
 pub const ROW: usize = 6;
 
-// The kind of a turn.
-pub const TURN: u32 = 4;
-
+// Room for the rows of any script, which has at most 60,000 bytes and ten or more of them for each line.
 pub const TABLE_ROOM: usize = 36000;
+
+// The kind of a turn in a row; a put is 0, a take 1, a list 2, a permission 3.
+pub const TURN: u32 = 4;
 
 // A line's call, and whose it is.
 pub struct Call {

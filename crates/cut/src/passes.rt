@@ -1,5 +1,5 @@
 // Passes over the lines that are left, each line tried for removal from the last to the first. `rows` has the lines' rows in the table; those
-// that a pass keeps move to its end.
+// that a pass keeps move to the end of `rows`.
 ghost use mathlib.Core.Path.{_≡_};
 ghost use Prim.Native.Nat.{_+_};
 ghost use lib.ListN.{length};
@@ -128,7 +128,8 @@ pub fn show(setup: Setup, trial: Trial, table: &[u32], rows: &[u32], states: &mu
     )
 }
 
-// One pass over the lines from a position on, on a region that is laid out in the last slot of states.
+// One pass over the lines from a position on, on a region that is laid out in the last slot of states. Answers where the lines that are left
+// start.
 fn pass_once(
     setup: Setup,
     trial: Trial,

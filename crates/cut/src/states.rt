@@ -6,7 +6,7 @@ ghost use Prim.Native.Nat.{_+_, _≤_};
 ghost use lib.ListN.{length};
 ghost use Rattle.cut.specs.Inner.{copiedDown};
 
-// The bytes of a slot: a region of the largest size, and some more so that slots begin at cache lines of the states.
+// The bytes of a slot: a region of the largest size, 13,068, rounded up to a multiple of 64, so that all slots lie alike in cache lines.
 pub const SLOT: usize = 13120;
 
 pub const TWO_SLOTS: usize = 26240;

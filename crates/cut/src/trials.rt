@@ -1,5 +1,5 @@
-// Trials: the lines that are left are run from a region on, up to the first that shows the number. No line's call looks at the whole region:
-// it is laid out, so it is readable, and every call keeps it so. Turns that follow each other are served together, by a run.
+// Trials: the lines that are left are run from a region on, until the number is shown. Turns that follow each other are served together, by one
+// run, which goes to its end. No line's call looks at the whole region: it is laid out, so it is readable, and every call keeps it so.
 ghost use mathlib.Core.Path.{_≡_};
 ghost use Prim.Native.Nat.{_+_, _*_, _≤_};
 ghost use lib.ListN.{getD, length};
@@ -15,7 +15,7 @@ use region::Frame;
 use region::Place;
 use script::What;
 
-// The most turns that are served at once.
+// The most turns that are served at once: 128 bytes of schedule, 192 of answers.
 const GROUP: usize = 16;
 
 // Whether a call that is not a turn is refused with this number.
@@ -100,6 +100,7 @@ fn turns_show(region: &mut [u8], schedule: &[u8], turns: usize, number: u32) -> 
 {
     let end = 8 * turns;
     let mut answers = [0u8; 192];
+    // with a limit that so few turns cannot reach
     run::run_ready(region, &schedule[..end], 4294967295, &mut answers);
     any_refusal(&answers, turns, number)
 }

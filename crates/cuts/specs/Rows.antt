@@ -47,9 +47,10 @@ no-cell = leaves crowded 10 133 (script "1 1 2 1 3" "put 1 5 9\nput 2 7 9\n")
 abbrev pub shown-twice : Row
 shown-twice = leaves (script "1 1 1 1 3" "put 1 5 9\nput 1 6 9\nput 1 7 9\n") 9 97 (script "1 1 1 1 3" "put 1 5 9\nput 1 6 9\n")
 
--- "Over and over". The first pass keeps the put, since nothing else is refused. The turn goes, since without it the take is under way and the
--- list is 9, and so does the permission. The take stays: without it the list begins, and the put, with permission 2, is 8. The second pass
--- leaves the put out, since now the list is 9. From the first to the last, permission, list and put would be left.
+-- "Over and over". The first pass keeps the put, since nothing else is refused, and the list, without which the put begins. The turn goes, since
+-- without it the take is under way and the list is 9, and so does the permission. The take stays: without it the list begins, and the put,
+-- with permission 2, is 8. The second pass leaves the put out, since now the list is 9. From the first to the last, permission, list and put
+-- would be left.
 abbrev pub second-pass : Row
 second-pass =
     leaves

@@ -122,7 +122,7 @@ pub fn run_in(f: Frame, b: &mut [u8], schedule: &[u8], limit: u32, answers: &mut
     }
 }
 
-// Runs a schedule on a region that holds one queue, which is not looked at again.
+// Runs a schedule on a region that is known to be readable, without the check. Refused 6, 5 in that order; a refused run changes no byte.
 pub fn run_ready(b: &mut [u8], schedule: &[u8], limit: u32, answers: &mut [u8]) -> Outcome
     requires { ⌜ readable (now b) ≡ true ⌝ }
     ensures { λ r. ⌜ Ran (now (b .entry)) (now (b .exit)) (now (schedule .entry)) limit (now (answers .entry)) (now (answers .exit)) r ⌝ }
