@@ -1,7 +1,7 @@
 /*
  * A wake-up queue of two plugin threads, from C. Both put wake-ups, whose turns cross; then one takes the least, one takes the rest as a
- * list, and one loses its permission while it puts. Then records of threads that ran at the same time are checked, and a script is cut
- * down. ./test builds this program, runs it and compares what it prints with wake_ups.out.
+ * list, and one loses its permission while it puts. Then a region of the old form is converted, records of threads that ran at the same
+ * time are checked, and a script is cut down. ./test builds this program, runs it and compares what it prints with wake_ups.out.
  */
 #include <stdio.h>
 
@@ -51,6 +51,25 @@ static void run(uint32_t turns)
     for (turn = 0; turn < mound_run_turns(done); turn++)
         report_turn(1 + turn % THREADS, answers + turn * MOUND_ANSWER_BYTES);
     printf("  %u turns, %u accesses\n", (unsigned)mound_run_turns(done), (unsigned)mound_run_accesses(done));
+}
+
+/*
+ * Converts a region that an earlier version of the library has laid out, for one item and one thread; its words, which a host has from then,
+ * are written here one by one.
+ */
+static void convert_old_region(void)
+{
+    uint8_t old[MOUND_OLD_REGION_BYTES(1, 1, 1)] = {0};
+    uint8_t converted[MOUND_REGION_BYTES(1, 1, 1)];
+    size_t word;
+
+    for (word = 0; word < 6; word++)
+        mound_set_word(old, word, 1); /* the shape, the present depth, the first free cell */
+    mound_set_word(old, 12, MOUND_MAY_PUT_AND_TAKE);
+    report("check of a region of the old form", mound_check(old, sizeof old));
+    report("its conversion to too few bytes", mound_convert(old, sizeof old, converted, sizeof converted - 4));
+    report("its conversion", mound_convert(old, sizeof old, converted, sizeof converted));
+    report("its thread puts", mound_put(converted, sizeof converted, 1, 5, 9));
 }
 
 /*
@@ -125,6 +144,8 @@ int main(void)
     report("check, with a present depth that is too great", mound_check(region, sizeof region));
     run(4);
     report("check of no bytes", mound_check(NULL, 0));
+
+    convert_old_region();
 
     check_records("records, the put first", 1, 2, 2 * MOUND_RECORD_BYTES);
     check_records("records, the take first", 2, 1, 2 * MOUND_RECORD_BYTES);

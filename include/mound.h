@@ -28,11 +28,11 @@ enum mound_refusal {
     MOUND_REFUSED_ITEM = 4,           /* the key or the tag is out of range */
     MOUND_REFUSED_ANSWER_LENGTH = 5,  /* the answers have less than 12 bytes a turn */
     MOUND_REFUSED_SCHEDULE = 6,       /* the schedule is not whole turns of 8 bytes, or more than 4,096 */
-    MOUND_REFUSED_UNREADABLE = 7,     /* the region is not readable; or a turn's step names what does not exist */
+    MOUND_REFUSED_UNREADABLE = 7,     /* the region is not readable (of a conversion: the old one); or a turn's step names what does not exist */
     MOUND_REFUSED_PERMISSION = 8,     /* the thread lacks the permission */
     MOUND_REFUSED_BUSY = 9,           /* the thread has an operation under way */
     MOUND_REFUSED_NO_FREE_CELL = 10,  /* no cell is free */
-    MOUND_REFUSED_COUNTER_SPENT = 11, /* only of a turn: its update meets a counter that cannot grow */
+    MOUND_REFUSED_COUNTER_SPENT = 11, /* only of a turn: its update meets a counter of 2^64 - 1, which cannot grow */
     MOUND_REFUSED_RECORDS = 12,       /* a part of a record, more than 1,024, or a kind, thread, key or tag out of range (of an empty: not 0) */
     MOUND_REFUSED_NOT_SHOWN = 16      /* the script has a line that cannot be read, or does not show the refusal */
 };
@@ -76,8 +76,13 @@ enum mound_kind {
 #define MOUND_MOST_RECORDS 1024u
 #define MOUND_MOST_SCRIPT_BYTES 60000u
 
-/* The bytes of a region of that shape, of a turn in a schedule, of a turn's answer, and of a record. */
+/*
+ * The bytes of a region of that shape, of one in the old form, whose counters have 32 bits, of a turn in a schedule, of a turn's answer, and
+ * of a record.
+ */
 #define MOUND_REGION_BYTES(depth, cells, threads) \
+    (4 * (6 + 4 * (((size_t)1 << (depth)) - 1) + 3 * (size_t)(cells) + 36 * (size_t)(threads)))
+#define MOUND_OLD_REGION_BYTES(depth, cells, threads) \
     (4 * (6 + 3 * (((size_t)1 << (depth)) - 1) + 3 * (size_t)(cells) + 33 * (size_t)(threads)))
 #define MOUND_TURN_BYTES ((size_t)8)
 #define MOUND_ANSWER_BYTES ((size_t)12)
@@ -137,6 +142,15 @@ uint64_t mound_run(uint8_t *region, size_t region_length, const uint8_t *schedul
 uint32_t mound_check(const uint8_t *region, size_t region_length);
 
 /*
+ * Carries a region of the old form over, as earlier versions of this library left it: every byte of `new_region` is set, to the same values,
+ * and the high words of the counters to 0; operations under way go on where they stand. `old` is only read. Calls on the new region then
+ * answer as those versions would on the old one, up to the first turn that they would refuse 11, which was at a counter of 2^32 - 1. The
+ * first four words of either form are the shape, by which MOUND_REGION_BYTES gives the length that `new_region` has to have.
+ * Refusals: 7 for `old`, 2 for the length of `new_region`. Cost: that of mound_check for `old`, then a store for each word.
+ */
+uint32_t mound_convert(const uint8_t *old, size_t old_length, uint8_t *new_region, size_t new_length);
+
+/*
  * Whether what threads of a native build did was what a queue may do. A record is seven words: kind, thread (1 to 64), begin time,
  * answer time, claimed position, key, tag; key and tag are an item's, of an empty 0. Done exactly if each begins before its answer; of
  * two operations of a thread one is answered before the other begins; the positions are 1 to the number of records, each claimed once;
@@ -157,7 +171,7 @@ uint32_t mound_records(const uint8_t *records, size_t records_length);
  * Refusals: 2, 16. 16 also for a line behind a refused layout that cannot be read, though it would not be run, and for a script of more than
  * 60,000 bytes.
  * Cost: each line is read once; a pass over n lines that keeps k copies the script's region at most n times and carries out at most
- * n * (log2(n) + k) lines, none of which checks the region; 360 kB of stack.
+ * n * (log2(n) + k) lines, none of which checks the region; 385 kB of stack.
  */
 uint64_t mound_cut(const uint8_t *script, size_t script_length, uint32_t number, uint8_t *out, size_t out_length);
 

@@ -21,7 +21,7 @@ use Rattle.begin.specs.Begin.{putRefusal, putRefusalIn, takeRefusal, takeRefusa
 use Rattle.run.specs.Run.{Served, Turn, runRefusal, serve, soFar, turnsFrom}
 use Rattle.preserved.proofs.Proved.{put-passed, take-passed}
 use Rattle.theory.specs.Told.{Told, nothing, beginsPut, beginsTake, beginsList, decidesPut, decidesTake, decidesList, decidesEmpty, answersTook, withdraws}
-use Rattle.bag.specs.Calls.{Call, after, check, layout, list, permit, put, refusalOf, run, take}
+use Rattle.bag.specs.Calls.{Call, after, check, convert, layout, list, permit, put, refusalOf, run, take}
 use Rattle.bag.specs.History.{Moment, ServedTurn, callMoments, called, history, servedMoments, servedOn, turnMoments, turned}
 use Rattle.bag.specs.Told.{callTells, tells}
 use Rattle.bag.proofs.Histories.{turned-so}
@@ -78,6 +78,7 @@ call-begins b c = pick-good BeginsInRange (eqb (refusalOf b c) done) (λ e. go c
   where
     go : (c : Call) → refusalOf b c ≡ done → BeginsInRange (callTells c)
     go (layout s permissions) e = tt
+    go (convert old) e = tt
     go (put t i) e = put-in-range b t i e
     go (take t) e = take-in-range b t e
     go (list t) e = tt
@@ -101,6 +102,7 @@ turns-begin f limit (t ∷ ts) r = go (eqb (r .accesses) limit) (turns-begin f l
 served-begin : (b : List ℕ) (c : Call) → AllBegin (servedMoments b c)
 unfolding servedMoments pick
 served-begin b (layout s permissions) = tt
+served-begin b (convert old) = tt
 served-begin b (put t i) = tt
 served-begin b (take t) = tt
 served-begin b (list t) = tt

@@ -8,8 +8,8 @@ use lib.ListN.{length}
 use Rattle.words.specs.Word.{word}
 use Rattle.words.specs.Inner.{Fit}
 use Rattle.words.proofs.Laws.{word-other, length-setWord}
-use Rattle.region.specs.Inner.{Framed}
-use Rattle.region.specs.Record.{nodeWords, cellWords, zeroItem}
+use Rattle.region.specs.Inner.{Framed, NodeFits}
+use Rattle.region.specs.Record.{cellWords, zeroItem}
 use Rattle.region.specs.Shape.{nodeCount}
 use Rattle.region.specs.Shared.{setNode, setCell, setFree, cellIn, sharedIn, setNodeIn, setCellIn}
 use Rattle.region.specs.declared.frame.Frame.{Frame}
@@ -31,12 +31,12 @@ abbrev pub EffectFits : Frame → List ℕ → Effect → Type 0
 EffectFits f b Nothing = Unit
 EffectFits f b (Grow d) = d < 2 ^ 32
 EffectFits f b (Push n v c x) =
-    IsNode f n × IsCell f c × Fit (nodeWords v) × Fit (cellWords (record { item = cellIn f b c .item; next = x }))
+    IsNode f n × IsCell f c × NodeFits (f .width) v × Fit (cellWords (record { item = cellIn f b c .item; next = x }))
 EffectFits f b (Pop v c) =
-    IsNode f 1 × IsCell f c × Fit (nodeWords v) × (word b (f .free) < 2 ^ 32)
-EffectFits f b (Exchange n v k w) = IsNode f n × IsNode f k × Fit (nodeWords v) × Fit (nodeWords w)
-EffectFits f b (Clean n v) = IsNode f n × Fit (nodeWords v)
-EffectFits f b (Detach v) = IsNode f 1 × Fit (nodeWords v)
+    IsNode f 1 × IsCell f c × NodeFits (f .width) v × (word b (f .free) < 2 ^ 32)
+EffectFits f b (Exchange n v k w) = IsNode f n × IsNode f k × NodeFits (f .width) v × NodeFits (f .width) w
+EffectFits f b (Clean n v) = IsNode f n × NodeFits (f .width) v
+EffectFits f b (Detach v) = IsNode f 1 × NodeFits (f .width) v
 EffectFits f b (Free c) = IsCell f c × (word b (f .free) < 2 ^ 32)
 
 -- The length stays.

@@ -1,11 +1,11 @@
 -- What a comparison, the dirty mark and the counter's test tell of a node, and what an update makes of it. Assumes nothing.
-use Prim.Native.Nat.{ℕ, _+_, _≤_}
+use Prim.Native.Nat.{ℕ, _+_, _*_, _/_, _^_, _≤_, _<_}
 use native.Mathlib.Omega.{arith}
 use mathlib.Core.Path.{_≡_, refl, sym, _∙_}
 use mathlib.Core.Bool.{Bool, true, false, _&&_}
 use borrow.Author.Tests.{eq-eqb, eqb-true, eqb-false, not-true, not-false}
 use lib.Dec.{eqb}
-use Rattle.region.specs.Record.{greatestCounter}
+use Rattle.region.specs.Record.{counterOf, greatestCounter}
 use Rattle.region.specs.declared.record.Node.{Node}
 use Rattle.region.proofs.Shapes.{and-left, and-right}
 use Rattle.access.specs.Read.{isDirty, isSpent, sameNode, updated}
@@ -14,17 +14,29 @@ use Rattle.access.specs.Read.{isDirty, isSpent, sameNode, updated}
 pub same-node : (a b : Node) → sameNode a b ≡ true → a ≡ b
 unfolding sameNode
 same-node a b e =
-    let p = and-left (eqb (a .first) (b .first) && eqb (a .dirty) (b .dirty)) (eqb (a .counter) (b .counter)) e in
-    let f = eqb-true (a .first) (b .first) (and-left (eqb (a .first) (b .first)) (eqb (a .dirty) (b .dirty)) p) in
-    let d = eqb-true (a .dirty) (b .dirty) (and-right (eqb (a .first) (b .first)) (eqb (a .dirty) (b .dirty)) p) in
-    let c = eqb-true (a .counter) (b .counter) (and-right (eqb (a .first) (b .first) && eqb (a .dirty) (b .dirty)) (eqb (a .counter) (b .counter)) e) in
-    λ i. record { first = f i; dirty = d i; counter = c i }
+    let ef = eqb (a .first) (b .first) in
+    let ed = eqb (a .dirty) (b .dirty) in
+    let el = eqb (a .low) (b .low) in
+    let eh = eqb (a .high) (b .high) in
+    let three = and-left (ef && ed && el) eh e in
+    let two = and-left (ef && ed) el three in
+    let f = eqb-true (a .first) (b .first) (and-left ef ed two) in
+    let d = eqb-true (a .dirty) (b .dirty) (and-right ef ed two) in
+    let l = eqb-true (a .low) (b .low) (and-right (ef && ed) el three) in
+    let h = eqb-true (a .high) (b .high) (and-right (ef && ed && el) eh e) in
+    λ i. record { first = f i; dirty = d i; low = l i; high = h i }
 
 -- and it finds every node equal to itself
 pub same-itself : (n : Node) → sameNode n n ≡ true
 unfolding sameNode
 same-itself n =
-    rw (eq-eqb (n .first) (n .first) refl, eq-eqb (n .dirty) (n .dirty) refl, eq-eqb (n .counter) (n .counter) refl) refl
+    rw (
+      eq-eqb (n .first) (n .first) refl,
+      eq-eqb (n .dirty) (n .dirty) refl,
+      eq-eqb (n .low) (n .low) refl,
+      eq-eqb (n .high) (n .high) refl,
+    )
+    refl
 
 pub is-dirty : (n : Node) → isDirty n ≡ true → 1 ≤ n .dirty
 unfolding isDirty
@@ -37,12 +49,12 @@ is-clean n e = eqb-true (n .dirty) 0 (not-false (eqb (n .dirty) 0) e)
 pub not-spent : (n : Node) (p : Bool) → p ≡ isSpent n → p ≡ false → isSpent n ≡ false
 not-spent n p e g = sym e ∙ g
 
--- a counter that is not spent has a next value
-pub next-counter : (n : Node) → isSpent n ≡ false → n .counter ≤ greatestCounter → n .counter + 1 ≤ greatestCounter
+-- a counter that is not spent has a next value: the carry fits the high word
+pub carry-fits : (n : Node) → isSpent n ≡ false → n .low < 2 ^ 32 → n .high < 2 ^ 32 → n .high + (n .low + 1) / 4294967296 < 2 ^ 32
 unfolding isSpent
-next-counter n e h =
-    let ne : n .counter ≡ greatestCounter → ⊥ = eqb-false (n .counter) greatestCounter e in
-    omega arith
+carry-fits n e l h =
+    let ne : n .low + 4294967296 * n .high ≡ greatestCounter → ⊥ = eqb-false (counterOf n) greatestCounter e in
+    omega (arith, ne)
 
 -- An update gives a node another list and mark, and makes its counter one more: by these laws alone the theory of the mound knows it.
 module _ (n : Node) (first dirty : ℕ) where
@@ -54,6 +66,14 @@ module _ (n : Node) (first dirty : ℕ) where
   unfolding updated
   updated-dirty = refl
 
-  pub updated-counter : updated n first dirty .counter ≡ n .counter + 1
+  pub updated-counter : counterOf (updated n first dirty) ≡ counterOf n + 1
+  unfolding updated counterOf
+  updated-counter = omega arith
+
+  pub updated-low : updated n first dirty .low < 2 ^ 32
   unfolding updated
-  updated-counter = refl
+  updated-low = omega arith
+
+  pub updated-high : updated n first dirty .high ≡ n .high + (n .low + 1) / 4294967296
+  unfolding updated
+  updated-high = refl

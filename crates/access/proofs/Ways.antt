@@ -11,7 +11,7 @@ use mir.Val.{hasKey}
 use types.Run.{OneOf, miss}
 use Rattle.words.specs.Word.{word, setWord}
 use Rattle.region.specs.Pick.{pick}
-use Rattle.region.specs.Record.{zeroItem}
+use Rattle.region.specs.Record.{counterOf, greatestCounter, zeroItem}
 use Rattle.region.specs.Shape.{nodeCount}
 use Rattle.region.specs.Shared.{sharedIn, nodeIn, cellIn, setNodeIn, setCellIn}
 use Rattle.region.specs.declared.frame.Frame.{Frame}
@@ -27,7 +27,6 @@ use Rattle.access.specs.Order.{itemLe, topItem, valueOf}
 use Rattle.access.specs.Read.{isNode, isSpent, readNode, sameNode}
 use Rattle.access.specs.declared.effect.Effect.{Effect}
 use Rattle.access.specs.declared.effect.Effect.the-variants.{Nothing, Grow, Push, Pop, Exchange, Clean, Detach, Free}
-use Rattle.access.proofs.ReadLaws.{next-counter}
 use Rattle.access.proofs.effect.Effect.{the-type}
 
 -- a key counts more than a tag, which is one word
@@ -67,12 +66,28 @@ module _ (a b : Node) where
     unfolding sameNode
     other-dirty n = rw (eq-eqb (a .first) (b .first) e, ne-eqb (a .dirty) (b .dirty) n) refl
 
-    pub same-rest : a .dirty ≡ b .dirty → eqb (a .counter) (b .counter) ≡ sameNode a b
-    unfolding sameNode
-    same-rest d = rw (eq-eqb (a .first) (b .first) e, eq-eqb (a .dirty) (b .dirty) d) refl
+    module _ (d : a .dirty ≡ b .dirty) where
+      pub other-low : (a .low ≡ b .low → ⊥) → false ≡ sameNode a b
+      unfolding sameNode
+      other-low n = rw (eq-eqb (a .first) (b .first) e, eq-eqb (a .dirty) (b .dirty) d, ne-eqb (a .low) (b .low) n) refl
 
-pub counts-up : (n : Node) → isSpent n ≡ false → n .counter < 2 ^ 32 → n .counter + 1 < 2 ^ 32
-counts-up n e h = omega (arith, next-counter n e (omega arith))
+      pub same-rest : a .low ≡ b .low → eqb (a .high) (b .high) ≡ sameNode a b
+      unfolding sameNode
+      same-rest l = rw (eq-eqb (a .first) (b .first) e, eq-eqb (a .dirty) (b .dirty) d, eq-eqb (a .low) (b .low) l) refl
+
+-- the counter has its last value where both its words have
+module _ (n : Node) (fl : n .low < 2 ^ 32) (fh : n .high < 2 ^ 32) where
+  pub low-goes-on : (n .low ≡ 4294967295 → ⊥) → false ≡ isSpent n
+  unfolding isSpent counterOf
+  low-goes-on h = sym (ne-eqb (counterOf n) greatestCounter (λ e. omega (arith, h, e)))
+
+  pub high-decides : n .low ≡ 4294967295 → eqb (n .high) 4294967295 ≡ isSpent n
+  unfolding isSpent counterOf
+  high-decides l = go (eqb (n .high) 4294967295) refl
+    where
+      go : (q : Bool) → eqb (n .high) 4294967295 ≡ q → q ≡ eqb (counterOf n) greatestCounter
+      go true e = let h = eqb-true (n .high) 4294967295 e in sym (eq-eqb (counterOf n) greatestCounter (omega arith))
+      go false e = let h = eqb-false (n .high) 4294967295 e in sym (ne-eqb (counterOf n) greatestCounter (λ z. omega (arith, h, z)))
 
 module _ (s : Shape) (n : ℕ) where
   pub no-node : n < 1 → false ≡ isNode s n

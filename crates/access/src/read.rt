@@ -7,10 +7,12 @@ ghost use Rattle.region.specs.Inner.{Within};
 ghost use Rattle.region.specs.Shared.{sharedIn};
 ghost use Rattle.access.specs.Read.{isDirty, isLevel, isNode, isSpent, readNode, sameNode, updated};
 use region::Frame;
-use region::GREATEST_COUNTER;
 use region::Node;
 use region::NodeCopy;
 use region::Shape;
+
+// The last value of a word of a counter.
+const LAST: u32 = 4294967295;
 
 // READ of node n, with its head cell.
 pub fn read_node(f: Frame, b: &[u8], n: u32) -> NodeCopy
@@ -32,7 +34,10 @@ pub fn same_node(a: Node, b: Node) -> bool
     if a.dirty != b.dirty {
         return false;
     }
-    a.counter == b.counter
+    if a.low != b.low {
+        return false;
+    }
+    a.high == b.high
 }
 
 pub fn is_dirty(n: Node) -> bool
@@ -45,7 +50,10 @@ pub fn is_dirty(n: Node) -> bool
 pub fn is_spent(n: Node) -> bool
     ensures { λ r. ⌜ r ≡ isSpent n ⌝ }
 {
-    n.counter == GREATEST_COUNTER
+    if n.low != LAST {
+        return false;
+    }
+    n.high == LAST
 }
 
 // The node with another list and mark, and its counter one more.
@@ -53,10 +61,12 @@ pub fn updated_node(n: Node, first: u32, dirty: u32) -> Node
     requires { ⌜ isSpent n ≡ false ⌝ }
     ensures { λ r. ⌜ r ≡ updated n first dirty ⌝ }
 {
+    let low = n.low as u64 + 1;
     Node {
         first,
         dirty,
-        counter: n.counter + 1,
+        low: (low % 4294967296) as u32,
+        high: n.high + (low / 4294967296) as u32,
     }
 }
 

@@ -10,7 +10,7 @@ use borrow.Author.Tests.{eq-eqb, ne-eqb}
 use lib.Dec.{eqb}
 use Rattle.words.specs.Word.{word}
 use Rattle.region.specs.Answer.{done, noFreeCell}
-use Rattle.region.specs.Frame.{frameOf}
+use Rattle.region.specs.Frame.{frameOfWidth}
 use Rattle.region.specs.Pick.{pick}
 use Rattle.region.specs.Shared.{sharedIn, threadIn}
 use Rattle.region.specs.declared.record.Item.{Item}
@@ -24,18 +24,18 @@ use Rattle.bag.specs.Account.{treeCells, begunPuts, freeCells, handCells
 -- where nothing else refuses a put, the first free cell decides
 cell-decides : (b : List ℕ) (t : ℕ) (i : Item) → NothingElseRefuses b t i
     → putRefusal b t i ≡ pick (not (eqb (word b (frameIn b .free)) 0)) done noFreeCell
-unfolding putRefusal putRefusalIn hasFreeCell frameOf pick
+unfolding putRefusal putRefusalIn hasFreeCell frameOfWidth pick
 cell-decides b t i a = rw (a .region, a .thread, a .item, a .permitted, a .idle) refl
 
 -- Both, of every region of one queue of which the invariant holds.
 module _ (b : List ℕ) (l : Ledger) (here : Invariant (shapeIn b) (sharedIn (frameIn b) b) (threadIn (frameIn b) b) l (shapeIn b .cells)) where
   pub all-cells-accounted : AllCellsAccounted b
-  unfolding treeCells begunPuts handCells freeCells frameOf
+  unfolding treeCells begunPuts handCells freeCells frameOfWidth
   all-cells-accounted = all-cells (shapeIn b) (sharedIn (frameIn b) b) (threadIn (frameIn b) b) l here
 
   -- no cell is free exactly when the others fill all
   pub none-free-when-full : NoneFreeWhenFull b
-  unfolding treeCells begunPuts handCells frameOf
+  unfolding treeCells begunPuts handCells frameOfWidth
   none-free-when-full =
       record {
         none-full = full-without (shapeIn b) (sharedIn (frameIn b) b) (threadIn (frameIn b) b) l here;
@@ -48,7 +48,7 @@ module _ (b : List ℕ) (l : Ledger) (here : Invariant (shapeIn b) (sharedIn (fr
           absurd (not-full-with (shapeIn b) (sharedIn (frameIn b) b) (threadIn (frameIn b) b) l here (omega arith) full)
 
   pub puts-refused-when-full : PutsRefusedWhenFull b
-  unfolding treeCells begunPuts handCells sharedIn frameOf pick
+  unfolding treeCells begunPuts handCells sharedIn frameOfWidth pick
   puts-refused-when-full t i a = go (ℕ-discrete first 0)
     where
       first : ℕ

@@ -17,13 +17,12 @@ use Rattle.region.specs.declared.shape.Shape.{Shape}
 use Rattle.region.specs.declared.thread.Thread.{Thread}
 use Rattle.region.proofs.Picks.{upd-same, upd-other}
 use Rattle.region.proofs.Views.{shared-setCell, shared-setFree, shared-setPermission, shared-setThread, threads-setCell, threads-setFree, threads-setPermission, threads-setThread}
-use Rattle.readable.proofs.Laws.{Good}
-use Rattle.readable.proofs.Stores.{Keeps, thread-fit}
+use Rattle.readable.proofs.Laws.{GoodOfWidth}
+use Rattle.readable.proofs.Stores.{KeepsOfWidth, cell-fits, few-cells}
 use Rattle.begin.specs.Begin.{BeginsAt, acceptedPut, acceptedTake}
-use Rattle.preserved.proofs.EffectsGood.{cell-fit, few-cells}
-use Rattle.preserved.proofs.Proved.{PermitPassed, PutPassed, TakePassed, mine-good, moved-keeps, next-few, permit-least, permit-most, put-free, put-least, put-most, putter-good, stored-keeps, take-least, take-most, taker-good}
+use Rattle.preserved.proofs.Proved.{PermitPassed, PutPassed, TakePassed, mine-good, moved-keeps, next-few, permit-least, permit-most, put-free, put-least, put-most, putter-good, record-fits, stored-keeps, take-least, take-most, taker-good}
 
-module _ (f : Frame) (b : List ℕ) (g : Good f b) where
+module _ {width : ℕ} (f : Frame) (b : List ℕ) (g : GoodOfWidth width f b) where
   abbrev s : Shape
   s = f .shape
 
@@ -41,7 +40,7 @@ module _ (f : Frame) (b : List ℕ) (g : Good f b) where
       → threadIn f (acceptedTake f b t z) ≡ upd th t (atPlace (th t) z)
   take-threads t p z at =
       threads-setThread f b (g .framed) t (atPlace (th t) z) (take-least f b t p) (take-most f b t p)
-      (thread-fit s (g .range) (atPlace (th t) z) (taker-good f b t p g z at))
+      (record-fits f b g (atPlace (th t) z) (taker-good f b t p g z at))
 
   -- A put: the first free cell becomes its own.
   module _ (t : ℕ) (i : Item) (p : PutPassed f b t i) where
@@ -61,10 +60,10 @@ module _ (f : Frame) (b : List ℕ) (g : Good f b) where
     begun = setCell (setFree m next) c cell
 
     -- the bytes in between
-    moved : Keeps f b (setWord b (f .free) next)
+    moved : KeepsOfWidth width f b (setWord b (f .free) next)
     moved = moved-keeps f b t i p g
 
-    stored : Keeps f (setWord b (f .free) next) (setCellIn f (setWord b (f .free) next) c cell)
+    stored : KeepsOfWidth width f (setWord b (f .free) next) (setCellIn f (setWord b (f .free) next) c cell)
     stored = stored-keeps f b t i p g
 
     pub put-shared : sharedIn f (acceptedPut f b t i) ≡ begun
@@ -72,7 +71,7 @@ module _ (f : Frame) (b : List ℕ) (g : Good f b) where
     put-shared =
         shared-setThread f (setCellIn f (setWord b (f .free) next) c cell) (stored .good .framed) t _
         ∙ shared-setCell f (setWord b (f .free) next) (moved .good .framed) c cell (omega (arith, put-free f b t i p)) (g .free-most)
-        (cell-fit s (g .range) cell (mine-good f b t i p g))
+        (cell-fits s (g .range) cell (mine-good f b t i p g))
         ∙ ap (λ y. setCell y c cell)
         (shared-setFree f b (g .framed) next (omega (arith, next-few f b t i p g, few-cells s (g .range))))
 
@@ -80,7 +79,7 @@ module _ (f : Frame) (b : List ℕ) (g : Good f b) where
     unfolding acceptedPut
     put-threads =
         threads-setThread f (setCellIn f (setWord b (f .free) next) c cell) (stored .good .framed) t putter
-        (put-least f b t i p) (put-most f b t i p) (thread-fit s (g .range) putter (putter-good f b t i p g))
+        (put-least f b t i p) (put-most f b t i p) (record-fits f _ (stored .good) putter (putter-good f b t i p g))
         ∙ ap (λ y. upd y t putter)
         (threads-setCell f (setWord b (f .free) next) (moved .good .framed) c cell ∙ threads-setFree f b (g .framed) next)
 

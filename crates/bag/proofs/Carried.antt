@@ -6,6 +6,7 @@ use mathlib.Core.Bool.{Bool, true, false, true≢false}
 use mathlib.Core.List.{List}
 use Rattle.region.specs.Answer.{badThread}
 use Rattle.region.specs.Pick.{pick, upd}
+use Rattle.region.specs.Record.{counterSize}
 use Rattle.region.specs.Shape.{between}
 use Rattle.region.specs.Shared.{sharedIn, setThreadIn, threadIn}
 use Rattle.region.specs.Thread.{idleThread}
@@ -16,42 +17,41 @@ use Rattle.access.specs.Effect.{effectShared}
 use Rattle.access.specs.Plan.{changesNothing, refused}
 use Rattle.access.specs.declared.plan.Plan.{Plan}
 use Rattle.access.proofs.EffectLaws.{effect-shared}
-use Rattle.readable.proofs.Laws.{Good}
-use Rattle.readable.proofs.Stores.{good-shared, thread-fit}
+use Rattle.readable.proofs.Laws.{Good, GoodOfWidth}
+use Rattle.readable.proofs.Stores.{few-cells}
 use Rattle.machine.specs.Turn.{carriedOut, decide, turnBytes, turnPlan}
-use Rattle.preserved.proofs.EffectsGood.{few-cells, fits-of}
-use Rattle.preserved.proofs.PlansGood.{PlanGood}
-use Rattle.preserved.proofs.Proved.{effect-threads, plan-in-range, record-keeps}
+use Rattle.preserved.proofs.EffectsGood.{effect-fits}
+use Rattle.preserved.proofs.PlansGood.{EffectGood, PlanGood}
+use Rattle.preserved.proofs.Proved.{effect-threads, plan-in-range, record-fits, record-keeps}
 
 -- a plan whose answer is idle or refused changes no byte
-carried-stays : (f : Frame) (b : List ℕ) (t : ℕ) (p : Plan) → changesNothing (p .answer) ≡ true → carriedOut f b t p ≡ b
+pub carried-stays : (f : Frame) (b : List ℕ) (t : ℕ) (p : Plan) → changesNothing (p .answer) ≡ true → carriedOut f b t p ≡ b
 unfolding carriedOut pick
 carried-stays f b t p e = rw e refl
 
 -- any other, in range
-module _ (f : Frame) (b : List ℕ) (g : Good f b) (t : ℕ) (l : 1 ≤ t) (u : t ≤ f .shape .threads) (p : Plan)
-    (gp : PlanGood (f .shape) p) (e : changesNothing (p .answer) ≡ false) where
+module _ {width : ℕ} (f : Frame) (b : List ℕ) (g : GoodOfWidth width f b) (t : ℕ) (l : 1 ≤ t) (u : t ≤ f .shape .threads) (p : Plan)
+    (gp : PlanGood width (f .shape) p) (e : changesNothing (p .answer) ≡ false) where
   stored : List ℕ
   stored = setThreadIn f b t (p .thread)
 
-  stored-good : Good f stored
+  stored-good : GoodOfWidth width f stored
   unfolding stored
   stored-good = record-keeps f b g t l u p gp .good
 
-  carried-shared : sharedIn f (carriedOut f b t p) ≡ effectShared (sharedIn f b) (p .effect)
+  pub carried-shared : EffectGood width (f .shape) (p .effect) → sharedIn f (carriedOut f b t p) ≡ effectShared (sharedIn f b) (p .effect)
   unfolding carriedOut pick stored
-  carried-shared =
+  carried-shared ge =
       rw e
-      (effect-shared f stored (stored-good .framed) (few-cells (f .shape) (g .range)) (p .effect)
-      (fits-of f (g .range) stored (good-shared f stored stored-good) (p .effect) (gp .effect))
+      (effect-shared f stored (stored-good .framed) (few-cells (f .shape) (g .range)) (p .effect) (effect-fits f stored stored-good (p .effect) ge)
       ∙ ap (λ m. effectShared m (p .effect)) (shared-setThread f b (g .framed) t (p .thread)))
 
-  carried-threads : threadIn f (carriedOut f b t p) ≡ upd (threadIn f b) t (p .thread)
+  pub carried-threads : threadIn f (carriedOut f b t p) ≡ upd (threadIn f b) t (p .thread)
   unfolding carriedOut pick stored
   carried-threads =
       rw e
       (effect-threads f stored stored-good (p .effect)
-      ∙ threads-setThread f b (g .framed) t (p .thread) l u (thread-fit (f .shape) (g .range) (p .thread) (gp .thread)))
+      ∙ threads-setThread f b (g .framed) t (p .thread) l u (record-fits f b g (p .thread) (gp .thread)))
 
 -- A turn of thread t with choice c.
 module _ (f : Frame) (b : List ℕ) (t c : ℕ) where
@@ -62,7 +62,7 @@ module _ (f : Frame) (b : List ℕ) (t c : ℕ) where
   turn-decides l u = rw (is-between 1 t (f .shape .threads) l u) refl
 
   -- a turn that changes anything is one of a thread that exists
-  thread-exists : changesNothing (turnPlan f b t c .answer) ≡ false → between 1 t (f .shape .threads) ≡ true
+  pub thread-exists : changesNothing (turnPlan f b t c .answer) ≡ false → between 1 t (f .shape .threads) ≡ true
   unfolding turnPlan pick refused
   thread-exists e = go (between 1 t (f .shape .threads)) e
     where
@@ -78,21 +78,30 @@ module _ (f : Frame) (b : List ℕ) (t c : ℕ) where
   turn-stays e = carried-stays f b t (turnPlan f b t c) e
 
   -- any other, on bytes in range
+  module _ (e : changesNothing (turnPlan f b t c .answer) ≡ false) where
+    turn-from : 1 ≤ t
+    turn-from = between-least 1 t (f .shape .threads) (thread-exists e)
+
+    turn-to : t ≤ f .shape .threads
+    turn-to = between-most 1 t (f .shape .threads) (thread-exists e)
+
+    pub plan-good-of-width : {width : ℕ} → GoodOfWidth width f b → PlanGood width (f .shape) (turnPlan f b t c)
+    plan-good-of-width g = rw (turn-decides turn-from turn-to) (plan-in-range f b g t c)
+
   module _ (g : Good f b) (e : changesNothing (turnPlan f b t c .answer) ≡ false) where
     pub turn-least : 1 ≤ t
-    turn-least = between-least 1 t (f .shape .threads) (thread-exists e)
+    turn-least = turn-from e
 
     pub turn-most : t ≤ f .shape .threads
-    turn-most = between-most 1 t (f .shape .threads) (thread-exists e)
+    turn-most = turn-to e
 
-    pub turn-plan-good : PlanGood (f .shape) (turnPlan f b t c)
-    turn-plan-good =
-        rw (turn-decides turn-least turn-most) (plan-in-range f b g t c)
+    pub turn-plan-good : PlanGood counterSize (f .shape) (turnPlan f b t c)
+    turn-plan-good = plan-good-of-width e g
 
     pub turn-shared : sharedIn f (turnBytes f b t c)
         ≡ effectShared (sharedIn f b) (turnPlan f b t c .effect)
     unfolding turnBytes
-    turn-shared = carried-shared f b g t turn-least turn-most (turnPlan f b t c) turn-plan-good e
+    turn-shared = carried-shared f b g t turn-least turn-most (turnPlan f b t c) turn-plan-good e (turn-plan-good .effect)
 
     pub turn-threads : threadIn f (turnBytes f b t c)
         ≡ upd (threadIn f b) t (turnPlan f b t c .thread)

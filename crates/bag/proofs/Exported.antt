@@ -48,6 +48,7 @@ unfolding refusalOf after
 calls-are-exported =
     record {
       layout-made = λ s ps b b′ r h. record { answer = h .answer; region = h .bytes };
+      convert-made = λ old b b′ r h. record { answer = h .answer; region = h .bytes };
       put-made = λ b b′ t i r h. record { answer = h .answer; region = h .bytes };
       take-made = λ b b′ t r h. record { answer = h .answer; region = h .bytes };
       list-made = λ b b′ t r h. record { answer = h .answer; region = h .bytes };

@@ -17,13 +17,14 @@ use Rattle.region.specs.declared.record.Item.{Item}
 use Rattle.region.specs.declared.shape.Shape.{Shape}
 use Rattle.region.proofs.Picks.{pick-good}
 use Rattle.layout.specs.Layout.{layoutRefusal, layoutBytes}
+use Rattle.convert.specs.Convert.{convertRefusal, convertedBytes}
 use Rattle.readable.specs.Readable.{checkAnswer, frameIn}
 use Rattle.permission.specs.Permit.{permitBytes, permitRefusal}
 use Rattle.begin.specs.Begin.{putBytes, putRefusal, takeBytes, takeRefusal}
 use Rattle.run.specs.Run.{Served, Turn, runRefusal, runResult, serve, serveAll, soFar, turnsFrom}
 use Rattle.machine.specs.Turn.{turnBytes}
 use Rattle.theory.specs.Told.{Told, nothing, beginsPut, beginsTake, beginsList, decidesPut, decidesTake, decidesList, decidesEmpty, answersTook, withdraws}
-use Rattle.bag.specs.Calls.{Call, layout, put, take, list, permit, run, check, NoAcceptedLayout, after, refusalOf}
+use Rattle.bag.specs.Calls.{Call, layout, convert, put, take, list, permit, run, check, NoAcceptedLayout, after, refusalOf}
 use Rattle.bag.specs.History.{Event, called, turned, Moment, ServedTurn, callMoments, history, servedMoments, servedOn, turnMoments}
 use Rattle.bag.specs.Moments.{EachMoment, regionAfter}
 use Rattle.bag.specs.Told.{answerTells, callTells, stands, tells}
@@ -32,6 +33,10 @@ refused-layout : (b : List ℕ) (x : Shape) (ps : List ℕ) → (layoutRefusal x
 unfolding layoutBytes pick
 refused-layout b x ps h = rw (ne-eqb (layoutRefusal x ps (length b)) done h) refl
 
+refused-conversion : (old b : List ℕ) → (convertRefusal old (length b) ≡ done → ⊥) → convertedBytes old b ≡ b
+unfolding convertedBytes pick
+refused-conversion old b h = rw (ne-eqb (convertRefusal old (length b)) done h) refl
+
 -- a call tells nothing, or that an operation begins
 pub called-so : (P : Told → Type 0) → P nothing → ((t : ℕ) (i : Item) → P (beginsPut t i)) → ((t : ℕ) → P (beginsTake t))
     → ((t : ℕ) → P (beginsList t)) → (c : Call) (r : ℕ) → P (tells (called c r))
@@ -39,6 +44,7 @@ called-so P quiet putter taker lister c r = pick-good P (eqb r done) (λ e. go c
   where
     go : (c : Call) → P (callTells c)
     go (layout s permissions) = quiet
+    go (convert old) = quiet
     go (put t i) = putter t i
     go (take t) = taker t
     go (list t) = lister t
@@ -172,6 +178,11 @@ module _ {X : Type 0} (P : List ℕ → X → Type 0) (F : List ℕ → Moment �
           let n = layoutRefusal y ps (length b) in
           then b x (called (layout y ps) n) (layoutBytes y ps b) rest
           (subst (Then b x (called (layout y ps) n)) (sym (refused-layout b y ps (h .0))) (still b x g (layout y ps) n refl))
+          (λ x′ g′. k x′ g′ (h .1))
+      call-kept (convert old) cs h rest k =
+          let n = convertRefusal old (length b) in
+          then b x (called (convert old) n) (convertedBytes old b) rest
+          (subst (Then b x (called (convert old) n)) (sym (refused-conversion old b (h .0))) (still b x g (convert old) n refl))
           (λ x′ g′. k x′ g′ (h .1))
       call-kept (put t i) cs h rest k =
           then b x (called (put t i) (putRefusal b t i)) (putBytes b t i) rest (put-next b x g t i) (λ x′ g′. k x′ g′ h)

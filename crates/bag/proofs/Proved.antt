@@ -8,7 +8,7 @@ use borrow.Author.Tests.{eqb-true}
 use lib.Dec.{eqb}
 use lib.ListN.{length}
 use Rattle.region.specs.Answer.{done}
-use Rattle.region.specs.Frame.{frameOf}
+use Rattle.region.specs.Frame.{frameOf, frameOfWidth}
 use Rattle.region.specs.Pick.{pick}
 use Rattle.region.specs.Shape.{regionWords}
 use Rattle.region.specs.Shared.{sharedIn, threadIn}
@@ -186,7 +186,7 @@ module _ (s : Shape) (b : List ℕ) (l : Ledger) (g : QueueRegion s b l) where
 
   turn-tries : (x : Turn) (t : ℕ) (q : Bool) → RemembersIn f b t q
       → RemembersIn f (turnBytes f b (x .thread) (x .choice)) t (triedAfter t q b (turned (servedOn f b x)))
-  unfolding servedOn pick frameOf
+  unfolding servedOn pick frameOfWidth
   turn-tries x t q h =
       let y = servedOn f b x in
       subst
@@ -220,7 +220,7 @@ module _ (s : Shape) (b : List ℕ) (l : Ledger) (g : QueueRegion s b l) where
 
   -- the bag holds exactly what the tree holds
   tree-agrees : HoldsTheSame l b
-  unfolding inTree frameOf
+  unfolding inTree frameOfWidth
   tree-agrees i = g .region .holds .bag i
 
   -- any other call tells nothing
@@ -343,7 +343,7 @@ module _ (s : Shape) where
   followed (m ∷ ms) b l k = (k .0, k .1 .follows, k .1 .says, followed ms (m .region) (k .0) (k .3))
 
   took-in-order : (ms : List Moment) (b : List ℕ) (l : Ledger) → Kept (QueueRegion s) Moves b l ms → TookInOrder ms
-  unfolding isIdle frameOf
+  unfolding isIdle frameOfWidth
   took-in-order ms b l k t x removed before since later split takes z =
       let on = kept-on (QueueRegion s) Moves before (x ∷ (since ++ later)) b l (subst (Kept (QueueRegion s) Moves b l) split k) in
       let now = on .1 in

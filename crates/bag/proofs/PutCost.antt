@@ -8,7 +8,7 @@ use mathlib.Core.List.{List}
 use borrow.Author.Tests.{eq-eqb}
 use lib.Pow.{pow-pos}
 use Rattle.region.specs.Answer.{done}
-use Rattle.region.specs.Frame.{frameOf}
+use Rattle.region.specs.Frame.{frameOfWidth}
 use Rattle.region.specs.Pick.{pick}
 use Rattle.region.specs.Shape.{nodeCount}
 use Rattle.region.specs.Shared.{Shared, sharedIn, threadIn}
@@ -101,11 +101,11 @@ begun-is b t i e = rw (eq-eqb (putRefusal b t i) done e) refl
 -- where a cell is free, the tree does not have all
 not-all : (b : List ℕ) → AllCellsAccounted b → 1 ≤ frameIn b .shape .cells → 1 ≤ sharedIn (frameIn b) b .free
     → inNodes (sharedIn (frameIn b) b) anyItem (frameIn b .shape .cells) (nodeCount (frameIn b .shape)) < frameIn b .shape .cells
-unfolding treeCells freeCells frameOf
+unfolding treeCells freeCells frameOfWidth
 not-all b all least free = let m = sharedIn (frameIn b) b in omega (arith, all, list-some m (frameIn b .shape .cells) (m .free) least free)
 
 pub puts-end : (b : List ℕ) → readable b ≡ true → AllCellsAccounted b → PutsEnd b
-unfolding frameOf sharedIn
+unfolding frameOfWidth sharedIn
 puts-end b r all t i xs a =
     let f = frameIn b in
     let g = good b r in

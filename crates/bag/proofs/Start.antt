@@ -10,7 +10,7 @@ use borrow.Author.Tests.{ne-eqb}
 use lib.Dec.{eqb}
 use lib.ListN.{length, getD}
 use Rattle.region.specs.Answer.{done}
-use Rattle.region.specs.Frame.{frameOf}
+use Rattle.region.specs.Frame.{frameOf, frameOfWidth}
 use Rattle.region.specs.Pick.{pick}
 use Rattle.region.specs.Record.{sameItem}
 use Rattle.region.specs.Shape.{between, nodeCount}
@@ -175,7 +175,7 @@ module _ (s : Shape) (ps b : List ℕ) (e : layoutRefusal s ps (length b) ≡ do
       (λ k l u. ap (λ l. among (sameItem i) (items (m .cell) l)) (none-at k l)))
 
   pub laid-region : Region (frameOf s) (s .cells) laid emptyLedger
-  unfolding frameOf
+  unfolding frameOfWidth
   laid-region =
       record {
         good = laid-good s ps b e;

@@ -6,7 +6,7 @@ use mathlib.Core.Bool.{Bool, true, false, true≢false}
 use mathlib.Core.List.{List, _++_}
 use lib.ListN.{length}
 use Rattle.region.specs.Answer.{badThread, counterSpent, done, unreadable}
-use Rattle.region.specs.Frame.{frameOf}
+use Rattle.region.specs.Frame.{frameOf, frameOfWidth}
 use Rattle.region.specs.Shape.{between}
 use Rattle.region.specs.Shared.{Shared, sharedIn, threadIn}
 use Rattle.region.specs.Thread.{goneIdle, idleThread}
@@ -45,7 +45,7 @@ pub use Rattle.bag.proofs.LeastFirst.{least-has-least-key, least-is-one
 -- every thread of a laid-out region is idle
 laid-remembers : (s : Shape) (ps b : List ℕ) → layoutRefusal s ps (length b) ≡ done → (t : ℕ)
     → RemembersIn (frameIn (layoutBytes s ps b)) (layoutBytes s ps b) t false
-unfolding goneIdle frameOf
+unfolding goneIdle frameOfWidth
 laid-remembers s ps b e t =
     let laid = layoutBytes s ps b in
     let th = laid-idle s ps b e t in
@@ -104,25 +104,25 @@ no-turn-unreadable s ps b e calls n earlier later split t c =
     never-unreadable (frameIn b′) (shapeIn b′ .cells) b′ (w .0) (w .1 .region) t c
 
 pub cells-accounted : CellsAccounted
-unfolding frameOf
+unfolding frameOfWidth
 cells-accounted s ps b e calls n earlier later split =
     let w = holds s ps b e calls n earlier later split in
     all-cells-accounted (regionAfter (layoutBytes s ps b) earlier) (w .0) (w .1 .region .holds)
 
 pub none-free : NoneFree
-unfolding frameOf
+unfolding frameOfWidth
 none-free s ps b e calls n earlier later split =
     let w = holds s ps b e calls n earlier later split in
     none-free-when-full (regionAfter (layoutBytes s ps b) earlier) (w .0) (w .1 .region .holds)
 
 pub refused-ten-when-full : RefusedTenWhenFull
-unfolding frameOf
+unfolding frameOfWidth
 refused-ten-when-full s ps b e calls n earlier later split =
     let w = holds s ps b e calls n earlier later split in
     puts-refused-when-full (regionAfter (layoutBytes s ps b) earlier) (w .0) (w .1 .region .holds)
 
 pub takes-cost-exactly : TakesCostExactly
-unfolding frameOf
+unfolding frameOfWidth
 takes-cost-exactly s ps b e calls n earlier later split =
     let w = holds s ps b e calls n earlier later split in
     let b′ = regionAfter (layoutBytes s ps b) earlier in

@@ -8,7 +8,7 @@ use mathlib.Core.List.{List, [], _∷_, _++_}
 use borrow.Author.Tests.{eq-eqb, eqb-true, ne-eqb}
 use lib.Dec.{eqb}
 use Rattle.region.specs.Answer.{done}
-use Rattle.region.specs.Frame.{frameOf}
+use Rattle.region.specs.Frame.{frameOfWidth}
 use Rattle.region.specs.Pick.{pick, upd}
 use Rattle.region.specs.Shape.{between}
 use Rattle.region.specs.Shared.{Shared, sharedIn, threadIn}
@@ -257,7 +257,7 @@ tries-remembered t (m ∷ earlier) later b q k h =
 
 -- what the leaf word tells
 pub word-tells : (s : Shape) (b : List ℕ) (t : ℕ) (q : Bool) → shapeIn b ≡ s → 1 ≤ s .depth → RemembersIn (frameIn b) b t q → WordTells s b t q
-unfolding frameOf hasTriedDeepest isPutPlace between
+unfolding frameOfWidth hasTriedDeepest isPutPlace between
 word-tells s b t q same some h place deep = go q refl
   where
     r : Remembers s (sharedIn (frameIn b) b .depth) (threadOn b t) q

@@ -11,9 +11,10 @@ use Rattle.layout.specs.Layout.{LaidOut}
 use Rattle.readable.specs.Readable.{checkAnswer}
 use Rattle.begin.specs.Begin.{PutBegun, TakeBegun}
 use Rattle.permission.specs.Permit.{PermitSet}
+use Rattle.convert.specs.Convert.{Converted}
 use Rattle.run.specs.Run.{runResult}
 use Rattle.mound.specs.Calls.{RunDone}
-use Rattle.bag.specs.Calls.{Call, layout, put, take, list, permit, run, check, refusalOf, after}
+use Rattle.bag.specs.Calls.{Call, layout, convert, put, take, list, permit, run, check, refusalOf, after}
 use Rattle.bag.specs.History.{servedMoments}
 
 -- a call on the region b that answered r and left b′
@@ -21,10 +22,12 @@ pub record Made (b : List ℕ) (c : Call) (b′ : List ℕ) (r : ℕ) : Type 0 w
   pub answer : r ≡ refusalOf b c
   pub region : b′ ≡ after b c
 
--- `mound_layout`, `mound_put`, `mound_take`, `mound_list`, `mound_permit`, `mound_run` and `mound_check`, by their contracts in
+-- `mound_layout`, `mound_convert`, `mound_put`, `mound_take`, `mound_list`, `mound_permit`, `mound_run` and `mound_check`, by their contracts in
 -- crates/mound/src/lib.rt
 pub record CallsAreExported : Type 0 where
   pub layout-made : (s : Shape) (permissions b b′ : List ℕ) (r : ℕ) → LaidOut s permissions b b′ r → Made b (layout s permissions) b′ r
+  -- a conversion into the region
+  pub convert-made : (old b b′ : List ℕ) (r : ℕ) → Converted old b b′ r → Made b (convert old) b′ r
   pub put-made : (b b′ : List ℕ) (t : ℕ) (i : Item) (r : ℕ) → PutBegun b b′ t i r → Made b (put t i) b′ r
   pub take-made : (b b′ : List ℕ) (t r : ℕ) → TakeBegun b b′ t ReadRoot r → Made b (take t) b′ r
   pub list-made : (b b′ : List ℕ) (t r : ℕ) → TakeBegun b b′ t ListReadRoot r → Made b (list t) b′ r

@@ -15,7 +15,7 @@ use Rattle.readable.specs.Readable.{frameIn}
 use Rattle.run.specs.Run.{Served, Turn, runRefusal, serve, soFar, turnsFrom}
 use Rattle.machine.specs.Turn.{turnAnswer, turnBytes}
 use Rattle.theory.specs.Tree.{itemsOf, listFrom}
-use Rattle.bag.specs.Calls.{Call, layout, put, take, list, permit, run, check, refusalOf, after}
+use Rattle.bag.specs.Calls.{Call, layout, convert, put, take, list, permit, run, check, refusalOf, after}
 
 -- a served turn: its thread, the place where that stood and where it stands afterwards, the answer, and the item of the root's head cell and
 -- the items of the root's list just before
@@ -71,6 +71,7 @@ turnMoments f limit (t ∷ ts) r =
 unfoldable pub servedMoments : List ℕ → Call → List Moment
 unfolding turnMoments
 servedMoments b (layout s permissions) = []
+servedMoments b (convert old) = []
 servedMoments b (put t i) = []
 servedMoments b (take t) = []
 servedMoments b (list t) = []

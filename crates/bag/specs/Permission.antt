@@ -16,7 +16,7 @@ use Rattle.permission.specs.Withdraw.{isPutPlace}
 use Rattle.readable.specs.Readable.{frameIn}
 use Rattle.theory.specs.Told.{Told, nothing, beginsPut, beginsTake, beginsList, decidesPut, decidesTake, decidesList, decidesEmpty, answersTook, withdraws}
 use Rattle.theory.specs.Tree.{Listed, listFrom}
-use Rattle.bag.specs.Calls.{layout, put, take, list, permit, run, check}
+use Rattle.bag.specs.Calls.{layout, convert, put, take, list, permit, run, check}
 use Rattle.bag.specs.History.{Event, called, turned, Moment}
 use Rattle.bag.specs.Operations.{withdrawn}
 
@@ -60,6 +60,7 @@ WithdrawnLeaves before m = (t : ℕ) → withdrawn t (m .event) ≡ true → Wit
 -- "put, take, list or turn of it": what thread t does. The permit call is the host's, not the thread's.
 abbrev pub makes : ℕ → Event → Bool
 makes t (called (layout s permissions) r) = false
+makes t (called (convert old) r) = false
 makes t (called (put u i) r) = eqb t u
 makes t (called (take u) r) = eqb t u
 makes t (called (list u) r) = eqb t u

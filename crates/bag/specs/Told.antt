@@ -9,12 +9,13 @@ use Rattle.region.specs.declared.answer.Answer.the-variants.{Moved, Idle, Inser
 use Rattle.region.specs.declared.place.Place.{Place}
 use Rattle.region.specs.declared.place.Place.the-variants.{InsertAtRoot, InsertBelow, ReadRoot, RemoveHead, MendReadNode, ListReadRoot, RemoveList}
 use Rattle.theory.specs.Told.{Told, nothing, beginsPut, beginsTake, beginsList, decidesPut, decidesTake, decidesList, decidesEmpty, answersTook, withdraws}
-use Rattle.bag.specs.Calls.{Call, layout, put, take, list, permit, run, check}
+use Rattle.bag.specs.Calls.{Call, layout, convert, put, take, list, permit, run, check}
 use Rattle.bag.specs.History.{Event, called, turned, ServedTurn}
 
 -- "An operation begins with a put or take call that is not refused.", or with a list
 abbrev pub callTells : Call → Told
 callTells (layout s permissions) = nothing
+callTells (convert old) = nothing
 callTells (put t i) = beginsPut t i
 callTells (take t) = beginsTake t
 callTells (list t) = beginsList t

@@ -7,7 +7,7 @@ use mathlib.Core.List.{List}
 use lib.Dec.{eqb}
 use Rattle.words.specs.Word.{word, setWord}
 use Rattle.region.specs.Answer.{done, badThread, badItem, unreadable, notPermitted, threadBusy, noFreeCell, _unless_otherwise_}
-use Rattle.region.specs.Frame.{frameOf}
+use Rattle.region.specs.Frame.{frameOfWidth}
 use Rattle.region.specs.Pick.{pick}
 use Rattle.region.specs.Record.{isItem}
 use Rattle.region.specs.Shape.{between}
@@ -35,7 +35,7 @@ putRefusalIn f b t i =
     otherwise done
 
 unfoldable pub putRefusal : List ℕ → ℕ → Item → ℕ
-unfolding putRefusalIn frameOf
+unfolding putRefusalIn frameOfWidth
 putRefusal b t i = unreadable unless readable b otherwise putRefusalIn (frameIn b) b t i
 
 -- "Own cell is the first free one; key and tag are written in it, next 0": it leaves the chain
@@ -72,7 +72,7 @@ takeRefusalIn f b t =
     otherwise done
 
 unfoldable pub takeRefusal : List ℕ → ℕ → ℕ
-unfolding takeRefusalIn frameOf
+unfolding takeRefusalIn frameOfWidth
 takeRefusal b t = unreadable unless readable b otherwise takeRefusalIn (frameIn b) b t
 
 -- what a take leaves that begins at place p

@@ -6,5 +6,6 @@ pub mod Request2
 pub mod Request3
 pub mod Request4
 pub mod Request5
+pub mod Request7
 pub mod Request8
 pub mod Request9

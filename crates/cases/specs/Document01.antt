@@ -19,25 +19,25 @@ row cs depth = callsRow both cs depth
 abbrev rootFive : List (Does × Says)
 rootFive = inserting (item 5) 4
 
--- A* "needs 348 bytes", B* "C 2 at D 2 passes"
+-- A* and B* "C 2 at D 2 passes". Of A* request 7 says "case A is then 384 bytes, 380 refused 2", in place of document 01's 348 and 344.
 abbrev pub fits : Row
 fits =
-    layoutRow 2 2 348 done 1
+    layoutRow 2 2 384 done 1
 
--- A* "344 is refused 2"
+-- A* "380 refused 2" (request 7)
 abbrev pub short : Row
 short =
-    layoutRow 2 2 344 badLength 0
+    layoutRow 2 2 380 badLength 0
 
 -- B* "C 3 is 1"
 abbrev pub many-cells : Row
 many-cells =
-    layoutRow 2 3 360 badShape 0
+    layoutRow 2 3 396 badShape 0
 
 -- B* "D 13 is 1"
 abbrev pub too-deep : Row
 too-deep =
-    layoutRow 13 2 348 badShape 0
+    layoutRow 13 2 384 badShape 0
 
 -- C* "key 4,294,967,294 begins"
 abbrev pub greatest-key : Row
@@ -95,7 +95,7 @@ crossing-takes =
 -- K* "C 1, D 1: second put while one is begun is 10; begun after a take's E2 passes"
 abbrev pub last-cell : Row
 last-cell =
-    rowOf (shaped 1 1) both 312 done
+    rowOf (shaped 1 1) both 340 done
     ((puts 1 5, answered done)
     ∷ (puts 2 6, answered noFreeCell)
     ∷ turnsTo 1 4 Inserted

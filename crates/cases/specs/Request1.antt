@@ -30,12 +30,12 @@ handing =
 -- the depth, the first free cell, three nodes and two cells afterwards: the root, changed by two puts, 18 and M6, is empty and clean; cell 1,
 -- freed last, is the first free cell, and cell 2 the next
 abbrev both-free : List ℕ
-both-free = 1 ∷ 1 ∷ 0 ∷ 0 ∷ 4 ∷ 0 ∷ 0 ∷ 0 ∷ 0 ∷ 0 ∷ 0 ∷ 0 ∷ 0 ∷ 2 ∷ 0 ∷ 0 ∷ 0 ∷ []
+both-free = 1 ∷ 1 ∷ 0 ∷ 0 ∷ 4 ∷ 0 ∷ 0 ∷ 0 ∷ 0 ∷ 0 ∷ 0 ∷ 0 ∷ 0 ∷ 0 ∷ 0 ∷ 0 ∷ 2 ∷ 0 ∷ 0 ∷ 0 ∷ []
 
 -- and thread 1's record: the permission, and 0 in every other word
 abbrev pub handed-in-order : Row
 handed-in-order =
-    row (handing ++ (shows 4 50, shown (both-free ++ 3 ∷ replicate 32 0)) ∷ [])
+    row (handing ++ (shows 4 56, shown (both-free ++ 3 ∷ replicate 35 0)) ∷ [])
 
 -- "18 .. (failure: 17)": 17 has read 5 when 3 comes before it; 18 fails, 17 reads the root again, and the list is 3, 5
 abbrev pub put-between : Row
@@ -80,10 +80,10 @@ cells-in-hand =
 abbrev pub admitted : Row
 admitted =
     row
-    ((checks 22 (19 ∷ []), answered done)
-    ∷ (checks 22 (20 ∷ []), answered unreadable)
-    ∷ (checks 33 (3 ∷ []), answered done)
-    ∷ (checks 33 (4 ∷ []), answered unreadable)
+    ((checks 25 (19 ∷ []), answered done)
+    ∷ (checks 25 (20 ∷ []), answered unreadable)
+    ∷ (checks 36 (3 ∷ []), answered done)
+    ∷ (checks 36 (4 ∷ []), answered unreadable)
     ∷ (checksThread 17 0 2 1, answered unreadable)
     ∷ [])
 

@@ -15,7 +15,7 @@ two = tagged 5 2
 
 -- on D 2, C 2 and one thread
 abbrev row : List (Does × Says) → ℕ → Row
-row cs depth = oneThread 2 2 216 cs depth
+row cs depth = oneThread 2 2 240 cs depth
 
 -- 2 is less than 9, so it goes to the root's front and leaves first
 abbrev pub nine-then-two : Row
@@ -53,7 +53,7 @@ equal-items =
 -- the words from the depth to the cells of a region that no calls leave: depth 2, no cell free; the root has cell 1, node 2 has cell 2; cell 1
 -- has 9, cell 2 the key 4,294,967,295 and the greatest tag
 abbrev greatest-below : List ℕ
-greatest-below = 2 ∷ 0 ∷ 1 ∷ 0 ∷ 0 ∷ 2 ∷ 0 ∷ 0 ∷ 0 ∷ 0 ∷ 0 ∷ 5 ∷ 9 ∷ 0 ∷ 4294967295 ∷ 65535 ∷ 0 ∷ []
+greatest-below = 2 ∷ 0 ∷ 1 ∷ 0 ∷ 0 ∷ 0 ∷ 2 ∷ 0 ∷ 0 ∷ 0 ∷ 0 ∷ 0 ∷ 0 ∷ 0 ∷ 5 ∷ 9 ∷ 0 ∷ 4294967295 ∷ 65535 ∷ 0 ∷ []
 
 -- "an empty node is above every item": without its head the root's list is empty, which is above the item below it. So it goes down to
 -- level 2, and the take costs 5 × 2.

@@ -13,18 +13,18 @@ costing n a = (costs, answered n) ∷ taking n a
 -- "exactly 1 access if empty"
 abbrev pub empty-root : Row
 empty-root =
-    oneThread 1 1 180 (costing 1 Empty) 1
+    oneThread 1 1 196 (costing 1 Empty) 1
 
 -- j 1, d 1: one node, and no level below it; 5 × 1
 abbrev pub one-level : Row
 one-level =
-    oneThread 1 1 180 (inserting (item 5) 4 ++ costing 5 (Took (item 5))) 1
+    oneThread 1 1 196 (inserting (item 5) 4 ++ costing 5 (Took (item 5))) 1
 
 -- j 1, d 2: root 3 5, and below it 7. Without its head the root's list is 5; 7 is not less, and the list rests; 5 × 1 + 2.
 -- j 3, d 3: then 8 comes below 7. Without its head the root's list is empty, and goes down to 7's place and to 8's; 5 × 3.
 abbrev pub rests-and-goes-down : Row
 rests-and-goes-down =
-    oneThread 3 3 276
+    oneThread 3 3 316
     (inserting (item 5) 4
     ++ inserting (item 7) 9
     ++ inserting (item 3) 5

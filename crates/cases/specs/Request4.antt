@@ -4,7 +4,7 @@ use mathlib.Core.List.{List, [], _∷_}
 use Rattle.region.specs.Answer.{done, unreadable}
 use Rattle.cases.specs.Row.{Does, checks, Says, answered, Row, both, callsRow}
 
--- checks on D 2, C 2, T 2, H 1, laid out: 87 words
+-- checks on D 2, C 2, T 2, H 1, laid out: 96 words
 abbrev checksRow : List (Does × Says) → Row
 checksRow cs = callsRow both cs 1
 
@@ -17,18 +17,18 @@ bad-first-word =
 abbrev pub bad-later-word : Row
 bad-later-word =
     checksRow
-    ((checks 9 (2 ∷ []), answered done)
-    ∷ (checks 9 (3 ∷ []), answered unreadable)
-    ∷ (checks 16 (65535 ∷ []), answered done)
-    ∷ (checks 16 (65536 ∷ []), answered unreadable)
-    ∷ (checks 54 (3 ∷ []), answered done)
-    ∷ (checks 54 (4 ∷ []), answered unreadable)
+    ((checks 10 (2 ∷ []), answered done)
+    ∷ (checks 10 (3 ∷ []), answered unreadable)
+    ∷ (checks 19 (65535 ∷ []), answered done)
+    ∷ (checks 19 (65536 ∷ []), answered unreadable)
+    ∷ (checks 60 (3 ∷ []), answered done)
+    ∷ (checks 60 (4 ∷ []), answered unreadable)
     ∷ [])
 
 -- a check with thread 1's place, tries, node and waiting levels, and 0 in the words between
 abbrev pub checksThread : ℕ → ℕ → ℕ → ℕ → Does
 checksThread place tries node waiting =
-    checks 22 (place ∷ 0 ∷ 0 ∷ 0 ∷ 0 ∷ 0 ∷ tries ∷ 0 ∷ 0 ∷ node ∷ waiting ∷ [])
+    checks 25 (place ∷ 0 ∷ 0 ∷ 0 ∷ 0 ∷ 0 ∷ tries ∷ 0 ∷ 0 ∷ node ∷ waiting ∷ [])
 
 -- the same, "tries 0..H and below H at I2": I1 is place 1, I2 is 2
 abbrev pub bad-tries : Row

@@ -12,7 +12,7 @@ row cs = callsRow both cs 1
 
 -- the depth and the first free cell, the root, nodes 2 and 3, cells 1 and 2, then thread 1's record: idle with this permission
 abbrev idleBehind : List ℕ → ℕ → Does × Says
-idleBehind ws p = (shows 4 50, shown (ws ++ p ∷ replicate 32 0))
+idleBehind ws p = (shows 4 56, shown (ws ++ p ∷ replicate 35 0))
 
 -- "frees a put's own cell .., goes idle and answers withdrawn": the put of 5 has cell 1; it is wiped and the first of the chain again, before
 -- cell 2, and thread 2's put begins with it, in the fifth word of its record
@@ -22,9 +22,9 @@ put-withdrawn =
     ((puts 1 5, answered done)
     ∷ (permits 1 2, answered done)
     ∷ turnsTo 1 1 Withdrawn
-    ++ idleBehind (1 ∷ 1 ∷ replicate 9 0 ++ 0 ∷ 0 ∷ 2 ∷ 0 ∷ 0 ∷ 0 ∷ []) 2
+    ++ idleBehind (1 ∷ 1 ∷ replicate 12 0 ++ 0 ∷ 0 ∷ 2 ∷ 0 ∷ 0 ∷ 0 ∷ []) 2
     ∷ (puts 2 7, answered done)
-    ∷ (shows 58 1, shown (1 ∷ []))
+    ∷ (shows 64 1, shown (1 ∷ []))
     ∷ turnsTo 2 4 Inserted)
 
 -- "makes no access": E1 has read 5 when the permission to take goes; E2 is withdrawn, root and cells are as the put left them, and thread 2
@@ -37,7 +37,7 @@ take-withdrawn =
     ∷ turnsTo 1 1 Moved
     ++ (permits 1 1, answered done)
     ∷ turnsTo 1 1 Withdrawn
-    ++ idleBehind (1 ∷ 2 ∷ 1 ∷ 0 ∷ 1 ∷ replicate 6 0 ++ 5 ∷ 9 ∷ 0 ∷ 0 ∷ 0 ∷ 0 ∷ []) 1
+    ++ idleBehind (1 ∷ 2 ∷ 1 ∷ 0 ∷ 1 ∷ 0 ∷ replicate 8 0 ++ 5 ∷ 9 ∷ 0 ∷ 0 ∷ 0 ∷ 0 ∷ []) 1
     ∷ (takes 2, answered done)
     ∷ turnsTo 2 5 (Took (item 5)))
 
@@ -65,14 +65,14 @@ given-back =
     ∷ turnsTo 1 3 Inserted)
 
 -- "this is looked at after 7 and before 11": thread 1 at I1 with no cell of its own and no permission is refused 7. Then with the root's
--- counter spent a put comes to I6, is refused 11 there, and without its permission withdrawn.
+-- counter spent, 4,294,967,295 in both its words, a put comes to I6, is refused 11 there, and without its permission withdrawn.
 abbrev pub between-refusals : Row
 between-refusals =
     row
-    ((writes 21 (0 ∷ 1 ∷ []), answered done)
+    ((writes 24 (0 ∷ 1 ∷ []), answered done)
     ∷ turnsTo 1 1 (Refused unreadable)
-    ++ (writes 21 (3 ∷ 0 ∷ []), answered done)
-    ∷ (writes 8 (4294967295 ∷ []), answered done)
+    ++ (writes 24 (3 ∷ 0 ∷ []), answered done)
+    ∷ (writes 8 (4294967295 ∷ 4294967295 ∷ []), answered done)
     ∷ (puts 1 5, answered done)
     ∷ turnsTo 1 4 (Refused counterSpent)
     ++ (permits 1 2, answered done)
@@ -85,7 +85,7 @@ permit-refused =
     ((permits 1 4, answered badShape)
     ∷ (permits 0 4, answered badThread)
     ∷ (permits 3 4, answered badThread)
-    ∷ (shows 21 1, shown (3 ∷ []))
+    ∷ (shows 24 1, shown (3 ∷ []))
     ∷ (writes 0 (13 ∷ []), answered unreadable)
     ∷ (permits 0 4, answered unreadable)
     ∷ [])

@@ -7,7 +7,7 @@ use Rattle.region.specs.Answer.{done}
 use Rattle.region.specs.declared.answer.Answer.the-variants.{Moved, Inserted, Took}
 use Rattle.cases.specs.Row.{Does, puts, takes, turns, shows, writes, Says, answered, shown, Row, item, both, rowOf, callsRow, serves, turnsTo, turnsChoosing, inserting, oneThread}
 
--- thread 1's d and leaf word: they are words 17 and 18 with D 1 and C 1, 26 and 27 with D 2 and C 2, 41 and 42 with D 3 and C 3
+-- thread 1's d and leaf word: they are words 18 and 19 with D 1 and C 1, 29 and 30 with D 2 and C 2, 48 and 49 with D 3 and C 3
 abbrev dAndLeaf : ℕ → ℕ → ℕ → Does × Says
 dAndLeaf at d leaf = (shows at 2, shown (d ∷ leaf ∷ []))
 
@@ -35,19 +35,19 @@ next-leaf =
 -- empty and dirty, cell 1 is free, cell 2 has 7. Then 9 comes.
 abbrev nineComes : ℕ → List ℕ → List (Does × Says) → Row
 nineComes h leaves cs =
-    rowOf (record { depth = 2; cells = 2; threads = 1; threshold = h }) (3 ∷ []) 216 done
-    ((writes 4 (2 ∷ 1 ∷ 0 ∷ 1 ∷ 2 ∷ leaves ++ 0 ∷ 0 ∷ 0 ∷ 7 ∷ 9 ∷ 0 ∷ []), answered done) ∷ (puts 1 9, answered done) ∷ cs)
+    rowOf (record { depth = 2; cells = 2; threads = 1; threshold = h }) (3 ∷ []) 240 done
+    ((writes 4 (2 ∷ 1 ∷ 0 ∷ 1 ∷ 2 ∷ 0 ∷ leaves ++ 0 ∷ 0 ∷ 0 ∷ 7 ∷ 9 ∷ 0 ∷ []), answered done) ∷ (puts 1 9, answered done) ∷ cs)
     2
 
 -- "after the last, the first": 7 is at node 3, and the choice is 1. I1, I2 fails at node 3; I1, I2 reads node 2; I3, I5, I6.
 abbrev pub first-after-last : Row
 first-after-last =
-    nineComes 1 (0 ∷ 0 ∷ 0 ∷ 2 ∷ 0 ∷ 1 ∷ []) (turnsChoosing 1 1 2 Moved ++ dAndLeaf 26 2 2 ∷ turnsChoosing 1 1 5 Inserted)
+    nineComes 1 (0 ∷ 0 ∷ 0 ∷ 0 ∷ 2 ∷ 0 ∷ 1 ∷ 0 ∷ []) (turnsChoosing 1 1 2 Moved ++ dAndLeaf 29 2 2 ∷ turnsChoosing 1 1 5 Inserted)
 
 -- with H 2 the next try is at I2 itself: 7 is at node 2, and the choice is 0. I1, I2 fails at node 2, I2 reads node 3; I3, I5, I6.
 abbrev pub next-try : Row
 next-try =
-    nineComes 2 (2 ∷ 0 ∷ 1 ∷ 0 ∷ 0 ∷ 0 ∷ []) (turnsTo 1 2 Moved ++ dAndLeaf 26 2 3 ∷ turnsTo 1 4 Inserted)
+    nineComes 2 (2 ∷ 0 ∷ 1 ∷ 0 ∷ 0 ∷ 0 ∷ 0 ∷ 0 ∷ []) (turnsTo 1 2 Moved ++ dAndLeaf 29 2 3 ∷ turnsTo 1 4 Inserted)
 
 -- "the choice counts only at the first try since the put began at which d was D", on two threads. 7 comes with choice 1. Its try at d 1 leaves
 -- leaf word 1, which is no leaf of level 2; I4, I1. So choice 1 counts at d 2: I2 reads node 3, which is empty; I3, I5, I7. Thread 2's E1 and E2
@@ -60,7 +60,7 @@ counts-once =
     ∷ turnsChoosing 1 1 8 Moved
     ++ (takes 2, answered done)
     ∷ (turns (2 ∷ 2 ∷ 1 ∷ 1 ∷ 1 ∷ []), serves (replicate 5 Moved))
-    ∷ dAndLeaf 26 2 3
+    ∷ dAndLeaf 29 2 3
     ∷ turnsTo 1 3 Inserted)
     2
 
@@ -69,14 +69,14 @@ counts-once =
 -- which is empty; I3 reads 5 at the root; I5, I7, I8.
 abbrev pub counts-below : Row
 counts-below =
-    rowOf (record { depth = 3; cells = 3; threads = 1; threshold = 3 }) (3 ∷ []) 276 done
+    rowOf (record { depth = 3; cells = 3; threads = 1; threshold = 3 }) (3 ∷ []) 316 done
     ((
-      writes 4 (2 ∷ 3 ∷ 1 ∷ 0 ∷ 1 ∷ 2 ∷ 0 ∷ 1 ∷ replicate 15 0 ++ 5 ∷ 9 ∷ 0 ∷ 7 ∷ 9 ∷ 0 ∷ 0 ∷ 0 ∷ 0 ∷ []),
+      writes 4 (2 ∷ 3 ∷ 1 ∷ 0 ∷ 1 ∷ 0 ∷ 2 ∷ 0 ∷ 1 ∷ 0 ∷ replicate 20 0 ++ 5 ∷ 9 ∷ 0 ∷ 7 ∷ 9 ∷ 0 ∷ 0 ∷ 0 ∷ 0 ∷ []),
       answered done,
     )
     ∷ (puts 1 8, answered done)
     ∷ turnsTo 1 3 Moved
-    ++ dAndLeaf 41 2 2
+    ++ dAndLeaf 48 2 2
     ∷ turnsChoosing 1 1 5 Inserted)
     2
 
@@ -84,12 +84,12 @@ counts-below =
 -- a lesser key: I1, I2 fails, and the next leaf is the same one. With the root empty again: I1, I2, I5, I6.
 abbrev pub one-leaf : Row
 one-leaf =
-    oneThread 1 1 180
+    oneThread 1 1 196
     ((puts 1 6, answered done)
-    ∷ (writes 6 (1 ∷ 0 ∷ 0 ∷ 5 ∷ []), answered done)
+    ∷ (writes 6 (1 ∷ 0 ∷ 0 ∷ 0 ∷ 5 ∷ []), answered done)
     ∷ turnsChoosing 7 1 2 Moved
-    ++ dAndLeaf 17 1 1
-    ∷ (writes 6 (0 ∷ 0 ∷ 0 ∷ 6 ∷ []), answered done)
+    ++ dAndLeaf 18 1 1
+    ∷ (writes 6 (0 ∷ 0 ∷ 0 ∷ 0 ∷ 6 ∷ []), answered done)
     ∷ turnsChoosing 7 1 4 Inserted)
     1
 

@@ -15,6 +15,7 @@ use Rattle.records.specs.Accepts.{recordsAnswer}
 use Rattle.cost.specs.Cost.{takeCost}
 use Rattle.layout.specs.Layout.{layoutRefusal, layoutBytes}
 use Rattle.readable.specs.Readable.{checkAnswer, frameIn}
+use Rattle.convert.specs.Convert.{convertedBytes, convertRefusal}
 use Rattle.permission.specs.Permit.{permitBytes, permitRefusal}
 use Rattle.begin.specs.Begin.{putBytes, putRefusal, takeBytes, takeRefusal}
 use Rattle.run.specs.Run.{Served, runResult}
@@ -38,6 +39,8 @@ pub data Does : Type 0 where
   shows : ℕ → ℕ → Does
   -- a check of the records of a slice of this many bytes, which has these words from its first on; the region has no part in it
   checksRecords : ℕ → List ℕ → Does
+  -- an old region, all of whose words these are, is converted into the region (request 7)
+  converts : List ℕ → Does
   -- these words are written into the region, which no call does, and it is checked
   writes : ℕ → List ℕ → Does
 
@@ -90,6 +93,10 @@ leaving b x = record { says = x; region = b }
 abbrev ran : ℕ → Served → Outcome
 ran n r = leaving (r .region) (served (wordsAt (r .answers) 0 (3 * n)))
 
+-- the outcome of a conversion of the old region's bytes into b
+abbrev converted : List ℕ → List ℕ → Outcome
+converted old b = leaving (convertedBytes old b) (answered (convertRefusal old (length b)))
+
 abbrev outcomeOf : List ℕ → Does → Outcome
 outcomeOf b (putsItem t i) = leaving (putBytes b t i) (answered (putRefusal b t i))
 outcomeOf b (takes t) = leaving (takeBytes b t ReadRoot) (answered (takeRefusal b t))
@@ -98,6 +105,7 @@ outcomeOf b (permits t p) = leaving (permitBytes b t p) (answered (permitRefusal
 outcomeOf b (choosing c ts) = ran (length ts) (runResult b (scheduleOf c ts) 1000 (replicate (12 * length ts) 0))
 outcomeOf b (checks at ws) = leaving b (answered (checkAnswer (setWords b at ws)))
 outcomeOf b (checksRecords n ws) = leaving b (answered (recordsAnswer (setWords (replicate n 0) 0 ws)))
+outcomeOf b (converts ws) = converted (setWords (replicate (4 * length ws) 0) 0 ws) b
 outcomeOf b costs = leaving b (answered (takeCost (sharedIn (frameIn b) b)))
 outcomeOf b depths = leaving b (answered (word b 4))
 outcomeOf b (shows at n) = leaving b (shown (wordsAt b at n))
@@ -154,7 +162,7 @@ rowOf s ps bytes answer cs depth =
 
 -- calls on D 2, C 2, with these permissions
 abbrev pub callsRow : List ℕ → List (Does × Says) → ℕ → Row
-callsRow ps cs depth = rowOf (shaped 2 2) ps 348 done cs depth
+callsRow ps cs depth = rowOf (shaped 2 2) ps 384 done cs depth
 
 -- the words of these answers
 abbrev wordsOf : List Answer → List ℕ

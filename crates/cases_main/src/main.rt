@@ -36,7 +36,7 @@ fn limited(region: &mut [u8], limit: u32) {
 
 fn main() {
     let permissions = [3u8; 2];
-    let mut region = [0u8; 348];
+    let mut region = [0u8; 384];
     report_call(
         b"layout D 2, C 2, T 2, H 1: ",
         mound_layout(&mut region, 2, 2, 2, 1, &permissions),

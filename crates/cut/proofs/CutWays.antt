@@ -194,7 +194,7 @@ module _ (s t : List ℕ) (n : ℕ) where
 
 -- A script whose layout is accepted.
 module _ {s : List ℕ} {u : Setup} {t rows out : List ℕ} (h : Laid s u t rows out) (n : ℕ) (trial : Trial) (it : IsTrial u n trial) where
-  pub is-cuttable : (l : List ℕ) → length l ≡ 183680 → Cuttable u trial t rows l
+  pub is-cuttable : (l : List ℕ) → length l ≡ 208768 → Cuttable u trial t rows l
   is-cuttable l z =
       record {
         accepted = h .accepted;

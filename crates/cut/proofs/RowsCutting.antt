@@ -28,45 +28,45 @@ use Rattle.cut.proofs.TriedOn.{pass-is}
 
 -- The region laid out in the last slot.
 module _ {u : Setup} {l : List ℕ} (h : LastReady u l) where
-  pub laid-ends : 183628 ≤ length l
+  pub laid-ends : 208712 ≤ length l
   laid-ends = omega (arith, h .room)
 
-  part-long : length (take (183628 - 170560) (drop 170560 l)) ≡ 13068
-  part-long = length-take-le 13068 (drop 170560 l) (omega (arith, length-drop 170560 l, h .room))
+  part-long : length (take (208712 - 193856) (drop 193856 l)) ≡ 14856
+  part-long = length-take-le 14856 (drop 193856 l) (omega (arith, length-drop 193856 l, h .room))
 
-  pub lay-ready : (setupRefusal u ≡ 0) × (length (take (183628 - 170560) (drop 170560 l)) ≡ 13068)
+  pub lay-ready : (setupRefusal u ≡ 0) × (length (take (208712 - 193856) (drop 193856 l)) ≡ 14856)
   lay-ready = (h .accepted, part-long)
 
-  pub last-laid : (g : List ℕ) → g ≡ laidRegion u ++ drop (regionLength u) (take (183628 - 170560) (drop 170560 l))
-      → length g ≡ length (take (183628 - 170560) (drop 170560 l))
-      → LastLaid u (take 170560 l ++ (g ++ drop (183628 - 170560) (drop 170560 l)))
+  pub last-laid : (g : List ℕ) → g ≡ laidRegion u ++ drop (regionLength u) (take (208712 - 193856) (drop 193856 l))
+      → length g ≡ length (take (208712 - 193856) (drop 193856 l))
+      → LastLaid u (take 193856 l ++ (g ++ drop (208712 - 193856) (drop 193856 l)))
   unfolding regionIn slotOf
   last-laid g laid z =
-      let rest : List ℕ = drop (183628 - 170560) (drop 170560 l) in
-      let front : length (take 170560 l) ≡ 170560 = length-take-le 170560 l (omega (arith, h .room)) in
-      let at : length (take 170560 l ++ (g ++ rest)) - 13120 ≡ 170560 =
+      let rest : List ℕ = drop (208712 - 193856) (drop 193856 l) in
+      let front : length (take 193856 l) ≡ 193856 = length-take-le 193856 l (omega (arith, h .room)) in
+      let at : length (take 193856 l ++ (g ++ rest)) - 14912 ≡ 193856 =
       omega (
         arith,
-        length-append (take 170560 l) (g ++ rest),
+        length-append (take 193856 l) (g ++ rest),
         length-append g rest,
-        length-drop (183628 - 170560) (drop 170560 l),
-        length-drop 170560 l,
+        length-drop (208712 - 193856) (drop 193856 l),
+        length-drop 193856 l,
         front,
         part-long,
         h .room,
       ) in
       record {
         laid =
-            ap (λ k. take (regionLength u) (drop k (take 170560 l ++ (g ++ rest)))) at
-            ∙ ap (take (regionLength u)) (drop-at (take 170560 l) (g ++ rest) 170560 front)
+            ap (λ k. take (regionLength u) (drop k (take 193856 l ++ (g ++ rest)))) at
+            ∙ ap (take (regionLength u)) (drop-at (take 193856 l) (g ++ rest) 193856 front)
             ∙ ap (λ x. take (regionLength u) (x ++ rest)) laid
-            ∙ ap (take (regionLength u)) (append-assoc (laidRegion u) (drop (regionLength u) (take (183628 - 170560) (drop 170560 l))) rest)
-            ∙ take-at (laidRegion u) (drop (regionLength u) (take (183628 - 170560) (drop 170560 l)) ++ rest) (regionLength u)
+            ∙ ap (take (regionLength u)) (append-assoc (laidRegion u) (drop (regionLength u) (take (208712 - 193856) (drop 193856 l))) rest)
+            ∙ take-at (laidRegion u) (drop (regionLength u) (take (208712 - 193856) (drop 193856 l)) ++ rest) (regionLength u)
             (laid-length u (h .accepted));
       }
 
 module _ {u : Setup} {trial : Trial} {t rows l : List ℕ} (h : Cuttable u trial t rows l) where
-  pub run-fits : Fits w64 (170560 + trial .size)
+  pub run-fits : Fits w64 (193856 + trial .size)
   run-fits = record { fits = omega (arith, fine-length u (h .accepted), h .trial-of .size-same) }
 
   pub last-ready : LastReady u l
@@ -76,7 +76,7 @@ module _ {u : Setup} {trial : Trial} {t rows l : List ℕ} (h : Cuttable u trial
     region-there : regionIn (trial .size) l₁ ≡ laidRegion u
     region-there = ap (λ k. regionIn k l₁) (h .trial-of .size-same) ∙ e .laid
 
-    small : trial .size ≤ 13068
+    small : trial .size ≤ 14856
     small = omega (arith, fine-length u (h .accepted), h .trial-of .size-same)
 
     ready : Ready (trial .frame) (regionIn (trial .size) l₁)
@@ -98,18 +98,18 @@ module _ {u : Setup} {trial : Trial} {t rows l : List ℕ} (h : Cuttable u trial
     pass-tried first r rows′ e =
         subst (λ b. RowsTried (trial .number) t rows rows′ first (length rows) (length rows) b r) region-there e
 
-    pub run-ends : 170560 + trial .size ≤ length l₁
+    pub run-ends : 193856 + trial .size ≤ length l₁
     run-ends = omega (arith, small, same, h .room)
 
-    module _ (end : ℕ) (ee : end ≡ 170560 + trial .size) where
-      part-is : take (end - 170560) (drop 170560 l₁) ≡ laidRegion u
+    module _ (end : ℕ) (ee : end ≡ 193856 + trial .size) where
+      part-is : take (end - 193856) (drop 193856 l₁) ≡ laidRegion u
       unfolding regionIn slotOf
       part-is =
-          let k : end - 170560 ≡ trial .size = omega arith in
-          let at : 170560 ≡ length l₁ - 13120 = omega (arith, same, h .room) in
-          ap (λ j. take j (drop 170560 l₁)) k ∙ ap (λ j. take (trial .size) (drop j l₁)) at ∙ region-there
+          let k : end - 193856 ≡ trial .size = omega arith in
+          let at : 193856 ≡ length l₁ - 14912 = omega (arith, same, h .room) in
+          ap (λ j. take j (drop 193856 l₁)) k ∙ ap (λ j. take (trial .size) (drop j l₁)) at ∙ region-there
 
-      pub run-ready : Runnable (trial .frame) (take (end - 170560) (drop 170560 l₁)) t rows 0 (length rows)
+      pub run-ready : Runnable (trial .frame) (take (end - 193856) (drop 193856 l₁)) t rows 0 (length rows)
       run-ready =
           record {
             ready =
@@ -119,7 +119,7 @@ module _ {u : Setup} {trial : Trial} {t rows l : List ℕ} (h : Cuttable u trial
             within = omega arith;
           }
 
-      pub all-shown : (b′ : List ℕ) (q : Bool) → RowsRan (trial .number) t rows 0 (length rows) (take (end - 170560) (drop 170560 l₁)) b′ q
+      pub all-shown : (b′ : List ℕ) (q : Bool) → RowsRan (trial .number) t rows 0 (length rows) (take (end - 193856) (drop 193856 l₁)) b′ q
           → q ≡ rowsShow (trial .number) t (laidRegion u) rows
       all-shown b′ q e =
           e .shown

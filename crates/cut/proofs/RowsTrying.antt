@@ -98,14 +98,14 @@ module _ {trial : Trial} {t rows : List ℕ} {at kept : ℕ} {b : List ℕ} (h :
 
 -- Slots: for two regions, and for those of each half.
 record Halved (m room : ℕ) : Type 0 where
-  two : 26240 ≤ room
-  upper : StatesRoom (m - m / 2) (room - 13120)
+  two : 29824 ≤ room
+  upper : StatesRoom (m - m / 2) (room - 14912)
   lower : StatesRoom (m / 2) room
 
 halved : (m room : ℕ) → 2 ≤ m → StatesRoom m room → Halved m room
 halved m room h r = ways (r .halvings) (r .few) (r .fit)
   where
-    ways : (k : ℕ) → m ≤ 2 ^ k → 13120 * suc k ≤ room → Halved m room
+    ways : (k : ℕ) → m ≤ 2 ^ k → 14912 * suc k ≤ room → Halved m room
     ways zero few fit = absurd (omega arith)
     ways (suc k) few fit =
         let twice = pow-suc 2 k in
@@ -115,56 +115,56 @@ halved m room h r = ways (r .halvings) (r .few) (r .fit)
           lower = record { halvings = suc k; few = omega arith; fit = fit };
         }
 
-one-slot : {m room : ℕ} → StatesRoom m room → 13120 ≤ room
+one-slot : {m room : ℕ} → StatesRoom m room → 14912 ≤ room
 one-slot {m} r = omega (arith, r .fit)
 
 -- Lines run on a copy.
 module _ {trial : Trial} {t rows : List ℕ} {from to : ℕ} {l : List ℕ} (h : HalfReady trial t rows from to l) where
-  pub two-slots : 26240 ≤ length l
+  pub two-slots : 29824 ≤ length l
   two-slots = h .room
 
-  pub pair-fits : 13120 + trial .size ≤ length (take (length l - (length l - 26240)) (drop (length l - 26240) l))
+  pub pair-fits : 14912 + trial .size ≤ length (take (length l - (length l - 29824)) (drop (length l - 29824) l))
   pair-fits = pair-room (trial .size) (h .small) l (h .room)
 
-  module _ (p′ : List ℕ) (copied : p′ ≡ copiedDown (take (length l - (length l - 26240)) (drop (length l - 26240) l)) (trial .size)) where
+  module _ (p′ : List ℕ) (copied : p′ ≡ copiedDown (take (length l - (length l - 29824)) (drop (length l - 29824) l)) (trial .size)) where
     abbrev l₁ : List ℕ
-    l₁ = take (length l - 26240) l ++ (p′ ++ drop (length l - (length l - 26240)) (drop (length l - 26240) l))
+    l₁ = take (length l - 29824) l ++ (p′ ++ drop (length l - (length l - 29824)) (drop (length l - 29824) l))
 
-    pub part-ends : (length l - 26240) + trial .size
-        ≤ length (take (length l - 26240) l ++ (p′ ++ drop (length l - (length l - 26240)) (drop (length l - 26240) l)))
+    pub part-ends : (length l - 29824) + trial .size
+        ≤ length (take (length l - 29824) l ++ (p′ ++ drop (length l - (length l - 29824)) (drop (length l - 29824) l)))
     part-ends = omega (arith, slots-long (trial .size) (h .small) l (h .room) p′ copied, h .small, h .room)
 
-    module _ (end : ℕ) (ee : end ≡ (length l - 26240) + trial .size) where
-      part-is : take (end - (length l - 26240)) (drop (length l - 26240) l₁) ≡ regionIn (trial .size) l
+    module _ (end : ℕ) (ee : end ≡ (length l - 29824) + trial .size) where
+      part-is : take (end - (length l - 29824)) (drop (length l - 29824) l₁) ≡ regionIn (trial .size) l
       part-is = copy-is (trial .size) (h .small) l (h .room) p′ copied end ee
 
       pub half-runs :
           Runnable (trial .frame)
-          (take (end - (length l - 26240))
-          (drop (length l - 26240)
-          (take (length l - 26240) l ++ (p′ ++ drop (length l - (length l - 26240)) (drop (length l - 26240) l)))))
+          (take (end - (length l - 29824))
+          (drop (length l - 29824)
+          (take (length l - 29824) l ++ (p′ ++ drop (length l - (length l - 29824)) (drop (length l - 29824) l)))))
           t rows from to
       half-runs =
           record { ready = subst (Ready (trial .frame)) (sym part-is) (h .ready); there = h .there; within = h .within }
 
       pub half-ran : (b′ : List ℕ) (q : Bool)
           → RowsRan (trial .number) t rows from to
-          (take (end - (length l - 26240))
-          (drop (length l - 26240)
-          (take (length l - 26240) l ++ (p′ ++ drop (length l - (length l - 26240)) (drop (length l - 26240) l)))))
+          (take (end - (length l - 29824))
+          (drop (length l - 29824)
+          (take (length l - 29824) l ++ (p′ ++ drop (length l - (length l - 29824)) (drop (length l - 29824) l)))))
           b′ q
           → length b′
           ≡ length
-          (take (end - (length l - 26240))
-          (drop (length l - 26240)
-          (take (length l - 26240) l ++ (p′ ++ drop (length l - (length l - 26240)) (drop (length l - 26240) l)))))
+          (take (end - (length l - 29824))
+          (drop (length l - 29824)
+          (take (length l - 29824) l ++ (p′ ++ drop (length l - (length l - 29824)) (drop (length l - 29824) l)))))
           → HalfRan trial t rows from to l
-          (take (length l - 26240)
-          (take (length l - 26240) l ++ (p′ ++ drop (length l - (length l - 26240)) (drop (length l - 26240) l)))
+          (take (length l - 29824)
+          (take (length l - 29824) l ++ (p′ ++ drop (length l - (length l - 29824)) (drop (length l - 29824) l)))
           ++ (b′
-          ++ drop (end - (length l - 26240))
-          (drop (length l - 26240)
-          (take (length l - 26240) l ++ (p′ ++ drop (length l - (length l - 26240)) (drop (length l - 26240) l))))))
+          ++ drop (end - (length l - 29824))
+          (drop (length l - 29824)
+          (take (length l - 29824) l ++ (p′ ++ drop (length l - (length l - 29824)) (drop (length l - 29824) l))))))
           q
       half-ran b′ q e same =
           let long : length b′ ≡ trial .size =
@@ -190,33 +190,33 @@ module _ {trial : Trial} {t rows : List ℕ} {from to kept : ℕ} {l : List ℕ}
   abbrev region : List ℕ
   region = regionIn size l
 
-  pub slot-fits : 13120 ≤ length l
+  pub slot-fits : 14912 ≤ length l
   slot-fits = one-slot (h .room)
 
-  pub last-ends : (length l - 13120) + trial .size ≤ length l
+  pub last-ends : (length l - 14912) + trial .size ≤ length l
   last-ends = omega (arith, slot-fits, h .small)
 
-  pub last-fits : length l < 2 ^ 64 → Fits w64 ((length l - 13120) + trial .size)
+  pub last-fits : length l < 2 ^ 64 → Fits w64 ((length l - 14912) + trial .size)
   last-fits z = record { fits = omega (arith, last-ends) }
 
   -- One line.
-  module _ (one : to - from ≡ 1) (end : ℕ) (ee : end ≡ (length l - 13120) + trial .size) where
+  module _ (one : to - from ≡ 1) (end : ℕ) (ee : end ≡ (length l - 14912) + trial .size) where
     only : from + 1 ≡ to
     only = omega (arith, h .able .some)
 
-    last-is : take (end - (length l - 13120)) (drop (length l - 13120) l) ≡ region
+    last-is : take (end - (length l - 14912)) (drop (length l - 14912) l) ≡ region
     unfolding regionIn slotOf
     last-is =
-        let k : end - (length l - 13120) ≡ size = omega arith in
-        ap (λ j. take j (drop (length l - 13120) l)) k
+        let k : end - (length l - 14912) ≡ size = omega arith in
+        ap (λ j. take j (drop (length l - 14912) l)) k
 
-    pub one-able : Triable trial t rows from (from + 1) kept (take (end - (length l - 13120)) (drop (length l - 13120) l))
+    pub one-able : Triable trial t rows from (from + 1) kept (take (end - (length l - 14912)) (drop (length l - 14912) l))
     one-able =
         subst (Triable trial t rows from (from + 1) kept) (sym last-is)
         (subst (λ k. Triable trial t rows from k kept region) (sym only) (h .able))
 
     pub one-tried : (rows′ : List ℕ) (r : ℕ)
-        → RowsTried n t rows rows′ from (from + 1) kept (take (end - (length l - 13120)) (drop (length l - 13120) l)) r
+        → RowsTried n t rows rows′ from (from + 1) kept (take (end - (length l - 14912)) (drop (length l - 14912) l)) r
         → RowsTried n t rows rows′ from to kept (regionIn (trial .size) l) r
     one-tried rows′ r e =
         subst (λ k. RowsTried n t rows rows′ from k kept region r) only
@@ -311,17 +311,17 @@ module _ {trial : Trial} {t rows : List ℕ} {from to kept : ℕ} {l : List ℕ}
               left = d .left ∙ ap (λ x. triedOn n t x (slice from mid rows) (drop kept rows)) first-kept ∙ sym (whole true g);
             }
 
-        pub before-fits : length l - 13120 ≤ length l₂
+        pub before-fits : length l - 14912 ≤ length l₂
         before-fits = omega (arith, long)
 
-        pub before-long : length l - 13120 ≡ length (take (length l - 13120) l₂)
-        before-long = sym (length-take-le (length l - 13120) l₂ before-fits)
+        pub before-long : length l - 14912 ≡ length (take (length l - 14912) l₂)
+        before-long = sym (length-take-le (length l - 14912) l₂ before-fits)
 
         module _ (g : q ≡ false) where
-          second-region : regionIn size (take (length l - 13120) l₂) ≡ rowsRegion t (slice from mid rows) region
+          second-region : regionIn size (take (length l - 14912) l₂) ≡ rowsRegion t (slice from mid rows) region
           second-region = e .region g
 
-          pub second-able : RowsTriable trial t rows mid to kept (take (length l - 13120) l₂)
+          pub second-able : RowsTriable trial t rows mid to kept (take (length l - 14912) l₂)
           second-able =
               record {
                 able =
@@ -336,21 +336,21 @@ module _ {trial : Trial} {t rows : List ℕ} {from to kept : ℕ} {l : List ℕ}
                     };
                 small = h .small;
                 room =
-                    subst (λ k. StatesRoom k (length (take (length l - 13120) l₂))) (sym second-part)
+                    subst (λ k. StatesRoom k (length (take (length l - 14912) l₂))) (sym second-part)
                     (subst (StatesRoom ((to - from) - (to - from) / 2)) before-long (rooms .upper));
               }
 
           -- the second half was tried
-          module _ (rows₁ : List ℕ) (left : ℕ) (d : RowsTried n t rows rows₁ mid to kept (regionIn (trial .size) (take (length l - 13120) l₂)) left)
-              (same-rows : length rows₁ ≡ length rows) (x : List ℕ) (same-x : length x ≡ length (take (length l - 13120) l₂)) where
+          module _ (rows₁ : List ℕ) (left : ℕ) (d : RowsTried n t rows rows₁ mid to kept (regionIn (trial .size) (take (length l - 14912) l₂)) left)
+              (same-rows : length rows₁ ≡ length rows) (x : List ℕ) (same-x : length x ≡ length (take (length l - 14912) l₂)) where
             abbrev l₃ : List ℕ
-            l₃ = x ++ drop (length l - 13120) l₂
+            l₃ = x ++ drop (length l - 14912) l₂
 
-            same-cut : length x ≡ length (take (length l₂ - 13120) l₂)
-            same-cut = same-x ∙ ap (λ k. length (take (k - 13120) l₂)) (sym long)
+            same-cut : length x ≡ length (take (length l₂ - 14912) l₂)
+            same-cut = same-x ∙ ap (λ k. length (take (k - 14912) l₂)) (sym long)
 
-            l₃-is : x ++ drop (length l₂ - 13120) l₂ ≡ l₃
-            l₃-is = ap (λ k. x ++ drop (k - 13120) l₂) long
+            l₃-is : x ++ drop (length l₂ - 14912) l₂ ≡ l₃
+            l₃-is = ap (λ k. x ++ drop (k - 14912) l₂) long
 
             third-kept : regionIn size l₃ ≡ region
             unfolding regionIn
@@ -358,13 +358,13 @@ module _ {trial : Trial} {t rows : List ℕ} {from to kept : ℕ} {l : List ℕ}
                 ap (λ y. take size (slotOf y)) (sym l₃-is)
                 ∙ ap (take size) (last-kept l₂ x (omega (arith, long, slot-fits)) same-cut ∙ e .kept)
 
-            pub first-half-able : RowsTriable trial t rows₁ from mid left (x ++ drop (length l - 13120) l₂)
+            pub first-half-able : RowsTriable trial t rows₁ from mid left (x ++ drop (length l - 14912) l₂)
             first-half-able =
                 let all : length l₃ ≡ length l = ap length (sym l₃-is) ∙ last-long l₂ x (omega (arith, long, slot-fits)) same-cut ∙ long in
                 first-able rows₁ left l₃ third-kept all (d .there) (d .least) (omega (arith, d .most, h .able .within))
 
             pub halves-tried : (rows₂ : List ℕ) (r : ℕ)
-                → RowsTried n t rows₁ rows₂ from mid left (regionIn (trial .size) (x ++ drop (length l - 13120) l₂)) r
+                → RowsTried n t rows₁ rows₂ from mid left (regionIn (trial .size) (x ++ drop (length l - 14912) l₂)) r
                 → RowsTried n t rows rows₂ from to kept (regionIn (trial .size) l) r
             unfolding second pick
             halves-tried rows₂ r w =

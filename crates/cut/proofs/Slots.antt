@@ -20,12 +20,12 @@ drop-over n xs zs h =
 
 -- The copy: so many bytes of the second slot stand at the start of the first.
 pub record Copying (l₀ : List ℕ) (size : ℕ) (l : List ℕ) (k : ℕ) : Type 0 where
-  pub room : 13120 + size ≤ length l₀
+  pub room : 14912 + size ≤ length l₀
   pub within : k ≤ size
   pub same : length l ≡ length l₀
-  pub bytes : l ≡ take k (drop 13120 l₀) ++ drop k l₀
+  pub bytes : l ≡ take k (drop 14912 l₀) ++ drop k l₀
 
-pub copy-start : (l : List ℕ) (size : ℕ) → 13120 + size ≤ length l → Copying l size l 0
+pub copy-start : (l : List ℕ) (size : ℕ) → 14912 + size ≤ length l → Copying l size l 0
 copy-start l size h = record { room = h; within = omega arith; same = refl; bytes = refl }
 
 module _ {l₀ : List ℕ} {size : ℕ} {l : List ℕ} {k : ℕ} (e : Copying l₀ size l k) where
@@ -36,87 +36,87 @@ module _ {l₀ : List ℕ} {size : ℕ} {l : List ℕ} {k : ℕ} (e : Copying l�
   unfolding copiedDown
   copy-end h =
       let all : k ≡ size = omega (arith, e .within) in
-      e .bytes ∙ ap (λ n. take n (drop 13120 l₀) ++ drop n l₀) all
+      e .bytes ∙ ap (λ n. take n (drop 14912 l₀) ++ drop n l₀) all
 
   module _ (h : k < size) where
-    pub copy-read : 13120 + k < length l
+    pub copy-read : 14912 + k < length l
     copy-read = omega (arith, e .room, e .same)
 
     pub copy-write : k < length l
     copy-write = omega (arith, e .room, e .same)
 
     abbrev copied : List ℕ
-    copied = take k (drop 13120 l₀)
+    copied = take k (drop 14912 l₀)
 
     long : length copied ≡ k
-    long = length-take-le k (drop 13120 l₀) (omega (arith, length-drop 13120 l₀, e .room))
+    long = length-take-le k (drop 14912 l₀) (omega (arith, length-drop 14912 l₀, e .room))
 
     -- the byte that is read is still as it was
-    ahead : getD l (13120 + k) 0 ≡ getD (drop 13120 l₀) k 0
+    ahead : getD l (14912 + k) 0 ≡ getD (drop 14912 l₀) k 0
     ahead =
-        let at : 13120 + k ≡ length copied + 13120 = omega (arith, long) in
-        ap (λ x. getD x (13120 + k) 0) (e .bytes)
+        let at : 14912 + k ≡ length copied + 14912 = omega (arith, long) in
+        ap (λ x. getD x (14912 + k) 0) (e .bytes)
         ∙ ap (λ n. getD (copied ++ drop k l₀) n 0) at
-        ∙ getD-append-add copied (drop k l₀) 13120 0
-        ∙ getD-drop k l₀ 13120 0
-        ∙ ap (λ n. getD l₀ n 0) (add-comm k 13120)
-        ∙ sym (getD-drop 13120 l₀ k 0)
+        ∙ getD-append-add copied (drop k l₀) 14912 0
+        ∙ getD-drop k l₀ 14912 0
+        ∙ ap (λ n. getD l₀ n 0) (add-comm k 14912)
+        ∙ sym (getD-drop 14912 l₀ k 0)
 
-    pub copy-more : Copying l₀ size (set l k (getD l (13120 + k) 0)) (k + 1)
+    pub copy-more : Copying l₀ size (set l k (getD l (14912 + k) 0)) (k + 1)
     copy-more =
-        let v : ℕ = getD (drop 13120 l₀) k 0 in
+        let v : ℕ = getD (drop 14912 l₀) k 0 in
         record {
           room = e .room;
           within = omega arith;
-          same = length-set l k (getD l (13120 + k) 0) ∙ e .same;
+          same = length-set l k (getD l (14912 + k) 0) ∙ e .same;
           bytes =
               ap (set l k) ahead
               ∙ ap (λ x. set x k v) (e .bytes)
               ∙ ap (λ x. set (copied ++ x) k v) (drop-cons l₀ k 0 (omega (arith, e .room)))
               ∙ set-at copied (getD l₀ k 0) (drop (suc k) l₀) v k long
               ∙ sym (append-snoc copied v (drop (suc k) l₀))
-              ∙ ap (λ x. x ++ drop (suc k) l₀) (sym (take-suc (drop 13120 l₀) k 0 (omega (arith, length-drop 13120 l₀, e .room))))
-              ∙ ap (λ n. take n (drop 13120 l₀) ++ drop n l₀) (sym (add-one k));
+              ∙ ap (λ x. x ++ drop (suc k) l₀) (sym (take-suc (drop 14912 l₀) k 0 (omega (arith, length-drop 14912 l₀, e .room))))
+              ∙ ap (λ n. take n (drop 14912 l₀) ++ drop n l₀) (sym (add-one k));
         }
 
-pub region-long : (size : ℕ) (l : List ℕ) → size ≤ 13120 → 13120 ≤ length l → length (regionIn size l) ≡ size
+pub region-long : (size : ℕ) (l : List ℕ) → size ≤ 14912 → 14912 ≤ length l → length (regionIn size l) ≡ size
 unfolding regionIn slotOf
 region-long size l h room =
-    length-take-le size (drop (length l - 13120) l) (omega (arith, length-drop (length l - 13120) l))
+    length-take-le size (drop (length l - 14912) l) (omega (arith, length-drop (length l - 14912) l))
 
 -- Two last slots, the second copied to the first, and then the region b′ stored there.
-module _ (size : ℕ) (small : size ≤ 13068) (l : List ℕ) (room : 26240 ≤ length l) where
+module _ (size : ℕ) (small : size ≤ 14856) (l : List ℕ) (room : 29824 ≤ length l) where
   abbrev w : ℕ
-  w = length l - 26240
+  w = length l - 29824
 
   pair-is : take (length l - w) (drop w l) ≡ drop w l
   pair-is = take-all (length l - w) (drop w l) (omega (arith, length-drop w l))
 
-  pub pair-room : 13120 + size ≤ length (take (length l - w) (drop w l))
+  pub pair-room : 14912 + size ≤ length (take (length l - w) (drop w l))
   pair-room = omega (arith, ap length pair-is, length-drop w l)
 
-  second-is : drop 13120 (drop w l) ≡ slotOf l
+  second-is : drop 14912 (drop w l) ≡ slotOf l
   unfolding slotOf
   second-is =
-      let at : w + 13120 ≡ length l - 13120 = omega arith in
-      drop-drop 13120 w l ∙ ap (λ n. drop n l) at
+      let at : w + 14912 ≡ length l - 14912 = omega arith in
+      drop-drop 14912 w l ∙ ap (λ n. drop n l) at
 
   module _ (p′ : List ℕ) (copied : p′ ≡ copiedDown (take (length l - w) (drop w l)) size) where
     abbrev l₁ : List ℕ
     l₁ = take w l ++ (p′ ++ drop (length l - w) (drop w l))
 
     first-bytes : List ℕ
-    first-bytes = take size (drop 13120 (drop w l))
+    first-bytes = take size (drop 14912 (drop w l))
 
     first-long : length first-bytes ≡ size
     unfolding first-bytes
-    first-long = length-take-le size (drop 13120 (drop w l)) (omega (arith, length-drop 13120 (drop w l), length-drop w l))
+    first-long = length-take-le size (drop 14912 (drop w l)) (omega (arith, length-drop 14912 (drop w l), length-drop w l))
 
     p-is : p′ ≡ first-bytes ++ drop (length first-bytes) (drop w l)
     unfolding first-bytes copiedDown
     p-is =
         copied
-        ∙ ap (λ x. take size (drop 13120 x) ++ drop size x) pair-is
+        ∙ ap (λ x. take size (drop 14912 x) ++ drop size x) pair-is
         ∙ ap (λ n. first-bytes ++ drop n (drop w l)) (sym first-long)
 
     behind : drop w l₁ ≡ p′
@@ -178,41 +178,41 @@ module _ (size : ℕ) (small : size ≤ 13068) (l : List ℕ) (room : 26240 ≤ 
       pub slot-kept : slotOf (take w l₁ ++ (b′ ++ drop (end - w) (drop w l₁))) ≡ slotOf l
       unfolding slotOf rest
       slot-kept =
-          let at : length (take w l₁ ++ (b′ ++ drop (end - w) (drop w l₁))) - 13120 ≡ length (take w l₁) + 13120 =
+          let at : length (take w l₁ ++ (b′ ++ drop (end - w) (drop w l₁))) - 14912 ≡ length (take w l₁) + 14912 =
           omega (arith, stored-long, front-long) in
           ap (λ n. drop n (take w l₁ ++ (b′ ++ rest))) at
-          ∙ drop-append-add (take w l₁) (b′ ++ rest) 13120
-          ∙ ap (drop 13120) rest-is
-          ∙ drop-over 13120 b′ (drop w l₁) (omega arith)
-          ∙ ap (drop 13120) (behind ∙ p-is)
-          ∙ drop-over 13120 first-bytes (drop w l) (omega (arith, first-long))
+          ∙ drop-append-add (take w l₁) (b′ ++ rest) 14912
+          ∙ ap (drop 14912) rest-is
+          ∙ drop-over 14912 b′ (drop w l₁) (omega arith)
+          ∙ ap (drop 14912) (behind ∙ p-is)
+          ∙ drop-over 14912 first-bytes (drop w l) (omega (arith, first-long))
           ∙ second-is
 
-      pub slot-before : regionIn size (take (length l - 13120) (take w l₁ ++ (b′ ++ drop (end - w) (drop w l₁)))) ≡ b′
+      pub slot-before : regionIn size (take (length l - 14912) (take w l₁ ++ (b′ ++ drop (end - w) (drop w l₁)))) ≡ b′
       unfolding regionIn slotOf rest
       slot-before =
-          let u : ℕ = length l - 13120 in
+          let u : ℕ = length l - 14912 in
           let l₂ : List ℕ = take w l₁ ++ (b′ ++ rest) in
-          let cut : u ≡ length (take w l₁) + 13120 = omega (arith, front-long) in
-          let shorter : take u l₂ ≡ take w l₁ ++ take 13120 (b′ ++ rest) =
-          ap (λ n. take n l₂) cut ∙ take-append-add (take w l₁) (b′ ++ rest) 13120 in
-          let at : length (take u l₂) - 13120 ≡ w = omega (arith, length-take-le u l₂ (omega (arith, stored-long))) in
+          let cut : u ≡ length (take w l₁) + 14912 = omega (arith, front-long) in
+          let shorter : take u l₂ ≡ take w l₁ ++ take 14912 (b′ ++ rest) =
+          ap (λ n. take n l₂) cut ∙ take-append-add (take w l₁) (b′ ++ rest) 14912 in
+          let at : length (take u l₂) - 14912 ≡ w = omega (arith, length-take-le u l₂ (omega (arith, stored-long))) in
           ap (λ n. take size (drop n (take u l₂))) at
           ∙ ap (λ x. take size (drop w x)) shorter
-          ∙ ap (take size) (drop-at (take w l₁) (take 13120 (b′ ++ rest)) w front-long)
-          ∙ take-take size 13120 (b′ ++ rest) (omega arith)
+          ∙ ap (take size) (drop-at (take w l₁) (take 14912 (b′ ++ rest)) w front-long)
+          ∙ take-take size 14912 (b′ ++ rest) (omega arith)
           ∙ take-at b′ rest size same
 
 -- The slots before the last one, whatever becomes of them.
-module _ (l x : List ℕ) (room : 13120 ≤ length l) (same : length x ≡ length (take (length l - 13120) l)) where
-  before-long : length x ≡ length l - 13120
-  before-long = same ∙ length-take-le (length l - 13120) l (omega arith)
+module _ (l x : List ℕ) (room : 14912 ≤ length l) (same : length x ≡ length (take (length l - 14912) l)) where
+  before-long : length x ≡ length l - 14912
+  before-long = same ∙ length-take-le (length l - 14912) l (omega arith)
 
-  pub last-long : length (x ++ drop (length l - 13120) l) ≡ length l
-  last-long = omega (arith, length-append x (drop (length l - 13120) l), length-drop (length l - 13120) l, before-long)
+  pub last-long : length (x ++ drop (length l - 14912) l) ≡ length l
+  last-long = omega (arith, length-append x (drop (length l - 14912) l), length-drop (length l - 14912) l, before-long)
 
-  pub last-kept : slotOf (x ++ drop (length l - 13120) l) ≡ slotOf l
+  pub last-kept : slotOf (x ++ drop (length l - 14912) l) ≡ slotOf l
   unfolding slotOf
   last-kept =
-      ap (λ n. drop n (x ++ drop (length l - 13120) l)) (ap (λ n. n - 13120) last-long)
-      ∙ drop-at x (drop (length l - 13120) l) (length l - 13120) before-long
+      ap (λ n. drop n (x ++ drop (length l - 14912) l)) (ap (λ n. n - 14912) last-long)
+      ∙ drop-at x (drop (length l - 14912) l) (length l - 14912) before-long

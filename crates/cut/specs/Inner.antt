@@ -227,23 +227,23 @@ triedOn n t b [] rest = rest
 triedOn n t b (row ∷ rows) rest =
     leftOn n t b row (pick (rowsShow n t b (row ∷ [])) rest (triedOn n t (rowsRegion t (row ∷ []) b) rows rest))
 
--- Regions in slots of 13,120 bytes: the last slot of the states l, and the region of size bytes at its start; and two slots, the first of
+-- Regions in slots of 14,912 bytes: the last slot of the states l, and the region of size bytes at its start; and two slots, the first of
 -- which has had the region of the second copied into it.
 unfoldable pub slotOf : List ℕ → List ℕ
-slotOf l = drop (length l - 13120) l
+slotOf l = drop (length l - 14912) l
 
 unfoldable pub regionIn : ℕ → List ℕ → List ℕ
 unfolding slotOf
 regionIn size l = take size (slotOf l)
 
 unfoldable pub copiedDown : List ℕ → ℕ → List ℕ
-copiedDown l size = take size (drop 13120 l) ++ drop size l
+copiedDown l size = take size (drop 14912 l) ++ drop size l
 
 -- a slot for the region at a line, and one each time that m lines can be halved
 pub record StatesRoom (m room : ℕ) : Type 0 where
   pub halvings : ℕ
   pub few : m ≤ 2 ^ halvings
-  pub fit : 13120 * suc halvings ≤ room
+  pub fit : 14912 * suc halvings ≤ room
 
 -- lines rows[from..to] can be tried on the region b
 pub record Triable (trial : Trial) (t rows : List ℕ) (from to kept : ℕ) (b : List ℕ) : Type 0 where
@@ -258,20 +258,20 @@ pub record HalfReady (trial : Trial) (t rows : List ℕ) (from to : ℕ) (states
   pub ready : Ready (trial .frame) (regionIn (trial .size) states)
   pub there : RowsIn t rows
   pub within : to ≤ length rows
-  pub small : trial .size ≤ 13068
-  pub room : 26240 ≤ length states
+  pub small : trial .size ≤ 14856
+  pub room : 29824 ≤ length states
 
 pub record HalfRan (trial : Trial) (t rows : List ℕ) (from to : ℕ) (states states′ : List ℕ) (r : Bool) : Type 0 where
   pub kept : slotOf states′ ≡ slotOf states
   pub shown : r ≡ rowsShow (trial .number) t (regionIn (trial .size) states) (slice from to rows)
   pub region :
       r ≡ false
-      → regionIn (trial .size) (take (length states - 13120) states′)
+      → regionIn (trial .size) (take (length states - 14912) states′)
       ≡ rowsRegion t (slice from to rows) (regionIn (trial .size) states)
 
 pub record RowsTriable (trial : Trial) (t rows : List ℕ) (from to kept : ℕ) (states : List ℕ) : Type 0 where
   pub able : Triable trial t rows from to kept (regionIn (trial .size) states)
-  pub small : trial .size ≤ 13068
+  pub small : trial .size ≤ 14856
   pub room : StatesRoom (to - from) (length states)
 
 pub record RowsTried (n : ℕ) (t rows rows′ : List ℕ) (from to kept : ℕ) (b : List ℕ) (r : ℕ) : Type 0 where
@@ -293,12 +293,12 @@ pub record Cuttable (u : Setup) (trial : Trial) (t rows states : List ℕ) : Typ
   pub trial-of : IsTrial u (trial .number) trial
   pub there : RowsIn t rows
   pub few : length rows ≤ 6000
-  pub room : length states ≡ 183680
+  pub room : length states ≡ 208768
 
 -- an accepted setup's region can be laid out in the last slot, and is
 pub record LastReady (u : Setup) (states : List ℕ) : Type 0 where
   pub accepted : setupRefusal u ≡ done
-  pub room : length states ≡ 183680
+  pub room : length states ≡ 208768
 
 pub record LastLaid (u : Setup) (states : List ℕ) : Type 0 where
   pub laid : regionIn (regionLength u) states ≡ laidRegion u

@@ -47,7 +47,7 @@ fn zero_table() -> [u32; TABLE_ROOM]
 }
 
 fn zero_states() -> [u8; STATES_ROOM]
-    ensures { λ r. ⌜ r ≡ replicate 183680 0 ⌝ }
+    ensures { λ r. ⌜ r ≡ replicate 208768 0 ⌝ }
 {
     [0; STATES_ROOM]
 }

@@ -47,9 +47,9 @@ module _ (s : List ℕ) (u : Setup) (l m : List ℕ) (h : SetupThere s u l m) wh
       part : take (4 * w) g₁ ≡ laidRegion u
       part = laid-part u (h .accepted) w ew g g₁ laid
 
-      module _ (lent : g ≡ replicate 13068 0) (same : length g₁ ≡ length g) where
-        all : length g₁ ≡ 13068
-        all = same ∙ ap length lent ∙ length-replicate {A = ℕ} 13068 0
+      module _ (lent : g ≡ replicate 14856 0) (same : length g₁ ≡ length g) where
+        all : length g₁ ≡ 14856
+        all = same ∙ ap length lent ∙ length-replicate {A = ℕ} 14856 0
 
         pub setup-room : 4 * w ≤ length g₁
         setup-room = region-room u (h .accepted) w ew g₁ all

@@ -11,7 +11,7 @@ use borrow.Author.Tests.{eqb-true, eqb-false, ne-eqb}
 use lib.Dec.{eqb, leb}
 use lib.ListN.{length}
 use Rattle.region.specs.Answer.{badThread, done}
-use Rattle.region.specs.Frame.{frameOf}
+use Rattle.region.specs.Frame.{frameOfWidth}
 use Rattle.region.specs.Pick.{pick}
 use Rattle.region.specs.Shape.{between}
 use Rattle.region.specs.Thread.{idleThread}
@@ -205,7 +205,7 @@ call-keeps n b r what t =
     }
 
 turn-refused : (n : ℕ) (b : List ℕ) → Laid n b → (t c : ℕ) → RefusedPast n (turnMade b t c)
-unfolding turnMade turnPlan frameOf pick
+unfolding turnMade turnPlan frameOfWidth pick
 turn-refused n b r t c = record { past = λ e. rw (r .threads, e) refl }
 
 -- The scripts that are read have accepted setups.

@@ -27,7 +27,7 @@ pub struct Progress {
 
 // As many bytes as the largest region has, all of them zero.
 fn zero_region() -> [u8; REGION_ROOM]
-    ensures { λ r. ⌜ r ≡ replicate 13068 0 ⌝ }
+    ensures { λ r. ⌜ r ≡ replicate 14856 0 ⌝ }
 {
     [0; REGION_ROOM]
 }

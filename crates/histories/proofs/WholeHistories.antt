@@ -31,7 +31,7 @@ five = record { key = 5; tag = 9 }
 
 -- "Shape D 2, C 2, T 2, H 1, permissions 3"
 pub laid : List ℕ
-laid = layoutBytes (record { depth = 2; cells = 2; threads = 2; threshold = 1 }) (3 ∷ 3 ∷ []) (replicate 348 0)
+laid = layoutBytes (record { depth = 2; cells = 2; threads = 2; threshold = 1 }) (3 ∷ 3 ∷ []) (replicate 384 0)
 
 -- case J
 pub calls : List Call

@@ -12,10 +12,10 @@ use Rattle.words.specs.Word.{word, setWords}
 use Rattle.words.specs.Inner.{Fit}
 use Rattle.words.proofs.Laws.{word-stored, length-setWords}
 use Rattle.region.specs.Answer.{done}
-use Rattle.region.specs.Frame.{frameOf}
+use Rattle.region.specs.Frame.{frameOf, frameOfWidth}
 use Rattle.region.specs.Pick.{pick}
-use Rattle.region.specs.Record.{cellSize}
-use Rattle.region.specs.Shape.{headSize, regionWords}
+use Rattle.region.specs.Record.{counterSize, cellSize}
+use Rattle.region.specs.Shape.{headSize, regionWords, regionWordsOfWidth}
 use Rattle.region.specs.Thread.{threadSize, greatestPermission}
 use Rattle.region.specs.Inner.{InRange}
 use Rattle.region.specs.declared.shape.Shape.{Shape}
@@ -42,13 +42,13 @@ cellWord-most cells j =
 pub threadWord-most : (ps : List ℕ) (j : ℕ) → atMost greatestPermission ps ≡ true → threadWord ps j ≤ greatestPermission
 unfolding threadWord
 threadWord-most ps j a =
-    pick-good (λ x. x ≤ greatestPermission) (eqb (j % threadSize) 0) (λ e. at-most greatestPermission ps (j / threadSize) a) (λ e. omega arith)
+    pick-good (λ x. x ≤ greatestPermission) (eqb (j % threadSize counterSize) 0) (λ e. at-most greatestPermission ps (j / threadSize counterSize) a) (λ e. omega arith)
 
-pub threadWord-rest : (ps : List ℕ) (i j : ℕ) → 0 < j → j < threadSize → threadWord ps (threadSize * i + j) ≡ 0
+pub threadWord-rest : (ps : List ℕ) (i j : ℕ) → 0 < j → j < threadSize counterSize → threadWord ps (threadSize counterSize * i + j) ≡ 0
 unfolding threadWord pick
 threadWord-rest ps i j l u =
-    let n : (threadSize * i + j) % threadSize ≡ j = omega arith in
-    rw (ne-eqb ((threadSize * i + j) % threadSize) 0 (λ z. omega arith)) refl
+    let n : (threadSize counterSize * i + j) % threadSize counterSize ≡ j = omega arith in
+    rw (ne-eqb ((threadSize counterSize * i + j) % threadSize counterSize) 0 (λ z. omega arith)) refl
 
 module _ (s : Shape) (ps : List ℕ) (r : InRange s) (a : atMost greatestPermission ps ≡ true) where
   laid-most : (k : ℕ) → laidWord s ps k ≤ 4096
@@ -123,21 +123,21 @@ module _ (s : Shape) (ps b : List ℕ) (e : layoutRefusal s ps (length b) ≡ do
   laid = layoutBytes s ps b
 
   pub header : (k : ℕ) → k < headSize → word laid k ≡ getD (s .depth ∷ s .cells ∷ s .threads ∷ s .threshold ∷ 1 ∷ 1 ∷ []) k 0
-  unfolding laidWord pick regionWords
+  unfolding laidWord pick regionWordsOfWidth
   header k h = laid-word k (omega arith) ∙ rw (lt-ltb k headSize h) refl
 
   pub node-word : (k : ℕ) → headSize ≤ k → k < frameOf s .cells → word laid k ≡ 0
-  unfolding laidWord pick regionWords frameOf
+  unfolding laidWord pick regionWordsOfWidth frameOfWidth
   node-word k l u = laid-word k (omega arith) ∙ rw (le-ltb k headSize l, lt-ltb k (frameOf s .cells) u) refl
 
   pub cell-word : (k : ℕ) → frameOf s .cells ≤ k → k < frameOf s .threads → word laid k ≡ cellWord (s .cells) (k - frameOf s .cells)
-  unfolding laidWord pick regionWords frameOf
+  unfolding laidWord pick regionWordsOfWidth frameOfWidth
   cell-word k l u =
       laid-word k (omega arith)
       ∙ rw (le-ltb k headSize (omega arith), le-ltb k (frameOf s .cells) l, lt-ltb k (frameOf s .threads) u) refl
 
   pub thread-word : (k : ℕ) → frameOf s .threads ≤ k → k < regionWords s → word laid k ≡ threadWord ps (k - frameOf s .threads)
-  unfolding laidWord pick frameOf
+  unfolding laidWord pick frameOfWidth
   thread-word k l u =
       laid-word k u
       ∙ rw

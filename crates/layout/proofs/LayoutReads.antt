@@ -11,10 +11,10 @@ use lib.Dec.{leb, ltb}
 use lib.ListN.{length, getD, replicate}
 use Rattle.words.specs.Word.{word, wordsAt}
 use Rattle.region.specs.Answer.{done}
-use Rattle.region.specs.Frame.{frameOf, nodesOf}
+use Rattle.region.specs.Frame.{frameOf, frameOfWidth, nodesOf}
 use Rattle.region.specs.Pick.{pick}
-use Rattle.region.specs.Record.{nodeSize, cellSize, nodeOf, nodeAt, emptyNode, cellAt, zeroItem}
-use Rattle.region.specs.Shape.{between, nodeCount, regionWords}
+use Rattle.region.specs.Record.{counterSize, nodeSize, cellSize, nodeOf, nodeAt, emptyNode, cellAt, zeroItem}
+use Rattle.region.specs.Shape.{between, nodeCount, regionWordsOfWidth}
 use Rattle.region.specs.Shared.{entry, loadEntry, nodeIn, cellIn, threadIn, sharedIn}
 use Rattle.region.specs.Thread.{threadSize, threadAt, threadOf, idleThread}
 use Rattle.region.specs.declared.record.Cell.{Cell}
@@ -80,41 +80,41 @@ module _ (cells c : ℕ) where
       let n : c + 2 ≡ c + 1 + 1 = omega arith in
       rw (eq-eqb ((cellSize * c + nextWord) % cellSize) nextWord (omega arith), q, le-leb 1 (c + 1) (omega arith), n) refl
 
-permission-word : (ps : List ℕ) (i : ℕ) → threadWord ps (threadSize * i + 0) ≡ getD ps i 0
+permission-word : (ps : List ℕ) (i : ℕ) → threadWord ps (threadSize counterSize * i + 0) ≡ getD ps i 0
 unfolding threadWord pick
 permission-word ps i =
-    let q : (threadSize * i + 0) / threadSize ≡ i = omega arith in
-    rw (eq-eqb ((threadSize * i + 0) % threadSize) 0 (omega arith), q) refl
+    let q : (threadSize counterSize * i + 0) / threadSize counterSize ≡ i = omega arith in
+    rw (eq-eqb ((threadSize counterSize * i + 0) % threadSize counterSize) 0 (omega arith), q) refl
 
 module _ (s : Shape) (ps b : List ℕ) (e : layoutRefusal s ps (length b) ≡ done) where
   abbrev laid : List ℕ
   laid = layoutBytes s ps b
 
   pub laid-depth : sharedIn (frameOf s) laid .depth ≡ 1
-  unfolding sharedIn frameOf
+  unfolding sharedIn frameOfWidth
   laid-depth = header s ps b e 4 (omega arith)
 
   pub laid-free : sharedIn (frameOf s) laid .free ≡ 1
-  unfolding sharedIn frameOf
+  unfolding sharedIn frameOfWidth
   laid-free = header s ps b e 5 (omega arith)
 
   pub laid-node : (n : ℕ) → sharedIn (frameOf s) laid .node n ≡ emptyNode
-  unfolding sharedIn nodeIn loadEntry nodeAt frameOf
+  unfolding sharedIn nodeIn loadEntry nodeAt frameOfWidth
   laid-node n =
       pick-good (λ (v : Node). v ≡ emptyNode) (between 1 n (nodeCount s))
       (λ h. let l = between-least 1 n (nodeCount s) h in
       let u = between-most 1 n (nodeCount s) h in
-      ap (λ ws. nodeOf ws 0)
-      (zero-words laid nodeSize (entry (nodesOf (frameOf s)) n) λ j lo hi. node-word s ps b e j (omega arith) (omega arith)))
+      ap (λ ws. nodeOf counterSize ws 0)
+      (zero-words laid (nodeSize counterSize) (entry (nodesOf (frameOf s)) n) λ j lo hi. node-word s ps b e j (omega arith) (omega arith)))
       (λ h. refl)
 
   -- word j of cell i + 1, and of thread i + 1's record
   cell-part : (i j k : ℕ) → i < s .cells → j < cellSize → k ≡ frameOf s .cells + cellSize * i + j → word laid k ≡ cellWord (s .cells) (cellSize * i + j)
-  unfolding frameOf
+  unfolding frameOfWidth
   cell-part i j k h l at = cell-word s ps b e k (omega arith) (omega arith) ∙ ap (cellWord (s .cells)) (omega arith)
 
-  pub thread-part : (i j k : ℕ) → i < s .threads → j < threadSize → k ≡ frameOf s .threads + threadSize * i + j → word laid k ≡ threadWord ps (threadSize * i + j)
-  unfolding frameOf regionWords
+  pub thread-part : (i j k : ℕ) → i < s .threads → j < threadSize counterSize → k ≡ frameOf s .threads + threadSize counterSize * i + j → word laid k ≡ threadWord ps (threadSize counterSize * i + j)
+  unfolding frameOfWidth regionWordsOfWidth
   thread-part i j k h l at = thread-word s ps b e k (omega arith) (omega arith) ∙ ap (threadWord ps) (omega arith)
 
   laid-words : (i : ℕ) → i < s .cells
@@ -128,7 +128,7 @@ module _ (s : Shape) (ps b : List ℕ) (e : layoutRefusal s ps (length b) ≡ do
       λ x. record { item = record { key = key x; tag = tag x }; next = next x }
 
   pub laid-cell : (c : ℕ) → sharedIn (frameOf s) laid .cell c ≡ record { item = zeroItem; next = nextFree (s .cells) c }
-  unfolding sharedIn cellIn loadEntry frameOf
+  unfolding sharedIn cellIn loadEntry frameOfWidth
   laid-cell c =
       pick-good (λ (v : Cell). v ≡ record { item = zeroItem; next = nextFree (s .cells) c }) (between 1 c (s .cells))
       (λ h. let l = between-least 1 c (s .cells) h in
@@ -137,22 +137,22 @@ module _ (s : Shape) (ps b : List ℕ) (e : layoutRefusal s ps (length b) ≡ do
       laid-words (c - 1) (omega arith) ∙ ap (λ k. record { item = zeroItem; next = nextFree (s .cells) k }) n)
       (λ h. ap (λ n. record { item = zeroItem; next = n }) (sym (next-of-none (s .cells) c h)))
 
-  record-words : (i : ℕ) → i < s .threads → wordsAt laid (frameOf s .threads + threadSize * i) threadSize ≡ getD ps i 0 ∷ replicate (threadSize - 1) 0
+  record-words : (i : ℕ) → i < s .threads → wordsAt laid (frameOf s .threads + threadSize counterSize * i) (threadSize counterSize) ≡ getD ps i 0 ∷ replicate (threadSize counterSize - 1) 0
   record-words i h =
-      let at = frameOf s .threads + threadSize * i in
+      let at = frameOf s .threads + threadSize counterSize * i in
       cc (
         thread-part i 0 at h (omega arith) (omega arith),
         permission-word ps i,
-        zero-words laid (threadSize - 1) (suc at) (λ j lo hi.
+        zero-words laid (threadSize counterSize - 1) (suc at) (λ j lo hi.
             thread-part i (j - at) j h (omega arith) (omega arith) ∙ threadWord-rest ps i (j - at) (omega arith) (omega arith)),
       )
 
   pub laid-thread : (t : ℕ) → 1 ≤ t → t ≤ s .threads → threadIn (frameOf s) laid t ≡ idleThread (getD ps (t - 1) 0)
-  unfolding threadIn loadEntry threadAt frameOf pick
-  laid-thread t l u = rw (is-between 1 t (s .threads) l u) (ap threadOf (record-words (t - 1) (omega arith)))
+  unfolding threadIn loadEntry threadAt frameOfWidth pick
+  laid-thread t l u = rw (is-between 1 t (s .threads) l u) (ap (threadOf counterSize) (record-words (t - 1) (omega arith)))
 
   pub laid-no-thread : (t : ℕ) → between 1 t (s .threads) ≡ false → threadIn (frameOf s) laid t ≡ idleThread 0
-  unfolding threadIn loadEntry frameOf pick
+  unfolding threadIn loadEntry frameOfWidth pick
   laid-no-thread t h = rw h refl
 
   -- cell c, given the cell behind it in the chain

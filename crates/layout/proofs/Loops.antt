@@ -12,10 +12,10 @@ use lib.Seq.{drop-cons}
 use Rattle.words.specs.Word.{setWord, setWords}
 use Rattle.words.proofs.Laws.{length-setWord}
 use Rattle.region.specs.Answer.{done, badShape, badLength}
-use Rattle.region.specs.Frame.{frameOf}
+use Rattle.region.specs.Frame.{frameOf, frameOfWidth}
 use Rattle.region.specs.Pick.{pick}
-use Rattle.region.specs.Record.{cellSize}
-use Rattle.region.specs.Shape.{headSize, shapeFits, regionWords}
+use Rattle.region.specs.Record.{counterSize, cellSize}
+use Rattle.region.specs.Shape.{headSize, shapeFits, regionWords, regionWordsOfWidth}
 use Rattle.region.specs.Thread.{threadSize, greatestPermission}
 use Rattle.region.specs.declared.frame.Frame.{Frame}
 use Rattle.region.specs.declared.shape.Shape.{Shape}
@@ -91,13 +91,13 @@ module _ (cells j : ℕ) where
   last-cell e h = rw (eq-eqb (j % cellSize) nextWord e, le-ltb (j / cellSize + 1) cells h) refl
 
 module _ (ps : List ℕ) (j : ℕ) where
-  pub no-permission : (j % threadSize ≡ 0 → ⊥) → 0 ≡ threadWord ps j
+  pub no-permission : (j % threadSize counterSize ≡ 0 → ⊥) → 0 ≡ threadWord ps j
   unfolding threadWord pick
-  no-permission n = rw (ne-eqb (j % threadSize) 0 n) refl
+  no-permission n = rw (ne-eqb (j % threadSize counterSize) 0 n) refl
 
-  pub permission : j % threadSize ≡ 0 → getD ps (j / threadSize) 0 ≡ threadWord ps j
+  pub permission : j % threadSize counterSize ≡ 0 → getD ps (j / threadSize counterSize) 0 ≡ threadWord ps j
   unfolding threadWord pick
-  permission e = rw (eq-eqb (j % threadSize) 0 e) refl
+  permission e = rw (eq-eqb (j % threadSize counterSize) 0 e) refl
 
 module _ (s : Shape) (ps : List ℕ) (k c t : ℕ) (g : Laying s ps k c t) where
   pub laid-header : k < headSize → getD (s .depth ∷ s .cells ∷ s .threads ∷ s .threshold ∷ 1 ∷ 1 ∷ []) k 0 ≡ laidWord s ps k
@@ -118,8 +118,8 @@ module _ (s : Shape) (ps : List ℕ) (k c t : ℕ) (g : Laying s ps k c t) where
       unfolding laidWord pick
       laid-thread h e = rw (le-ltb k headSize h₁, ← g .threads-at, ← g .cells-at, le-ltb k c h₂, le-ltb k t h) e
 
-  pub in-threads : t ≤ k → k - t < threadSize * length ps
-  unfolding regionWords frameOf
+  pub in-threads : t ≤ k → k - t < threadSize counterSize * length ps
+  unfolding regionWordsOfWidth frameOfWidth
   in-threads h = omega (arith, g .within, g .threads-at, g .permissions)
 
 -- Filling: storing the words from word k on gives the whole region.

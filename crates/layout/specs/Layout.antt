@@ -8,9 +8,9 @@ use lib.Dec.{leb, ltb, eqb}
 use lib.ListN.{length, getD}
 use Rattle.words.specs.Word.{setWords}
 use Rattle.region.specs.Answer.{done, badShape, badLength, _unless_otherwise_}
-use Rattle.region.specs.Frame.{frameOf}
+use Rattle.region.specs.Frame.{frameOf, frameOfWidth}
 use Rattle.region.specs.Pick.{pick}
-use Rattle.region.specs.Record.{cellSize}
+use Rattle.region.specs.Record.{counterSize, cellSize}
 use Rattle.region.specs.Shape.{headSize, shapeFits, regionWords}
 use Rattle.region.specs.Thread.{threadSize, greatestPermission}
 use Rattle.region.specs.declared.shape.Shape.{Shape}
@@ -44,11 +44,11 @@ cellWord cells j =
 
 -- word j of the threads: 0 but the permission, which comes first
 unfoldable pub threadWord : List ℕ → ℕ → ℕ
-threadWord ps j = pick (eqb (j % threadSize) 0) (getD ps (j / threadSize) 0) 0
+threadWord ps j = pick (eqb (j % threadSize counterSize) 0) (getD ps (j / threadSize counterSize) 0) 0
 
 -- word k of a region as layout leaves it: "D, C, T, H, present depth, first free cell", nodes, cells, threads
 unfoldable pub laidWord : Shape → List ℕ → ℕ → ℕ
-unfolding frameOf cellWord threadWord
+unfolding frameOfWidth cellWord threadWord
 laidWord s ps k =
     pick
     (ltb k headSize)

@@ -3,6 +3,7 @@ ghost use mathlib.Core.Path.{_≡_};
 ghost use Prim.Native.Nat.{_*_, _≤_, _<_};
 ghost use lib.ListN.{length};
 ghost use Rattle.words.specs.Word.{setWords};
+ghost use Rattle.region.specs.Record.{counterSize};
 ghost use Rattle.region.specs.Shape.{regionWords};
 ghost use Rattle.region.specs.Thread.{threadSize, greatestPermission};
 ghost use Rattle.layout.specs.Layout.{LaidOut, atMost, permissionsFit, layoutRefusal, cellWord, threadWord, laidWord, laidWords};
@@ -81,7 +82,7 @@ fn cell_word(cells: usize, j: usize) -> u32
 
 // Word j of the threads.
 fn thread_word(permissions: &[u8], j: usize) -> u32
-    requires { ⌜ j < threadSize * length (now permissions) ⌝ }
+    requires { ⌜ j < threadSize counterSize * length (now permissions) ⌝ }
     ensures { λ r. ⌜ r ≡ threadWord (now (permissions .entry)) j ⌝ }
 {
     if j % THREAD_SIZE != 0 {

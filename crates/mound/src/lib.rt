@@ -7,6 +7,7 @@ ghost use Rattle.layout.specs.Layout.{LaidOut};
 ghost use Rattle.readable.specs.Readable.{checkAnswer};
 ghost use Rattle.begin.specs.Begin.{PutBegun, TakeBegun};
 ghost use Rattle.permission.specs.Permit.{PermitSet};
+ghost use Rattle.convert.specs.Convert.{Converted};
 ghost use Rattle.records.specs.Accepts.{recordsAnswer};
 ghost use Rattle.mound.specs.Calls.{CutDone, RunDone, itemGiven, packed, packedCut, shapeGiven};
 ghost use Rattle.mound.specs.Inner.{CutPackable, Packable};
@@ -101,6 +102,15 @@ pub extern "C" fn mound_check(region: &[u8]) -> u32
     ensures { λ r. ⌜ r ≡ checkAnswer (now (region .entry)) ⌝ }
 {
     readable::check_region(region)
+}
+
+// Carries a region of the form before request 7, whose counters have one word, over to a slice for the present form: 0 if done. Refusals 7 for the
+// old region, 2 for the new slice.
+#[no_mangle]
+pub extern "C" fn mound_convert(old: &[u8], new: &mut [u8]) -> u32
+    ensures { λ r. ⌜ Converted (now (old .entry)) (now (new .entry)) (now (new .exit)) r ⌝ }
+{
+    convert::convert(old, new)
 }
 
 // Whether the records of a native build are accepted, seven words for each operation (kind, thread, begin, answer, position,

@@ -5,7 +5,7 @@ use mathlib.Core.Path.{_≡_}
 use mathlib.Core.List.{List}
 use lib.Dec.{leb, eqb}
 use Rattle.region.specs.Answer.{done, badShape, badThread, unreadable, _unless_otherwise_}
-use Rattle.region.specs.Frame.{frameOf}
+use Rattle.region.specs.Frame.{frameOfWidth}
 use Rattle.region.specs.Pick.{pick}
 use Rattle.region.specs.Shape.{between}
 use Rattle.region.specs.Shared.{setPermissionIn}
@@ -21,7 +21,7 @@ permitRefusalIn f t p =
     otherwise done
 
 unfoldable pub permitRefusal : List ℕ → ℕ → ℕ → ℕ
-unfolding permitRefusalIn frameOf
+unfolding permitRefusalIn frameOfWidth
 permitRefusal b t p = unreadable unless readable b otherwise permitRefusalIn (frameIn b) t p
 
 -- what the call leaves: the thread's permission is all that changes, and a refused call leaves the region alone

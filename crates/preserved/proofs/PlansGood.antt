@@ -10,7 +10,7 @@ use lib.Pow.{pow-mono}
 use Rattle.region.specs.Answer.{unreadable, counterSpent}
 use Rattle.region.specs.Level.{ancestor, level}
 use Rattle.region.specs.Pick.{pick}
-use Rattle.region.specs.Record.{greatestTag}
+use Rattle.region.specs.Record.{counterSize, greatestTag}
 use Rattle.region.specs.Shape.{between, nodeCount}
 use Rattle.region.specs.Inner.{InRange}
 use Rattle.region.specs.Shared.{Shared}
@@ -33,7 +33,7 @@ use Rattle.access.specs.Read.{isDirty, isLevel, isNode, isSpent, readNode, same
 use Rattle.access.specs.declared.effect.Effect.{Effect}
 use Rattle.access.specs.declared.effect.Effect.the-variants.{Nothing, Grow, Push, Pop, Exchange, Clean, Detach, Free}
 use Rattle.access.specs.declared.plan.Plan.{Plan}
-use Rattle.access.proofs.ReadLaws.{next-counter, updated-counter, updated-dirty, updated-first}
+use Rattle.access.proofs.ReadLaws.{carry-fits, updated-dirty, updated-first, updated-high, updated-low}
 use Rattle.insert.specs.Insert.{searching, readDepth, searchOn, leafAfterFailedTry, leafToRead, nextTries, failedPlace, afterFailedTry, afterLeafRead, readLeaf, afterAncestorRead, middleLevel, hasMiddle, readAncestor, growDepth, targetPlace, readTarget, insertAt, insertAtRoot, readParent, insertBelow}
 use Rattle.insert.proofs.Laws.{LeafOf, left-leaf, read-leaf}
 use Rattle.extract.specs.Extract.{afterRootRead, readRoot, listReadRoot, afterRemoval, afterListRemoval, casRoot, removeHead, removeList, handedOut, handOut}
@@ -57,19 +57,20 @@ NodeIn s n = (1 ≤ n) × (n ≤ nodeCount s)
 abbrev pub CellIn : Shape → ℕ → Type 0
 CellIn s c = (1 ≤ c) × (c ≤ s .cells)
 
-abbrev pub EffectGood : Shape → Effect → Type 0
-EffectGood s Nothing = Unit
-EffectGood s (Grow d) = (1 ≤ d) × (d ≤ s .depth)
-EffectGood s (Push n v c x) = NodeIn s n × CellIn s c × NodeGood (s .cells) v × (x ≤ s .cells)
-EffectGood s (Pop v c) = CellIn s c × NodeGood (s .cells) v
-EffectGood s (Exchange n v k w) = NodeIn s n × NodeIn s k × NodeGood (s .cells) v × NodeGood (s .cells) w
-EffectGood s (Clean n v) = NodeIn s n × NodeGood (s .cells) v
-EffectGood s (Detach v) = NodeGood (s .cells) v
-EffectGood s (Free c) = CellIn s c
+abbrev pub EffectGood : ℕ → Shape → Effect → Type 0
+EffectGood width s Nothing = Unit
+EffectGood width s (Grow d) = (1 ≤ d) × (d ≤ s .depth)
+EffectGood width s (Push n v c x) = NodeIn s n × CellIn s c × NodeGood width (s .cells) v × (x ≤ s .cells)
+EffectGood width s (Pop v c) = CellIn s c × NodeGood width (s .cells) v
+EffectGood width s (Exchange n v k w) = NodeIn s n × NodeIn s k × NodeGood width (s .cells) v × NodeGood width (s .cells) w
+EffectGood width s (Clean n v) = NodeIn s n × NodeGood width (s .cells) v
+EffectGood width s (Detach v) = NodeGood width (s .cells) v
+EffectGood width s (Free c) = CellIn s c
 
-pub record PlanGood (s : Shape) (p : Plan) : Type 0 where
-  pub effect : EffectGood s (p .effect)
-  pub thread : ThreadGood s (p .thread)
+-- a plan from records whose counters have so many words: it may count one up to a second word
+pub record PlanGood (width : ℕ) (s : Shape) (p : Plan) : Type 0 where
+  pub effect : EffectGood counterSize s (p .effect)
+  pub thread : ThreadGood width s (p .thread)
 
 -- what a place requires depends on tries and node alone
 place-same : (s : Shape) (t u : Thread) (p : Place) → t .search .tries ≡ u .search .tries → t .node ≡ u .node → PlaceGood s t p
@@ -96,105 +97,109 @@ place-same s t u RemoveList et en h = tt
 place-same s t u HandOut et en h = tt
 
 -- Setters keep the fields in range: each field is as it was, or what the setter was given.
-module _ (s : Shape) (t : Thread) (g : FieldsGood s t) where
-  pub fields-at : (p : Place) → FieldsGood s (atPlace t p)
+module _ {width : ℕ} (s : Shape) (t : Thread) (g : FieldsGood width s t) where
+  pub fields-at : (p : Place) → FieldsGood width s (atPlace t p)
   unfolding atPlace
   fields-at p = search
 
-  pub fields-depth : (d : ℕ) → d ≤ s .depth → FieldsGood s (withDepth t d)
+  pub fields-depth : (d : ℕ) → d ≤ s .depth → FieldsGood width s (withDepth t d)
   unfolding withDepth
   fields-depth d h = search
 
   pub fields-search : (x : Search) → x .leaf ≤ nodeCount s → x .tries ≤ s .threshold → x .lo ≤ s .depth → x .hi ≤ s .depth
-      → FieldsGood s (withSearch t x)
+      → FieldsGood width s (withSearch t x)
   unfolding withSearch
   fields-search x hl ht hlo hhi = search
 
-  pub fields-node : (n : ℕ) → n ≤ nodeCount s → FieldsGood s (withNode t n)
+  pub fields-node : (n : ℕ) → n ≤ nodeCount s → FieldsGood width s (withNode t n)
   unfolding withNode
   fields-node n h = search
 
-  pub fields-after : (a : ℕ) → a ≤ 3 → FieldsGood s (withAfter t a)
+  pub fields-after : (a : ℕ) → a ≤ 3 → FieldsGood width s (withAfter t a)
   unfolding withAfter
   fields-after a h = search
 
-  pub fields-result : (i : Item) → i .key < 2 ^ 32 → i .tag ≤ greatestTag → FieldsGood s (withResult t i)
+  pub fields-result : (i : Item) → i .key < 2 ^ 32 → i .tag ≤ greatestTag → FieldsGood width s (withResult t i)
   unfolding withResult
   fields-result i hk ht = search
 
-  pub fields-item : (i : Item) → i .key < 2 ^ 32 → i .tag ≤ greatestTag → FieldsGood s (withItem t i)
+  pub fields-item : (i : Item) → i .key < 2 ^ 32 → i .tag ≤ greatestTag → FieldsGood width s (withItem t i)
   unfolding withItem
   fields-item i hk ht = search
 
-  pub fields-own : (c : ℕ) → c ≤ s .cells → FieldsGood s (withOwn t c)
+  pub fields-own : (c : ℕ) → c ≤ s .cells → FieldsGood width s (withOwn t c)
   unfolding withOwn
   fields-own c h = search
 
-  pub fields-first : (q : NodeCopy) → CopyGood (s .cells) q → FieldsGood s (withFirst t q)
+  pub fields-first : (q : NodeCopy) → CopyGood width (s .cells) q → FieldsGood width s (withFirst t q)
   unfolding withFirst
   fields-first q h = search
 
-  pub fields-second : (q : NodeCopy) → CopyGood (s .cells) q → FieldsGood s (withSecond t q)
+  pub fields-second : (q : NodeCopy) → CopyGood width (s .cells) q → FieldsGood width s (withSecond t q)
   unfolding withSecond
   fields-second q h = search
 
-  pub fields-third : (q : NodeCopy) → CopyGood (s .cells) q → FieldsGood s (withThird t q)
+  pub fields-third : (q : NodeCopy) → CopyGood width (s .cells) q → FieldsGood width s (withThird t q)
   unfolding withThird
   fields-third q h = search
 
   -- on to a place, to mending, idle
-  pub at-good : (p : Place) → PlaceGood s t p → ThreadGood s (atPlace t p)
+  pub at-good : (p : Place) → PlaceGood s t p → ThreadGood width s (atPlace t p)
   unfolding atPlace
   at-good p h = record { fields = fields-at p; place = place-same s t (atPlace t p) p refl refl h }
 
-  pub onTo-good : (p : Place) → PlaceGood s t p → PlanGood s (onTo t p)
+  pub onTo-good : (p : Place) → PlaceGood s t p → PlanGood width s (onTo t p)
   unfolding onTo
   onTo-good p h = record { effect = tt; thread = at-good p h }
 
-  pub gone-good : ThreadGood s (goneIdle t)
+  pub gone-good : ThreadGood width s (goneIdle t)
   unfolding goneIdle
   gone-good = idle-good s (t .permission) (g .permission)
 
-pub mending-good : (s : Shape) (t : Thread) → FieldsGood s t → (n w : ℕ) → n ≤ nodeCount s → WaitsAbove n w → ThreadGood s (mending t n w)
+pub mending-good : {width : ℕ} (s : Shape) (t : Thread) → FieldsGood width s t → (n w : ℕ) → n ≤ nodeCount s → WaitsAbove n w → ThreadGood width s (mending t n w)
 unfolding mending withNode
 mending-good s t g n w hn hw = at-good s (withNode t n) (fields-node s t g n hn) (MendReadNode w) hw
 
-pub refused-good : (s : Shape) (t : Thread) → ThreadGood s t → (n : ℕ) → PlanGood s (refused t n)
+pub refused-good : {width : ℕ} (s : Shape) (t : Thread) → ThreadGood width s t → (n : ℕ) → PlanGood width s (refused t n)
 unfolding refused
 refused-good s t g n = record { effect = tt; thread = g }
 
-pub plan-good : (s : Shape) (e : Effect) (t : Thread) (a : Answer) → EffectGood s e → ThreadGood s t → PlanGood s (plan e t a)
+pub plan-good : {width : ℕ} (s : Shape) (e : Effect) (t : Thread) (a : Answer) → EffectGood counterSize s e → ThreadGood width s t → PlanGood width s (plan e t a)
 unfolding plan
 plan-good s e t a he ht = record { effect = he; thread = ht }
 
-pub moved-good : (s : Shape) (t : Thread) → ThreadGood s t → PlanGood s (moved t)
+pub moved-good : {width : ℕ} (s : Shape) (t : Thread) → ThreadGood width s t → PlanGood width s (moved t)
 unfolding moved
 moved-good s t h = record { effect = tt; thread = h }
 
 -- The places.
-module _ (s : Shape) (r : InRange s) (m : Shared) (sm : SharedGood s m) where
-  pub read-good : (n : ℕ) → CopyGood (s .cells) (readNode m n)
+module _ {width : ℕ} (s : Shape) (r : InRange s) (m : Shared) (sm : SharedGood width s m) where
+  pub read-good : (n : ℕ) → CopyGood width (s .cells) (readNode m n)
   unfolding readNode
   read-good n = record { node = sm .node n; head = sm .cell (m .node n .first) }
 
   pub some-nodes : 1 ≤ nodeCount s
   some-nodes = omega (arith, pow-mono {i = 1} {j = s .depth} (r .depth-least))
 
-  pub updated-good : (n : Node) (first dirty : ℕ) → NodeGood (s .cells) n → isSpent n ≡ false → first ≤ s .cells → dirty ≤ 1
-      → NodeGood (s .cells) (updated n first dirty)
+  pub updated-good : (n : Node) (first dirty : ℕ) → NodeGood width (s .cells) n → isSpent n ≡ false → first ≤ s .cells → dirty ≤ 1
+      → NodeGood counterSize (s .cells) (updated n first dirty)
   updated-good n first dirty g e hf hd =
+      let low : n .low < 2 ^ 32 = omega (arith, g .low) in
+      let high : updated n first dirty .high ≤ 4294967295 = omega (arith, updated-high n first dirty, carry-fits n e low (omega (arith, g .high))) in
       record {
         first = omega (arith, updated-first n first dirty, hf);
         dirty = omega (arith, updated-dirty n first dirty, hd);
-        counter = omega (arith, updated-counter n first dirty, next-counter n e (g .counter));
+        low = omega (arith, updated-low n first dirty);
+        high = high;
+        narrow = high;
       }
 
-  module _ (t : Thread) (gt : ThreadGood s t) where
-    g : FieldsGood s t
+  module _ (t : Thread) (gt : ThreadGood width s t) where
+    g : FieldsGood width s t
     g = gt .fields
 
     -- I1
-    pub readDepth-good : PlanGood s (readDepth m t)
+    pub readDepth-good : PlanGood width s (readDepth m t)
     unfolding readDepth withSearch
     readDepth-good =
         let d = fields-depth s t g (m .depth) (sm .depth-most) in
@@ -209,8 +214,8 @@ module _ (s : Shape) (r : InRange s) (m : Shared) (sm : SharedGood s m) where
     unfolding ancestor
     ancestor-few n j h = omega (arith, h, div-le-self n (2 ^ (level n - j)))
 
-    searched-good : (leaf lo hi : ℕ) → leaf ≤ nodeCount s → lo ≤ s .depth → hi ≤ s .depth → (q : NodeCopy) → CopyGood (s .cells) q
-        → ThreadGood s (withFirst (withSearch t (searching leaf (t .search .tries) lo hi)) q)
+    searched-good : (leaf lo hi : ℕ) → leaf ≤ nodeCount s → lo ≤ s .depth → hi ≤ s .depth → (q : NodeCopy) → CopyGood width (s .cells) q
+        → ThreadGood width s (withFirst (withSearch t (searching leaf (t .search .tries) lo hi)) q)
     unfolding withFirst withSearch
     searched-good leaf lo hi hl hlo hhi q hq =
         let x = searching leaf (t .search .tries) lo hi in
@@ -220,17 +225,17 @@ module _ (s : Shape) (r : InRange s) (m : Shared) (sm : SharedGood s m) where
           place = place-same s t u (t .place) refl refl (gt .place);
         }
 
-    pub searchOn-good : (u : Thread) → ThreadGood s u → PlanGood s (searchOn u)
+    pub searchOn-good : (u : Thread) → ThreadGood width s u → PlanGood width s (searchOn u)
     unfolding searchOn
     searchOn-good u gu =
         let f = gu .fields in
-        pick-good (PlanGood s) (ltb (u .search .lo) (u .search .hi)) (λ h. onTo-good s u f ReadAncestor tt)
-        (λ h. pick-good (PlanGood s) (between 1 (u .search .hi) (level (u .search .leaf)))
+        pick-good (PlanGood width s) (ltb (u .search .lo) (u .search .hi)) (λ h. onTo-good s u f ReadAncestor tt)
+        (λ h. pick-good (PlanGood width s) (between 1 (u .search .hi) (level (u .search .leaf)))
         (λ k. onTo-good s _ (fields-node s u f _ (ancestor-few (u .search .leaf) (u .search .hi) (f .leaf))) ReadTarget tt)
         (λ k. refused-good s u gu unreadable))
 
     -- I2
-    module _ (at-level : isLevel s (t .depth) ≡ true) (leaf : ℕ) (h : LeafOf (t .depth) leaf) (q : NodeCopy) (hq : CopyGood (s .cells) q) where
+    module _ (at-level : isLevel s (t .depth) ≡ true) (leaf : ℕ) (h : LeafOf (t .depth) leaf) (q : NodeCopy) (hq : CopyGood width (s .cells) q) where
       some-depth : 1 ≤ t .depth
       unfolding isLevel
       some-depth = between-least 1 (t .depth) (s .depth) at-level
@@ -238,7 +243,7 @@ module _ (s : Shape) (r : InRange s) (m : Shared) (sm : SharedGood s m) where
       leaf-few : (leaf : ℕ) → LeafOf (t .depth) leaf → leaf ≤ nodeCount s
       leaf-few leaf h = omega (arith, h .most, pow-mono {i = t .depth} {j = s .depth} (g .depth))
 
-      afterFailedTry-good : PlanGood s (afterFailedTry s t leaf q)
+      afterFailedTry-good : PlanGood width s (afterFailedTry s t leaf q)
       unfolding afterFailedTry failedPlace nextTries withFirst withSearch
       afterFailedTry-good =
           let next = leafAfterFailedTry s t leaf in
@@ -251,18 +256,18 @@ module _ (s : Shape) (r : InRange s) (m : Shared) (sm : SharedGood s m) where
           (pick-good (PlaceGood s u) (ltb (nextTries s t) (s .threshold)) (λ h. ltb-true (nextTries s t) (s .threshold) h)
           (λ h. pick-good (PlaceGood s u) (ltb (t .depth) (s .depth)) (λ k. tt) (λ k. tt)))
 
-      afterLeafRead-good : PlanGood s (afterLeafRead s t leaf q)
+      afterLeafRead-good : PlanGood width s (afterLeafRead s t leaf q)
       unfolding afterLeafRead
       afterLeafRead-good =
-          pick-good (PlanGood s) (itemLe (t .item) (valueOf q))
+          pick-good (PlanGood width s) (itemLe (t .item) (valueOf q))
           (λ e. searchOn-good _ (searched-good leaf 1 (t .depth) (leaf-few leaf h) (r .depth-least) (g .depth) q hq))
           (λ e. afterFailedTry-good)
 
-    pub readLeaf-good : (c : ℕ) → PlanGood s (readLeaf s m t c)
+    pub readLeaf-good : (c : ℕ) → PlanGood width s (readLeaf s m t c)
     unfolding readLeaf isLevel
     readLeaf-good c =
         let leaf = leafToRead s t c in
-        pick-good (PlanGood s) (isLevel s (t .depth))
+        pick-good (PlanGood width s) (isLevel s (t .depth))
         (λ h. afterLeafRead-good h leaf (read-leaf s t (between-least 1 (t .depth) (s .depth) h) c) _ (read-good leaf))
         (λ h. refused-good s t gt unreadable)
 
@@ -273,27 +278,27 @@ module _ (s : Shape) (r : InRange s) (m : Shared) (sm : SharedGood s m) where
         let below = ltb-true (t .search .lo) (t .search .hi) (and-left (ltb (t .search .lo) (t .search .hi)) _ h) in
         omega (arith, below, g .hi)
 
-    pub afterAncestorRead-good : (j : ℕ) → j + 1 ≤ s .depth → (q : NodeCopy) → CopyGood (s .cells) q → PlanGood s (afterAncestorRead t j q)
+    pub afterAncestorRead-good : (j : ℕ) → j + 1 ≤ s .depth → (q : NodeCopy) → CopyGood width (s .cells) q → PlanGood width s (afterAncestorRead t j q)
     unfolding afterAncestorRead
     afterAncestorRead-good j hj q hq =
         searchOn-good _
-        (pick-good (λ z. ThreadGood s (withFirst (withSearch t z) q)) (itemLe (t .item) (valueOf q))
+        (pick-good (λ z. ThreadGood width s (withFirst (withSearch t z) q)) (itemLe (t .item) (valueOf q))
         (λ h. searched-good (t .search .leaf) (t .search .lo) j (g .leaf) (g .lo) (omega arith) q hq)
         (λ h. searched-good (t .search .leaf) (j + 1) (t .search .hi) (g .leaf) hj (g .hi) q hq))
 
-    pub readAncestor-good : PlanGood s (readAncestor m t)
+    pub readAncestor-good : PlanGood width s (readAncestor m t)
     unfolding readAncestor
     readAncestor-good =
-        pick-good (PlanGood s) (hasMiddle t) (λ h. afterAncestorRead-good (middleLevel t) (middle-few h) _ (read-good _))
+        pick-good (PlanGood width s) (hasMiddle t) (λ h. afterAncestorRead-good (middleLevel t) (middle-few h) _ (read-good _))
         (λ h. refused-good s t gt unreadable)
 
     -- I4
-    pub growDepth-good : PlanGood s (growDepth s m t)
+    pub growDepth-good : PlanGood width s (growDepth s m t)
     unfolding growDepth isLevel
     growDepth-good =
-        pick-good (PlanGood s) (isLevel s (t .depth) && isLevel s (t .depth + 1))
+        pick-good (PlanGood width s) (isLevel s (t .depth) && isLevel s (t .depth + 1))
         (λ h. let k = and-right (isLevel s (t .depth)) (isLevel s (t .depth + 1)) h in
-        pick-good (PlanGood s) (eqb (m .depth) (t .depth))
+        pick-good (PlanGood width s) (eqb (m .depth) (t .depth))
         (λ e. plan-good s (Grow (t .depth + 1)) _ Moved
         (between-least 1 (t .depth + 1) (s .depth) k, between-most 1 (t .depth + 1) (s .depth) k)
         (at-good s t g ReadDepth tt))
@@ -301,31 +306,31 @@ module _ (s : Shape) (r : InRange s) (m : Shared) (sm : SharedGood s m) where
         (λ h. refused-good s t gt unreadable)
 
     -- I5 and I7
-    pub readTarget-good : PlanGood s (readTarget m t)
+    pub readTarget-good : PlanGood width s (readTarget m t)
     unfolding readTarget targetPlace
     readTarget-good =
         let q = readNode m (t .node) in
-        pick-good (PlanGood s) (eqb (t .node) 0) (λ h. refused-good s t gt unreadable)
+        pick-good (PlanGood width s) (eqb (t .node) 0) (λ h. refused-good s t gt unreadable)
         (λ h. onTo-good s (withFirst t q) (fields-first s t g q (read-good (t .node))) (targetPlace t q)
         (pick-good (PlaceGood s (withFirst t q)) (itemLt (valueOf q) (t .item)) (λ k. tt)
         (λ k. pick-good (PlaceGood s (withFirst t q)) (eqb (t .node) 1) (λ e. tt) (λ e. tt))))
 
-    pub readParent-good : PlanGood s (readParent m t)
+    pub readParent-good : PlanGood width s (readParent m t)
     unfolding readParent
     readParent-good =
         let q = readNode m (t .node / 2) in
         let p = pick (itemLt (t .item) (valueOf q)) ReadDepth InsertBelow in
-        pick-good (PlanGood s) (ltb (t .node) 2) (λ h. refused-good s t gt unreadable)
+        pick-good (PlanGood width s) (ltb (t .node) 2) (λ h. refused-good s t gt unreadable)
         (λ h. onTo-good s (withSecond t q) (fields-second s t g q (read-good (t .node / 2))) p
         (pick-good (PlaceGood s (withSecond t q)) (itemLt (t .item) (valueOf q)) (λ k. tt) (λ k. tt)))
 
     -- I6 and I8
-    pub insertAt-good : (n : ℕ) → NodeIn s n → CellIn s (t .own) → (holds : Bool) → PlanGood s (insertAt t n holds)
+    pub insertAt-good : (n : ℕ) → NodeIn s n → CellIn s (t .own) → (holds : Bool) → PlanGood width s (insertAt t n holds)
     unfolding insertAt
     insertAt-good n hn hc holds =
         let q = t .copies .first .node in
-        pick-good (PlanGood s) holds
-        (λ h. pick-good (PlanGood s) (isSpent q) (λ k. refused-good s t gt counterSpent)
+        pick-good (PlanGood width s) holds
+        (λ h. pick-good (PlanGood width s) (isSpent q) (λ k. refused-good s t gt counterSpent)
         (λ k. plan-good s (Push n (updated q (t .own) (q .dirty)) (t .own) (q .first)) (goneIdle t) _
         (hn, hc, updated-good q (t .own) (q .dirty) (g .first .node) k (g .own) (g .first .node .dirty), g .first .node .first)
         (gone-good s t g)))
@@ -334,55 +339,55 @@ module _ (s : Shape) (r : InRange s) (m : Shared) (sm : SharedGood s m) where
     own-cell : (t .own ≡ 0 → ⊥) → CellIn s (t .own)
     own-cell n = (omega arith, g .own)
 
-    pub insertAtRoot-good : PlanGood s (insertAtRoot m t)
+    pub insertAtRoot-good : PlanGood width s (insertAtRoot m t)
     unfolding insertAtRoot
     insertAtRoot-good =
-        pick-good (PlanGood s) (eqb (t .own) 0) (λ h. refused-good s t gt unreadable)
+        pick-good (PlanGood width s) (eqb (t .own) 0) (λ h. refused-good s t gt unreadable)
         (λ h. insertAt-good 1 (omega arith, some-nodes) (own-cell (eqb-false (t .own) 0 h)) _)
 
-    pub insertBelow-good : PlanGood s (insertBelow m t)
+    pub insertBelow-good : PlanGood width s (insertBelow m t)
     unfolding insertBelow
     insertBelow-good =
-        pick-good (PlanGood s) (ltb (t .node) 2 || eqb (t .own) 0) (λ h. refused-good s t gt unreadable)
+        pick-good (PlanGood width s) (ltb (t .node) 2 || eqb (t .own) 0) (λ h. refused-good s t gt unreadable)
         (λ h. insertAt-good (t .node)
         (omega (arith, ltb-false (t .node) 2 (or-left (ltb (t .node) 2) (eqb (t .own) 0) h)), g .node)
         (own-cell (eqb-false (t .own) 0 (or-right (ltb (t .node) 2) (eqb (t .own) 0) h)))
         _)
 
     -- E1 and 17
-    pub afterRootRead-good : (q : NodeCopy) → CopyGood (s .cells) q → (after : ℕ) → after ≤ 3 → (next : Place)
-        → PlaceGood s (withFirst t q) next → PlanGood s (afterRootRead t q after next)
+    pub afterRootRead-good : (q : NodeCopy) → CopyGood width (s .cells) q → (after : ℕ) → after ≤ 3 → (next : Place)
+        → PlaceGood s (withFirst t q) next → PlanGood width s (afterRootRead t q after next)
     unfolding afterRootRead
     afterRootRead-good q hq after ha next hn =
         let f = fields-first s t g q hq in
-        pick-good (PlanGood s) (isDirty (q .node))
+        pick-good (PlanGood width s) (isDirty (q .node))
         (λ h. moved-good s _ (mending-good s _ (fields-after s (withFirst t q) f after ha) 1 0 some-nodes (omega arith)))
-        (λ h. pick-good (PlanGood s) (eqb (q .node .first) 0)
+        (λ h. pick-good (PlanGood width s) (eqb (q .node .first) 0)
         (λ k. plan-good s Nothing (goneIdle t) _ tt (gone-good s t g))
         (λ k. onTo-good s (withFirst t q) f next hn))
 
-    pub readRoot-good : PlanGood s (readRoot m t)
+    pub readRoot-good : PlanGood width s (readRoot m t)
     unfolding readRoot
     readRoot-good = afterRootRead-good (readNode m 1) (read-good 1) 0 (omega arith) RemoveHead tt
 
-    pub listReadRoot-good : PlanGood s (listReadRoot m t)
+    pub listReadRoot-good : PlanGood width s (listReadRoot m t)
     unfolding listReadRoot
     listReadRoot-good = afterRootRead-good (readNode m 1) (read-good 1) 2 (omega arith) RemoveList tt
 
     -- E2 and 18
     pub casRoot-good : (back : Place) → PlaceGood s t back → (removed : Plan)
-        → ((t .copies .first .node .first ≡ 0 → ⊥) → isSpent (t .copies .first .node) ≡ false → PlanGood s removed)
-        → PlanGood s (casRoot m t back removed)
+        → ((t .copies .first .node .first ≡ 0 → ⊥) → isSpent (t .copies .first .node) ≡ false → PlanGood width s removed)
+        → PlanGood width s (casRoot m t back removed)
     unfolding casRoot
     casRoot-good back hb removed hr =
         let q = t .copies .first in
-        pick-good (PlanGood s) (sameNode (m .node 1) (q .node))
-        (λ k. pick-good (PlanGood s) (eqb (q .node .first) 0) (λ h. refused-good s t gt unreadable)
-        (λ h. pick-good (PlanGood s) (isSpent (q .node)) (λ e. refused-good s t gt counterSpent)
+        pick-good (PlanGood width s) (sameNode (m .node 1) (q .node))
+        (λ k. pick-good (PlanGood width s) (eqb (q .node .first) 0) (λ h. refused-good s t gt unreadable)
+        (λ h. pick-good (PlanGood width s) (isSpent (q .node)) (λ e. refused-good s t gt counterSpent)
         (λ e. hr (eqb-false (q .node .first) 0 h) e)))
         (λ k. onTo-good s t g back hb)
 
-    pub removeHead-good : PlanGood s (removeHead m t)
+    pub removeHead-good : PlanGood width s (removeHead m t)
     unfolding removeHead afterRemoval
     removeHead-good =
         let q = t .copies .first in
@@ -392,7 +397,7 @@ module _ (s : Shape) (r : InRange s) (m : Shared) (sm : SharedGood s m) where
         ((omega arith, g .first .node .first), updated-good (q .node) (q .head .next) 1 (g .first .node) e (g .first .head .next) (omega arith))
         (mending-good s _ (fields-after s _ f 1 (omega arith)) 1 0 some-nodes (omega arith))
 
-    pub removeList-good : PlanGood s (removeList m t)
+    pub removeList-good : PlanGood width s (removeList m t)
     unfolding removeList afterListRemoval
     removeList-good =
         let q = t .copies .first in
@@ -403,21 +408,21 @@ module _ (s : Shape) (r : InRange s) (m : Shared) (sm : SharedGood s m) where
         (mending-good s _ (fields-after s _ f 3 (omega arith)) 1 0 some-nodes (omega arith))
 
     -- 19
-    pub handOut-good : PlanGood s (handOut m t)
+    pub handOut-good : PlanGood width s (handOut m t)
     unfolding handOut handedOut
     handOut-good =
         let c = m .cell (t .own) in
         let f = fields-own s t g (c .next) (sm .cell (t .own) .next) in
-        pick-good (PlanGood s) (eqb (t .own) 0) (λ h. refused-good s t gt unreadable)
+        pick-good (PlanGood width s) (eqb (t .own) 0) (λ h. refused-good s t gt unreadable)
         (λ h. plan-good s (Free (t .own)) _ _ (own-cell (eqb-false (t .own) 0 h))
-        (pick-good (ThreadGood s) (eqb (c .next) 0) (λ k. gone-good s t g) (λ k. at-good s (withOwn t (c .next)) f HandOut tt)))
+        (pick-good (ThreadGood width s) (eqb (c .next) 0) (λ k. gone-good s t g) (λ k. at-good s (withOwn t (c .next)) f HandOut tt)))
 
     -- the withdrawal at a put's and a take's places
-    pub withdrawal-good : PlanGood s (withdrawal t)
+    pub withdrawal-good : PlanGood width s (withdrawal t)
     unfolding withdrawal
     withdrawal-good =
-        pick-good (PlanGood s) (isPutPlace (t .place))
-        (λ p. pick-good (PlanGood s) (eqb (t .own) 0) (λ h. refused-good s t gt unreadable)
+        pick-good (PlanGood width s) (isPutPlace (t .place))
+        (λ p. pick-good (PlanGood width s) (eqb (t .own) 0) (λ h. refused-good s t gt unreadable)
         (λ h. plan-good s (Free (t .own)) _ Withdrawn (own-cell (eqb-false (t .own) 0 h)) (gone-good s t g)))
         (λ p. plan-good s Nothing _ Withdrawn tt (gone-good s t g))
 
@@ -430,88 +435,88 @@ module _ (s : Shape) (r : InRange s) (m : Shared) (sm : SharedGood s m) where
       unfolding placeAfter
       after-good u a = pick-good (PlaceGood s u) (eqb a 2) (λ h. tt) (λ h. pick-good (PlaceGood s u) (eqb a 3) (λ k. tt) (λ k. tt))
 
-      pub returned-good : (u : Thread) → FieldsGood s u → u .node ≡ t .node → ThreadGood s (returned u w)
+      pub returned-good : (u : Thread) → FieldsGood width s u → u .node ≡ t .node → ThreadGood width s (returned u w)
       unfolding returned
       returned-good u gu en =
-          pick-good (ThreadGood s) (eqb w 0)
-          (λ h. pick-good (ThreadGood s) (eqb (u .after) 1) (λ k. gone-good s u gu)
+          pick-good (ThreadGood width s) (eqb w 0)
+          (λ h. pick-good (ThreadGood width s) (eqb (u .after) 1) (λ k. gone-good s u gu)
           (λ k. at-good s u gu (placeAfter (u .after)) (after-good u (u .after))))
           (λ h. mending-good s u gu _ _ (ancestor-few (u .node) (level w) (gu .node))
           (waits-returned (u .node) w (omega (arith, gu .node, few-nodes)) (eqb-false w 0 h) (subst (λ n. WaitsAbove n w) (sym en) hw)))
 
-      pub returning-good : (e : Effect) → EffectGood s e → (u : Thread) → FieldsGood s u → u .node ≡ t .node
-          → PlanGood s (returning e u w)
+      pub returning-good : (e : Effect) → EffectGood counterSize s e → (u : Thread) → FieldsGood width s u → u .node ≡ t .node
+          → PlanGood width s (returning e u w)
       unfolding returning
       returning-good e he u gu en = plan-good s e (returned u w) (returnAnswer u w) he (returned-good u gu en)
 
       -- M1
-      pub mendReadNode-good : PlanGood s (mendReadNode m t w)
+      pub mendReadNode-good : PlanGood width s (mendReadNode m t w)
       unfolding mendReadNode withFirst
       mendReadNode-good =
           let q = readNode m (t .node) in
-          pick-good (PlanGood s) (eqb (t .node) 0) (λ h. refused-good s t gt unreadable)
+          pick-good (PlanGood width s) (eqb (t .node) 0) (λ h. refused-good s t gt unreadable)
           (λ h. onTo-good s (withFirst t q) (fields-first s t g q (read-good (t .node))) (MendReadDepth w) hw)
 
       -- M2
-      pub mendReadDepth-good : PlanGood s (mendReadDepth m t w)
+      pub mendReadDepth-good : PlanGood width s (mendReadDepth m t w)
       unfolding mendReadDepth afterDepthRead withDepth
       mendReadDepth-good =
           let u = withDepth t (m .depth) in
           let f = fields-depth s t g (m .depth) (sm .depth-most) in
-          pick-good (PlanGood s) (isDirty (t .copies .first .node))
-          (λ k. pick-good (PlanGood s) (eqb (t .node) 0) (λ h. refused-good s t gt unreadable)
-          (λ h. pick-good (PlanGood s) (eqb (level (t .node)) (m .depth)) (λ e. onTo-good s u f (MendClean w) hw)
+          pick-good (PlanGood width s) (isDirty (t .copies .first .node))
+          (λ k. pick-good (PlanGood width s) (eqb (t .node) 0) (λ h. refused-good s t gt unreadable)
+          (λ h. pick-good (PlanGood width s) (eqb (level (t .node)) (m .depth)) (λ e. onTo-good s u f (MendClean w) hw)
           (λ e. onTo-good s u f (MendReadLeft w) hw)))
           (λ k. returning-good Nothing tt u f refl)
 
       -- M3
-      pub mendReadLeft-good : PlanGood s (mendReadLeft s m t w)
+      pub mendReadLeft-good : PlanGood width s (mendReadLeft s m t w)
       unfolding mendReadLeft withSecond
       mendReadLeft-good =
           let q = readNode m (2 * t .node) in
-          pick-good (PlanGood s) (isNode s (2 * t .node))
+          pick-good (PlanGood width s) (isNode s (2 * t .node))
           (λ h. onTo-good s (withSecond t q) (fields-second s t g q (read-good (2 * t .node))) (MendReadRight w) hw)
           (λ h. refused-good s t gt unreadable)
 
       -- M4
-      pub afterChildrenRead-good : (u : Thread) → FieldsGood s u → u .node ≡ t .node → 1 ≤ t .node → 2 * t .node + 1 ≤ nodeCount s
-          → PlanGood s (afterChildrenRead u w)
+      pub afterChildrenRead-good : (u : Thread) → FieldsGood width s u → u .node ≡ t .node → 1 ≤ t .node → 2 * t .node + 1 ≤ nodeCount s
+          → PlanGood width s (afterChildrenRead u w)
       unfolding afterChildrenRead
       afterChildrenRead-good u gu en p l =
           let n = u .node in
           let hu : WaitsAbove n w = subst (λ k. WaitsAbove k w) (sym en) hw in
           let pn : 1 ≤ n = omega arith in
-          pick-good (PlanGood s) (isDirty (u .copies .second .node))
+          pick-good (PlanGood width s) (isDirty (u .copies .second .node))
           (λ h. moved-good s _ (mending-good s u gu (2 * n) (marked w (level n)) (omega arith)
           (waits-marked n (2 * n) w pn (omega arith) (omega arith) (omega (arith, few-nodes)) hu)))
-          (λ h. pick-good (PlanGood s) (isDirty (u .copies .third .node))
+          (λ h. pick-good (PlanGood width s) (isDirty (u .copies .third .node))
           (λ k. moved-good s _ (mending-good s u gu (2 * n + 1) (marked w (level n)) (omega arith)
           (waits-marked n (2 * n + 1) w pn (omega arith) (omega arith) (omega (arith, few-nodes)) hu)))
-          (λ k. pick-good (PlanGood s) (childLess u) (λ e. onTo-good s u gu (MendSwap w) hu) (λ e. onTo-good s u gu (MendClean w) hu)))
+          (λ k. pick-good (PlanGood width s) (childLess u) (λ e. onTo-good s u gu (MendSwap w) hu) (λ e. onTo-good s u gu (MendClean w) hu)))
 
-      pub mendReadRight-good : PlanGood s (mendReadRight s m t w)
+      pub mendReadRight-good : PlanGood width s (mendReadRight s m t w)
       unfolding mendReadRight isNode withThird
       mendReadRight-good =
           let c = 2 * t .node + 1 in
           let q = readNode m c in
-          pick-good (PlanGood s) (not (eqb (t .node) 0) && isNode s c)
+          pick-good (PlanGood width s) (not (eqb (t .node) 0) && isNode s c)
           (λ h. let ne = eqb-false (t .node) 0 (not-true (eqb (t .node) 0) (and-left (not (eqb (t .node) 0)) (isNode s c) h)) in
           afterChildrenRead-good (withThird t q) (fields-third s t g q (read-good c)) refl (omega arith)
           (between-most 1 c (nodeCount s) (and-right (not (eqb (t .node) 0)) (isNode s c) h)))
           (λ h. refused-good s t gt unreadable)
 
       -- M5
-      pub exchangeWith-good : (c : ℕ) (k : Node) → 2 * t .node ≤ c → c ≤ 2 * t .node + 1 → NodeGood (s .cells) k
-          → PlanGood s (exchangeWith s m t w c k)
+      pub exchangeWith-good : (c : ℕ) (k : Node) → 2 * t .node ≤ c → c ≤ 2 * t .node + 1 → NodeGood width (s .cells) k
+          → PlanGood width s (exchangeWith s m t w c k)
       unfolding exchangeWith exchangeAt isNode
       exchangeWith-good c k lo hi hk =
           let n = t .copies .first .node in
-          pick-good (PlanGood s) (not (eqb (t .node) 0) && isNode s c)
+          pick-good (PlanGood width s) (not (eqb (t .node) 0) && isNode s c)
           (λ h. let ne = eqb-false (t .node) 0 (not-true (eqb (t .node) 0) (and-left (not (eqb (t .node) 0)) (isNode s c) h)) in
           let cl = between-least 1 c (nodeCount s) (and-right (not (eqb (t .node) 0)) (isNode s c) h) in
           let cu = between-most 1 c (nodeCount s) (and-right (not (eqb (t .node) 0)) (isNode s c) h) in
-          pick-good (PlanGood s) (nodeAndChildSame m t c k)
-          (λ y. pick-good (PlanGood s) (isSpent n || isSpent k) (λ e. refused-good s t gt counterSpent)
+          pick-good (PlanGood width s) (nodeAndChildSame m t c k)
+          (λ y. pick-good (PlanGood width s) (isSpent n || isSpent k) (λ e. refused-good s t gt counterSpent)
           (λ e. plan-good s (Exchange (t .node) (updated n (k .first) 0) c (updated k (n .first) 1)) (mending t c w) Moved (
             (omega arith, g .node),
             (cl, cu),
@@ -524,22 +529,22 @@ module _ (s : Shape) (r : InRange s) (m : Shared) (sm : SharedGood s m) where
           (λ y. onTo-good s t g (MendReadNode w) hw))
           (λ h. refused-good s t gt unreadable)
 
-      pub mendSwap-good : PlanGood s (mendSwap s m t w)
+      pub mendSwap-good : PlanGood width s (mendSwap s m t w)
       unfolding mendSwap
       mendSwap-good =
-          pick-good (PlanGood s) (itemLe (valueOf (t .copies .second)) (valueOf (t .copies .third)))
+          pick-good (PlanGood width s) (itemLe (valueOf (t .copies .second)) (valueOf (t .copies .third)))
           (λ h. exchangeWith-good (2 * t .node) (t .copies .second .node) (omega arith) (omega arith) (g .second .node))
           (λ h. exchangeWith-good (2 * t .node + 1) (t .copies .third .node) (omega arith) (omega arith) (g .third .node))
 
       -- M6
-      pub mendClean-good : PlanGood s (mendClean m t w)
+      pub mendClean-good : PlanGood width s (mendClean m t w)
       unfolding mendClean cleanAt
       mendClean-good =
           let n = t .copies .first .node in
-          pick-good (PlanGood s) (eqb (t .node) 0) (λ h. refused-good s t gt unreadable)
+          pick-good (PlanGood width s) (eqb (t .node) 0) (λ h. refused-good s t gt unreadable)
           (λ h. let ne = eqb-false (t .node) 0 h in
-          pick-good (PlanGood s) (sameNode (m .node (t .node)) n)
-          (λ k. pick-good (PlanGood s) (isSpent n) (λ e. refused-good s t gt counterSpent)
+          pick-good (PlanGood width s) (sameNode (m .node (t .node)) n)
+          (λ k. pick-good (PlanGood width s) (isSpent n) (λ e. refused-good s t gt counterSpent)
           (λ e. returning-good (Clean (t .node) (updated n (n .first) 0))
           ((omega arith, g .node), updated-good n (n .first) 0 (g .first .node) e (g .first .node .first) (omega arith))
           t g refl))

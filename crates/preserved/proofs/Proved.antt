@@ -12,10 +12,10 @@ use lib.ListN.{length}
 use Rattle.words.specs.Word.{word, setWord}
 use Rattle.words.proofs.Laws.{word-other, word-same, length-setWord}
 use Rattle.region.specs.Answer.{done, badThread}
-use Rattle.region.specs.Frame.{threadsOf}
-use Rattle.region.specs.Inner.{Framed, InRange}
+use Rattle.region.specs.Frame.{frameOfWidth, threadsOf}
+use Rattle.region.specs.Inner.{Framed, InRange, ThreadFits}
 use Rattle.region.specs.Pick.{pick}
-use Rattle.region.specs.Record.{greatestKey, greatestTag, isItem}
+use Rattle.region.specs.Record.{counterSize, greatestKey, greatestTag, isItem}
 use Rattle.region.specs.Shape.{between}
 use Rattle.region.specs.Shared.{Shared, cellIn, entry, setCellIn, setNodeIn, setPermissionIn, threadIn, setThreadIn, sharedIn}
 use Rattle.region.specs.Thread.{atPlace, begunPut, greatestPermission, idleThread, isIdle}
@@ -40,8 +40,8 @@ use Rattle.access.specs.declared.plan.Plan.{Plan}
 use Rattle.access.proofs.EffectLaws.{effect-word, framed-node}
 use Rattle.access.proofs.OrderLaws.{item-below-top}
 use Rattle.readable.specs.Readable.{readable, frameIn}
-use Rattle.readable.proofs.Laws.{Good, good}
-use Rattle.readable.proofs.Stores.{CellGood, FieldsGood, Keeps, PlaceGood, SharedGood, ThreadGood, good-shared, good-thread, keeps-more, keeps-same, keeps-setPermission, keeps-setThread, make-good, readable-kept, shape-kept, thread-fit, threads-pass}
+use Rattle.readable.proofs.Laws.{Good, GoodOfWidth, good}
+use Rattle.readable.proofs.Stores.{CellGood, FieldsGood, Keeps, KeepsOfWidth, PlaceGood, SharedGood, ThreadGood, cell-fits, few-cells, good-shared, good-thread, keeps-more, keeps-same, keeps-setPermission, keeps-setThread, make-good, readable-kept, shape-kept, thread-fit, threads-pass}
 use Rattle.permission.specs.Grants.{mayPut, mayTake}
 use Rattle.permission.specs.Permit.{permitBytes, permitBytesIn, permitRefusalIn}
 use Rattle.permission.specs.Withdraw.{isUnreadable, lacksPermission, permitted}
@@ -50,12 +50,12 @@ use Rattle.begin.specs.Begin.{BeginsAt, one-item, whole-list, acceptedPut, acce
 use Rattle.begin.proofs.Laws.{put-bytes-in, take-bytes-in}
 use Rattle.machine.specs.Turn.{carriedOut, decide, decideAt, turnBytes, turnPlan}
 use Rattle.preserved.specs.Theorems.{EmptyIsAbove, OutsideEffect, TurnKeepsReadable, PutKeepsReadable, TakeKeepsReadable, PermitKeepsReadable, TurnKeepsShape, PutKeepsShape, TakeKeepsShape, PermitKeepsShape, TurnLeavesOthers, PutLeavesOthers, TakeLeavesOthers, PermitLeavesOthers, PermitChangesOneWord, TurnLeavesWords}
-use Rattle.preserved.proofs.EffectsGood.{cell-fit, few-cells, keeps-effect, set-cell}
-use Rattle.preserved.proofs.PlansGood.{PlanGood, at-good, fields-item, fields-own, plan-good, readDepth-good, readLeaf-good, readAncestor-good, growDepth-good, readTarget-good, insertAtRoot-good, readParent-good, insertBelow-good, readRoot-good, removeHead-good, mendReadNode-good, mendReadDepth-good, mendReadLeft-good, mendReadRight-good, mendSwap-good, mendClean-good, listReadRoot-good, removeList-good, handOut-good, withdrawal-good}
+use Rattle.preserved.proofs.EffectsGood.{keeps-effect, set-cell}
+use Rattle.preserved.proofs.PlansGood.{EffectGood, PlanGood, at-good, fields-item, fields-own, plan-good, readDepth-good, readLeaf-good, readAncestor-good, growDepth-good, readTarget-good, insertAtRoot-good, readParent-good, insertBelow-good, readRoot-good, removeHead-good, mendReadNode-good, mendReadDepth-good, mendReadLeft-good, mendReadRight-good, mendSwap-good, mendClean-good, listReadRoot-good, removeList-good, handOut-good, withdrawal-good}
 
 -- every place's plan is in range, and so is its withdrawal
-module _ (s : Shape) (r : InRange s) (m : Shared) (sm : SharedGood s m) (t : Thread) (gt : ThreadGood s t) (c : ℕ) where
-  at-place : (p : Place) → PlaceGood s t p → PlanGood s (decideAt s m t c p)
+module _ {width : ℕ} (s : Shape) (r : InRange s) (m : Shared) (sm : SharedGood width s m) (t : Thread) (gt : ThreadGood width s t) (c : ℕ) where
+  at-place : (p : Place) → PlaceGood s t p → PlanGood width s (decideAt s m t c p)
   at-place Idle h = plan-good s Nothing t AnswerIdle tt gt
   at-place ReadDepth h = readDepth-good s r m sm t gt
   at-place ReadLeaf h = readLeaf-good s r m sm t gt c
@@ -77,40 +77,43 @@ module _ (s : Shape) (r : InRange s) (m : Shared) (sm : SharedGood s m) (t : Thr
   at-place RemoveList h = removeList-good s r m sm t gt
   at-place HandOut h = handOut-good s r m sm t gt
 
-  pub decided : PlanGood s (decide s m t c)
+  pub decided : PlanGood width s (decide s m t c)
   unfolding decide permitted
   decided =
-      pick-good (PlanGood s) (lacksPermission t && not (isUnreadable (decideAt s m t c (t .place) .answer)))
+      pick-good (PlanGood width s) (lacksPermission t && not (isUnreadable (decideAt s m t c (t .place) .answer)))
       (λ h. withdrawal-good s r m sm t gt)
       (λ h. at-place (t .place) (gt .place))
 
 -- Carrying out a plan in range.
-module _ (f : Frame) (b : List ℕ) (g : Good f b) (t : ℕ) (l : 1 ≤ t) (u : t ≤ f .shape .threads) (p : Plan)
-    (gp : PlanGood (f .shape) p) where
-  pub record-keeps : Keeps f b (setThreadIn f b t (p .thread))
+module _ {width : ℕ} (f : Frame) (b : List ℕ) (g : GoodOfWidth width f b) (t : ℕ) (l : 1 ≤ t) (u : t ≤ f .shape .threads) (p : Plan)
+    (gp : PlanGood width (f .shape) p) where
+  pub record-keeps : KeepsOfWidth width f b (setThreadIn f b t (p .thread))
   record-keeps = keeps-setThread f b g t l u (p .thread) (gp .thread)
 
-  carried-keeps : Keeps f b (carriedOut f b t p)
+  -- its effect in range for the frame's counters too
+  pub carried-keeps : EffectGood width (f .shape) (p .effect) → KeepsOfWidth width f b (carriedOut f b t p)
   unfolding carriedOut
-  carried-keeps =
-      pick-good (Keeps f b) (changesNothing (p .answer)) (λ e. keeps-same g)
+  carried-keeps ge =
+      pick-good (KeepsOfWidth width f b) (changesNothing (p .answer)) (λ e. keeps-same g)
       (λ e. keeps-more record-keeps
-      (keeps-effect f (setThreadIn f b t (p .thread)) (record-keeps .good) (p .effect) (gp .effect)))
+      (keeps-effect f (setThreadIn f b t (p .thread)) (record-keeps .good) (p .effect) ge))
 
-refused-stays : (f : Frame) (b : List ℕ) (t : ℕ) (v : Thread) (n : ℕ) → carriedOut f b t (refused v n) ≡ b
+pub refused-stays : (f : Frame) (b : List ℕ) (t : ℕ) (v : Thread) (n : ℕ) → carriedOut f b t (refused v n) ≡ b
 unfolding carriedOut refused pick
 refused-stays f b t v n = refl
 
 -- A turn, of a thread that exists or not.
-module _ (f : Frame) (b : List ℕ) (g : Good f b) (t c : ℕ) where
-  pub plan-in-range : PlanGood (f .shape) (decide (f .shape) (sharedIn f b) (threadIn f b t) c)
-  plan-in-range = decided (f .shape) (g .range) (sharedIn f b) (good-shared f b g) (threadIn f b t) (good-thread f b g t) c
+pub plan-in-range : {width : ℕ} (f : Frame) (b : List ℕ) → GoodOfWidth width f b → (t c : ℕ)
+    → PlanGood width (f .shape) (decide (f .shape) (sharedIn f b) (threadIn f b t) c)
+plan-in-range f b g t c = decided (f .shape) (g .range) (sharedIn f b) (good-shared f b g) (threadIn f b t) (good-thread f b g t) c
 
+module _ (f : Frame) (b : List ℕ) (g : Good f b) (t c : ℕ) where
   pub turn-keeps : Keeps f b (turnBytes f b t c)
   unfolding turnBytes turnPlan
   turn-keeps =
+      let p = plan-in-range f b g t c in
       pick-good (λ p. Keeps f b (carriedOut f b t p)) (between 1 t (f .shape .threads))
-      (λ e. carried-keeps f b g t (between-least 1 t (f .shape .threads) e) (between-most 1 t (f .shape .threads) e) _ plan-in-range)
+      (λ e. carried-keeps f b g t (between-least 1 t (f .shape .threads) e) (between-most 1 t (f .shape .threads) e) _ p (p .effect))
       (λ e. subst (Keeps f b) (sym (refused-stays f b t (idleThread 0) badThread)) (keeps-same g))
 
 pub turn-keeps-readable : TurnKeepsReadable
@@ -140,7 +143,7 @@ take-passed f b t e =
     let idle = in-order (isIdle x) _ 9 (λ z. omega arith) (permitted .1) in
     record { thread = thread .0; permitted = permitted .0; idle = idle .0 }
 
-pub begun-take-good : (s : Shape) (t : Thread) → ThreadGood s t → (p : Place) → BeginsAt p → ThreadGood s (atPlace t p)
+pub begun-take-good : {width : ℕ} (s : Shape) (t : Thread) → ThreadGood width s t → (p : Place) → BeginsAt p → ThreadGood width s (atPlace t p)
 begun-take-good s t g ReadRoot one-item = at-good s t (g .fields) ReadRoot tt
 begun-take-good s t g ListReadRoot whole-list = at-good s t (g .fields) ListReadRoot tt
 
@@ -151,17 +154,17 @@ module _ (f : Frame) (b : List ℕ) (t : ℕ) (passed : TakePassed f b t) where
   pub take-most : t ≤ f .shape .threads
   take-most = between-most 1 t (f .shape .threads) (passed .thread)
 
-  module _ (g : Good f b) where
-    pub taker-good : (p : Place) → BeginsAt p → ThreadGood (f .shape) (atPlace (threadIn f b t) p)
+  module _ {width : ℕ} (g : GoodOfWidth width f b) where
+    pub taker-good : (p : Place) → BeginsAt p → ThreadGood width (f .shape) (atPlace (threadIn f b t) p)
     taker-good = begun-take-good (f .shape) _ (good-thread f b g t)
 
-    pub accepted-take-keeps : (p : Place) → BeginsAt p → Keeps f b (acceptedTake f b t p)
+    pub accepted-take-keeps : (p : Place) → BeginsAt p → KeepsOfWidth width f b (acceptedTake f b t p)
     accepted-take-keeps p h = keeps-setThread f b g t take-least take-most _ (taker-good p h)
 
-pub take-keeps : (f : Frame) (b : List ℕ) → Good f b → (t : ℕ) (p : Place) → BeginsAt p → Keeps f b (takeBytesIn f b t p)
+pub take-keeps : {width : ℕ} (f : Frame) (b : List ℕ) → GoodOfWidth width f b → (t : ℕ) (p : Place) → BeginsAt p → KeepsOfWidth width f b (takeBytesIn f b t p)
 unfolding takeBytesIn
 take-keeps f b g t p h =
-    pick-good (Keeps f b) (eqb (takeRefusalIn f b t) done)
+    pick-good (KeepsOfWidth _ f b) (eqb (takeRefusalIn f b t) done)
     (λ e. accepted-take-keeps f b t (take-passed f b t (eqb-true (takeRefusalIn f b t) done e)) g p h)
     (λ e. keeps-same g)
 
@@ -176,19 +179,19 @@ pub take-keeps-shape : TakeKeepsShape
 take-keeps-shape b e t p h = shape-kept b _ e (take-keeps-on b e t p h)
 
 -- Stores of the first free cell and of a cell keep the bytes in range.
-module _ (f : Frame) (b : List ℕ) (g : Good f b) where
+module _ {width : ℕ} (f : Frame) (b : List ℕ) (g : GoodOfWidth width f b) where
   abbrev s : Shape
   s = f .shape
 
-  keeps-setFree : (v : ℕ) → v ≤ f .shape .cells → Keeps f b (setWord b (f .free) v)
+  keeps-setFree : (v : ℕ) → v ≤ f .shape .cells → KeepsOfWidth width f b (setWord b (f .free) v)
   keeps-setFree v h =
       let m = good-shared f b g in
       let few : v < 2 ^ 32 = omega (arith, h, few-cells s (g .range)) in
       let long = length-setWord b (f .free) v in
       record {
         good =
-            make-good f (setWord b (f .free) v) (g .range) (subst (Framed f) (sym long) (g .framed))
-            (subst (SharedGood s) (sym (shared-setFree f b (g .framed) v few))
+            make-good f (setWord b (f .free) v) (g .width) (g .range) (subst (Framed f) (sym long) (g .framed))
+            (subst (SharedGood width s) (sym (shared-setFree f b (g .framed) v few))
             (record { node = m .node; cell = m .cell; depth-least = m .depth-least; depth-most = m .depth-most; free = h }))
             (threads-pass f b (setWord b (f .free) v) g λ j lo hi.
             word-other b (f .free) j v (outside-word (threads-outside f (length b) (g .framed) j lo hi .free)));
@@ -196,14 +199,14 @@ module _ (f : Frame) (b : List ℕ) (g : Good f b) where
         outside = λ j o. word-other b (f .free) j v (outside-word (o .shared .free));
       }
 
-  keeps-setCell : (c : ℕ) (v : Cell) → 1 ≤ c → c ≤ f .shape .cells → CellGood (f .shape .cells) v → Keeps f b (setCellIn f b c v)
+  keeps-setCell : (c : ℕ) (v : Cell) → 1 ≤ c → c ≤ f .shape .cells → CellGood (f .shape .cells) v → KeepsOfWidth width f b (setCellIn f b c v)
   keeps-setCell c v l u h =
       let m = good-shared f b g in
       let long = length-setCellIn f b c v in
       record {
         good =
-            make-good f (setCellIn f b c v) (g .range) (subst (Framed f) (sym long) (g .framed))
-            (subst (SharedGood s) (sym (shared-setCell f b (g .framed) c v l u (cell-fit s (g .range) v h)))
+            make-good f (setCellIn f b c v) (g .width) (g .range) (subst (Framed f) (sym long) (g .framed))
+            (subst (SharedGood width s) (sym (shared-setCell f b (g .framed) c v l u (cell-fits s (g .range) v h)))
             (record {
               node = m .node;
               cell = set-cell s (sharedIn f b) m c v h;
@@ -236,9 +239,9 @@ put-passed f b t i e =
     let cell = in-order (hasFreeCell f b) _ 10 (λ z. omega arith) (idle .1) in
     record { thread = thread .0; item = item .0; permitted = permitted .0; idle = idle .0; cell = cell .0 }
 
-pub begun-put-good : (s : Shape) (t : Thread) → ThreadGood s t → (i : Item) → i .key < 2 ^ 32 → i .tag ≤ greatestTag → (own : ℕ)
+pub begun-put-good : {width : ℕ} (s : Shape) (t : Thread) → ThreadGood width s t → (i : Item) → i .key < 2 ^ 32 → i .tag ≤ greatestTag → (own : ℕ)
     → own ≤ s .cells
-    → ThreadGood s (begunPut t i own)
+    → ThreadGood width s (begunPut t i own)
 unfolding begunPut
 begun-put-good s t g i hk ht own h =
     at-good s _ (fields-own s _ (fields-item s t (g .fields) i hk ht) own h) ReadDepth tt
@@ -279,33 +282,33 @@ module _ (f : Frame) (b : List ℕ) (t : ℕ) (i : Item) (p : PutPassed f b t i)
   abbrev pub ownStored : List ℕ
   ownStored = setCellIn f freeMoved own mine
 
-  module _ (g : Good f b) where
+  module _ {width : ℕ} (g : GoodOfWidth width f b) where
     pub next-few : cellIn f b own .next ≤ f .shape .cells
     unfolding sharedIn
     next-few = good-shared f b g .cell own .next
 
-    pub moved-keeps : Keeps f b freeMoved
+    pub moved-keeps : KeepsOfWidth width f b freeMoved
     moved-keeps = keeps-setFree f b g (cellIn f b own .next) next-few
 
     pub mine-good : CellGood (f .shape .cells) mine
     mine-good = record { key = put-key-fits; tag = put-tag; next = omega arith }
 
-    pub stored-keeps : Keeps f freeMoved ownStored
+    pub stored-keeps : KeepsOfWidth width f freeMoved ownStored
     stored-keeps = keeps-setCell f freeMoved (moved-keeps .good) own mine (omega (arith, put-free)) (g .free-most) mine-good
 
-    pub putter-good : ThreadGood (f .shape) (begunPut (threadIn f b t) i own)
+    pub putter-good : ThreadGood width (f .shape) (begunPut (threadIn f b t) i own)
     putter-good = begun-put-good (f .shape) _ (good-thread f b g t) i put-key-fits put-tag own (g .free-most)
 
-    pub accepted-put-keeps : Keeps f b (acceptedPut f b t i)
+    pub accepted-put-keeps : KeepsOfWidth width f b (acceptedPut f b t i)
     unfolding acceptedPut
     accepted-put-keeps =
         keeps-more moved-keeps
         (keeps-more stored-keeps (keeps-setThread f ownStored (stored-keeps .good) t put-least put-most _ putter-good))
 
-pub put-keeps : (f : Frame) (b : List ℕ) → Good f b → (t : ℕ) (i : Item) → Keeps f b (putBytesIn f b t i)
+pub put-keeps : {width : ℕ} (f : Frame) (b : List ℕ) → GoodOfWidth width f b → (t : ℕ) (i : Item) → KeepsOfWidth width f b (putBytesIn f b t i)
 unfolding putBytesIn
 put-keeps f b g t i =
-    pick-good (Keeps f b) (eqb (putRefusalIn f b t i) done)
+    pick-good (KeepsOfWidth _ f b) (eqb (putRefusalIn f b t i) done)
     (λ h. accepted-put-keeps f b t i (put-passed f b t i (eqb-true (putRefusalIn f b t i) done h)) g)
     (λ h. keeps-same g)
 
@@ -366,9 +369,9 @@ module _ (f : Frame) (b : List ℕ) (t p : ℕ) where
       ∙ word-same b at p (omega (arith, entry-end (threadsOf f) t (λ z. omega arith) u, framed)) (omega (arith, passed .permission)))
       (λ h. absurd (h e))
 
-pub permit-keeps : (f : Frame) (b : List ℕ) → Good f b → (t p : ℕ) → Keeps f b (permitBytesIn f b t p)
+pub permit-keeps : {width : ℕ} (f : Frame) (b : List ℕ) → GoodOfWidth width f b → (t p : ℕ) → KeepsOfWidth width f b (permitBytesIn f b t p)
 permit-keeps f b g t p =
-    permit-either f b t p (Keeps f b)
+    permit-either f b t p (KeepsOfWidth _ f b)
     (λ passed. keeps-setPermission f b g t p (permit-least f t p passed) (permit-most f t p passed) (passed .permission))
     (λ h. keeps-same g)
 
@@ -396,20 +399,25 @@ permit-changes-one-word b e t p =
           ∙ permit-sets f b t p (good b e .framed) (sym (permit-refusal-in b e t p) ∙ h);
     }
 
+-- a record in range fits the words of its frame
+pub record-fits : {width : ℕ} (f : Frame) (b : List ℕ) → GoodOfWidth width f b → (v : Thread) → ThreadGood width (f .shape) v
+    → ThreadFits (f .width) v
+record-fits f b g v gv = subst (λ w. ThreadFits w v) (sym (g .width)) (thread-fit (f .shape) (g .range) v gv)
+
 -- What a turn leaves alone: storing a record of thread t's leaves every other thread's alone
-store-others : (f : Frame) (b : List ℕ) → Good f b → (t : ℕ) → 1 ≤ t → t ≤ f .shape .threads → (v : Thread) → ThreadGood (f .shape) v
+store-others : (f : Frame) (b : List ℕ) → Good f b → (t : ℕ) → 1 ≤ t → t ≤ f .shape .threads → (v : Thread) → ThreadGood counterSize (f .shape) v
     → (u : ℕ) → (u ≡ t → ⊥) → threadIn f (setThreadIn f b t v) u ≡ threadIn f b u
 store-others f b g t l m v gv u n =
-    ap (λ h. h u) (threads-setThread f b (g .framed) t v l m (thread-fit (f .shape) (g .range) v gv))
+    ap (λ h. h u) (threads-setThread f b (g .framed) t v l m (record-fits f b g v gv))
     ∙ upd-other (threadIn f b) t u v n
 
-pub effect-threads : (f : Frame) (b : List ℕ) → Good f b → (e : Effect) → threadIn f (effectBytes f b e) ≡ threadIn f b
+pub effect-threads : {width : ℕ} (f : Frame) (b : List ℕ) → GoodOfWidth width f b → (e : Effect) → threadIn f (effectBytes f b e) ≡ threadIn f b
 effect-threads f b g e =
     threads-kept f b (g .framed) (effectBytes f b e) λ j l u.
     effect-word f j (threads-outside f (length b) (g .framed) j l u) b (g .framed) e
 
 module _ (f : Frame) (b : List ℕ) (g : Good f b) where
-  module _ (t : ℕ) (l : 1 ≤ t) (r : t ≤ f .shape .threads) (p : Plan) (gp : PlanGood (f .shape) p) (u : ℕ) (n : u ≡ t → ⊥) where
+  module _ (t : ℕ) (l : 1 ≤ t) (r : t ≤ f .shape .threads) (p : Plan) (gp : PlanGood counterSize (f .shape) p) (u : ℕ) (n : u ≡ t → ⊥) where
     carried-others : threadIn f (carriedOut f b t p) u ≡ threadIn f b u
     unfolding carriedOut
     carried-others =
@@ -486,7 +494,7 @@ module _ (f : Frame) (j : ℕ) where
   effect-leaves b framed (Free c) o = word-other _ (f .free) j c (o .1) ∙ word-setCell f b framed c j _ (o .0)
 
 pub turn-leaves-words : TurnLeavesWords
-unfolding turnBytes carriedOut
+unfolding turnBytes carriedOut frameOfWidth
 turn-leaves-words b e t c j o a =
     let f = frameIn b in
     let p = turnPlan f b t c in
@@ -507,7 +515,7 @@ empty-is-above b e =
     let f = frameIn b in
     let g = good b e in
     let cell = good-shared f b g .cell in
-    let thread : (t : ℕ) → FieldsGood (f .shape) (threadIn f b t) = λ t. good-thread f b g t .fields in
+    let thread : (t : ℕ) → FieldsGood counterSize (f .shape) (threadIn f b t) = λ t. good-thread f b g t .fields in
     record {
       cells = λ c. less-than-empty _ (cell c .key) (cell c .tag);
       items = λ t. less-than-empty _ (thread t .item-key) (thread t .item-tag);

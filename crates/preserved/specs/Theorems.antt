@@ -9,7 +9,7 @@ use lib.ListN.{length}
 use Rattle.words.specs.Word.{word}
 use Rattle.region.specs.Answer.{done}
 use Rattle.region.specs.Frame.{nodesOf, cellsOf, threadsOf}
-use Rattle.region.specs.Record.{nodeSize, cellSize}
+use Rattle.region.specs.Record.{counterSize, nodeSize, cellSize}
 use Rattle.region.specs.Shared.{cellIn, entry, threadIn}
 use Rattle.region.specs.Thread.{threadSize}
 use Rattle.region.specs.declared.frame.Frame.{Frame}
@@ -107,15 +107,15 @@ Apart k n j = (j < k) ⊎ (k + n ≤ j)
 abbrev pub OutsideEffect : Frame → Effect → ℕ → Type 0
 OutsideEffect f Nothing j = Unit
 OutsideEffect f (Grow d) j = j ≡ f .depth → ⊥
-OutsideEffect f (Push n v c x) j = Apart (entry (nodesOf f) n) nodeSize j × Apart (entry (cellsOf f) c) cellSize j
-OutsideEffect f (Pop v c) j = Apart (entry (nodesOf f) 1) nodeSize j × Apart (entry (cellsOf f) c) cellSize j × (j ≡ f .free → ⊥)
-OutsideEffect f (Exchange n v k w) j = Apart (entry (nodesOf f) n) nodeSize j × Apart (entry (nodesOf f) k) nodeSize j
-OutsideEffect f (Clean n v) j = Apart (entry (nodesOf f) n) nodeSize j
-OutsideEffect f (Detach v) j = Apart (entry (nodesOf f) 1) nodeSize j
+OutsideEffect f (Push n v c x) j = Apart (entry (nodesOf f) n) (nodeSize (f .width)) j × Apart (entry (cellsOf f) c) cellSize j
+OutsideEffect f (Pop v c) j = Apart (entry (nodesOf f) 1) (nodeSize (f .width)) j × Apart (entry (cellsOf f) c) cellSize j × (j ≡ f .free → ⊥)
+OutsideEffect f (Exchange n v k w) j = Apart (entry (nodesOf f) n) (nodeSize (f .width)) j × Apart (entry (nodesOf f) k) (nodeSize (f .width)) j
+OutsideEffect f (Clean n v) j = Apart (entry (nodesOf f) n) (nodeSize (f .width)) j
+OutsideEffect f (Detach v) j = Apart (entry (nodesOf f) 1) (nodeSize (f .width)) j
 OutsideEffect f (Free c) j = Apart (entry (cellsOf f) c) cellSize j × (j ≡ f .free → ⊥)
 
 -- and every word outside its effect and its own record
 abbrev pub TurnLeavesWords : Type 0
 TurnLeavesWords =
     (b : List ℕ) → readable b ≡ true → (t c j : ℕ) → OutsideEffect (frameIn b) (turnPlan (frameIn b) b t c .effect) j
-    → Apart (entry (threadsOf (frameIn b)) t) threadSize j → word (turnBytes (frameIn b) b t c) j ≡ word b j
+    → Apart (entry (threadsOf (frameIn b)) t) (threadSize counterSize) j → word (turnBytes (frameIn b) b t c) j ≡ word b j

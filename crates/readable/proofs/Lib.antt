@@ -1,4 +1,4 @@
 -- What the crates above cite of readability beside its contracts, and what its own loops and ways out need.
 pub mod Laws
-mod Loops
+pub mod Loops
 pub mod Stores

@@ -15,12 +15,12 @@ use lib.Pow.{pow-mono}
 use Rattle.words.specs.Word.{word, wordsAt}
 use Rattle.words.specs.Inner.{Fit}
 use Rattle.words.proofs.Laws.{word-among, word-same}
-use Rattle.region.specs.Frame.{Part, frameOf, nodesOf, cellsOf, threadsOf}
-use Rattle.region.specs.Inner.{Framed, InRange}
+use Rattle.region.specs.Frame.{Part, frameOfWidth, nodesOf, cellsOf, threadsOf}
+use Rattle.region.specs.Inner.{CopyFits, Framed, InRange, NodeFits, ThreadFits, Width, one-word, two-words, greatestHigh}
 use Rattle.region.specs.Level.{level}
 use Rattle.region.specs.Pick.{pick}
 use Rattle.region.specs.Place.{placeNumber, placeOf, waitingLevels}
-use Rattle.region.specs.Record.{nodeSize, copySize, greatestCounter, greatestTag, nodeAt, emptyNode, cellAt, zeroCell, copyOf, copyWords, copyAt, zeroCopy}
+use Rattle.region.specs.Record.{counterSize, nodeSize, copySize, greatestTag, nodeWords, nodeAt, emptyNode, cellWords, cellAt, zeroCell, copyOf, copyWords, copyAt, zeroCopy}
 use Rattle.region.specs.Shape.{between, nodeCount}
 use Rattle.region.specs.Shared.{Shared, entry, loadEntry, nodeIn, cellIn, threadIn, setThreadIn, setPermissionIn, sharedIn}
 use Rattle.region.specs.Thread.{threadSize, placeWord, triesWord, nodeWord, waitingWord, firstCopyWord, secondCopyWord, thirdCopyWord, greatestPermission, fieldWords, threadWords, idleThread, threadAt}
@@ -36,28 +36,30 @@ use Rattle.region.proofs.Entries.{entry-end, record-within}
 use Rattle.region.proofs.Levels.{level-most}
 use Rattle.region.proofs.Picks.{pick-good}
 use Rattle.region.proofs.Shapes.{and-left, and-right, and-both, between-least, between-most, is-between, sizes}
-use Rattle.region.proofs.Threads.{copy-among, copy-parts}
+use Rattle.region.proofs.Threads.{copy-among, copy-long, copy-parts, node-long}
 use Rattle.region.proofs.Views.{Kept, Outside, OutsideParts, length-setPermissionIn, length-setThreadIn, permission-there, records-outside, shared-setPermission, shared-setThread, thread-stored-words, word-setPermission, word-setThread}
-use Rattle.readable.specs.Readable.{anyWord, greatestCopy, greatestThread, nodeMaxima, cellMaxima, threadMaxima, greatestTries, greatestWaiting, bounded, nodeReadable, cellReadable, threadReadable, shapeIn, frameIn, readable}
-use Rattle.readable.proofs.Laws.{Good, bounded-all, bounded-at, readable-good, readable-length}
+use Rattle.readable.specs.Readable.{anyWord, greatestNode, greatestCopy, greatestThread, nodeMaxima, cellMaxima, threadMaxima, greatestTries, greatestWaiting, bounded, nodeReadable, cellReadable, threadPasses, threadReadable, shapeIn, frameIn, readable, readableOfWidth}
+use Rattle.readable.proofs.Laws.{GoodOfWidth, bounded-all, bounded-at, length-of-width, readable-good}
 
--- Records in range.
-pub record NodeGood (cells : ℕ) (n : Node) : Type 0 where
+-- Records in range, with counters of w words.
+pub record NodeGood (w cells : ℕ) (n : Node) : Type 0 where
   pub first : n .first ≤ cells
   pub dirty : n .dirty ≤ 1
-  pub counter : n .counter ≤ greatestCounter
+  pub low : n .low ≤ anyWord
+  pub high : n .high ≤ anyWord
+  pub narrow : n .high ≤ greatestHigh w
 
 pub record CellGood (cells : ℕ) (c : Cell) : Type 0 where
   pub key : c .item .key < 2 ^ 32
   pub tag : c .item .tag ≤ greatestTag
   pub next : c .next ≤ cells
 
-pub record CopyGood (cells : ℕ) (q : NodeCopy) : Type 0 where
-  pub node : NodeGood cells (q .node)
+pub record CopyGood (w cells : ℕ) (q : NodeCopy) : Type 0 where
+  pub node : NodeGood w cells (q .node)
   pub head : CellGood cells (q .head)
 
 -- every field of a thread's record but the place
-pub record FieldsGood (s : Shape) (t : Thread) : Type 0 where
+pub record FieldsGood (w : ℕ) (s : Shape) (t : Thread) : Type 0 where
   pub permission : t .permission ≤ greatestPermission
   pub item-key : t .item .key < 2 ^ 32
   pub item-tag : t .item .tag ≤ greatestTag
@@ -71,19 +73,19 @@ pub record FieldsGood (s : Shape) (t : Thread) : Type 0 where
   pub after : t .after ≤ 3
   pub result-key : t .result .key < 2 ^ 32
   pub result-tag : t .result .tag ≤ greatestTag
-  pub first : CopyGood (s .cells) (t .copies .first)
-  pub second : CopyGood (s .cells) (t .copies .second)
-  pub third : CopyGood (s .cells) (t .copies .third)
+  pub first : CopyGood w (s .cells) (t .copies .first)
+  pub second : CopyGood w (s .cells) (t .copies .second)
+  pub third : CopyGood w (s .cells) (t .copies .third)
 
 abbrev greatestPlace : ℕ
 greatestPlace = placeNumber HandOut
 
 -- the words before the copies and those of a copy, at their greatest, and the greatest place
-abbrev fieldMaxima : Shape → List ℕ
+abbrev pub fieldMaxima : Shape → List ℕ
 fieldMaxima s = set (fieldWords (greatestThread s)) placeWord greatestPlace
 
-abbrev copyMaxima : ℕ → List ℕ
-copyMaxima cells = copyWords (greatestCopy cells)
+abbrev pub copyMaxima : ℕ → ℕ → List ℕ
+copyMaxima w cells = copyWords w (greatestCopy cells)
 
 -- levels above the node's
 abbrev pub WaitsAbove : ℕ → ℕ → Type 0
@@ -112,31 +114,31 @@ PlaceGood s t ListReadRoot = Unit
 PlaceGood s t RemoveList = Unit
 PlaceGood s t HandOut = Unit
 
-pub record ThreadGood (s : Shape) (t : Thread) : Type 0 where
-  pub fields : FieldsGood s t
+pub record ThreadGood (w : ℕ) (s : Shape) (t : Thread) : Type 0 where
+  pub fields : FieldsGood w s t
   pub place : PlaceGood s t (t .place)
 
 -- Lists whose elements are at most their maxima.
-abbrev AllLe : List ℕ → List ℕ → Type 0
+abbrev pub AllLe : List ℕ → List ℕ → Type 0
 AllLe [] [] = Unit
 AllLe [] (m ∷ ms) = ⊥
 AllLe (v ∷ vs) [] = ⊥
 AllLe (v ∷ vs) (m ∷ ms) = (v ≤ m) × AllLe vs ms
 
-all-at : (vs ms : List ℕ) (i : ℕ) → AllLe vs ms → getD vs i 0 ≤ getD ms i 0
+pub all-at : (vs ms : List ℕ) (i : ℕ) → AllLe vs ms → getD vs i 0 ≤ getD ms i 0
 all-at [] [] i h = omega arith
 all-at [] (m ∷ ms) i h = absurd h
 all-at (v ∷ vs) [] i h = absurd h
 all-at (v ∷ vs) (m ∷ ms) zero h = h .0
 all-at (v ∷ vs) (m ∷ ms) (suc i) h = all-at vs ms i (h .1)
 
-all-fit : (vs ms : List ℕ) → AllLe vs ms → Fit ms → Fit vs
+pub all-fit : (vs ms : List ℕ) → AllLe vs ms → Fit ms → Fit vs
 all-fit [] [] h f = tt
 all-fit [] (m ∷ ms) h f = absurd h
 all-fit (v ∷ vs) [] h f = absurd h
 all-fit (v ∷ vs) (m ∷ ms) h f = (omega (arith, h .0, f .0), all-fit vs ms (h .1) (f .1))
 
-below-any : {n : ℕ} → n < 2 ^ 32 → n ≤ anyWord
+pub below-any : {n : ℕ} → n < 2 ^ 32 → n ≤ anyWord
 below-any h = omega arith
 
 number-most : (p : Place) → placeNumber p ≤ greatestPlace
@@ -216,40 +218,105 @@ waiting-few s t p g =
     let few : greatestWaiting (placeNumber p) (t .node) ≤ anyWord = pick-good (λ x. x ≤ anyWord) _ (λ e. omega arith) (λ e. omega arith) in
     omega (arith, waiting-rule s t p g, few)
 
+pub all-both : (vs ms us ns : List ℕ) → AllLe vs ms → AllLe us ns → AllLe (vs ++ us) (ms ++ ns)
+all-both [] [] us ns h k = k
+all-both [] (m ∷ ms) us ns h k = absurd h
+all-both (v ∷ vs) [] us ns h k = absurd h
+all-both (v ∷ vs) (m ∷ ms) us ns h k = (h .0, all-both vs ms us ns (h .1) k)
+
+node-le : {w : ℕ} → Width w → (cells : ℕ) (n : Node) → NodeGood w cells n → AllLe (nodeWords w n) (nodeMaxima w cells)
+node-le one-word cells n g = (g .first, (g .dirty, (g .low, tt)))
+node-le two-words cells n g = (g .first, (g .dirty, (g .low, (g .high, tt))))
+
+copy-le : {w : ℕ} → Width w → (cells : ℕ) (q : NodeCopy) → CopyGood w cells q → AllLe (copyWords w (q)) (copyMaxima w cells)
+copy-le {w} wide cells q g =
+    all-both (nodeWords w (q .node)) (nodeMaxima w cells) (cellWords (q .head)) (cellMaxima cells) (node-le wide cells (q .node) (g .node))
+    (below-any (g .head .key), (g .head .tag, (g .head .next, tt)))
+
 module _ (s : Shape) (r : InRange s) where
-  maxima-fit : Fit (threadMaxima s)
+  pub few-cells : s .cells < 2 ^ 32
+  few-cells = omega (arith, r, sizes s (r .depth-most))
+
+  pub maxima-fit : Fit (fieldMaxima s)
   maxima-fit = (omega arith, (omega arith, (omega arith, omega (arith, r, sizes s (r .depth-most)))))
 
-  module _ (t : Thread) (h : ThreadGood s t) where
-    thread-le : AllLe (threadWords t) (threadMaxima s)
-    thread-le =
+  pub node-fits : {w : ℕ} (n : Node) → NodeGood w (s .cells) n → NodeFits w n
+  node-fits n g =
+      record {
+        words = (omega (arith, g .first, few-cells), (omega (arith, g .dirty), (omega (arith, g .low), (omega (arith, g .high), tt))));
+        high = g .narrow;
+      }
+
+  pub cell-fits : (c : Cell) → CellGood (s .cells) c → Fit (cellWords c)
+  cell-fits c g = (g .key, (omega (arith, g .tag), (omega (arith, g .next, few-cells), tt)))
+
+  copy-fits : {w : ℕ} (q : NodeCopy) → CopyGood w (s .cells) q → CopyFits w q
+  copy-fits q g = record { node = node-fits (q .node) (g .node); head = cell-fits (q .head) (g .head) }
+
+  module _ {w : ℕ} (t : Thread) (h : ThreadGood w s t) where
+    fields-le : AllLe (fieldWords t) (fieldMaxima s)
+    fields-le =
         let g = h .fields in
         (g .permission, (number-most (t .place), (below-any (g .item-key), omega (arith, g, waiting-few s t (t .place) (h .place)))))
 
-    pub thread-fit : Fit (threadWords t)
-    thread-fit = all-fit (threadWords t) (threadMaxima s) thread-le maxima-fit
+    thread-le : Width w → AllLe (threadWords w t) (threadMaxima w s)
+    thread-le wide =
+        let c = s .cells in
+        let q = t .copies in
+        let m = copyMaxima w c in
+        let first = copyWords w (q .first) in
+        let second = copyWords w (q .second) in
+        let third = copyWords w (q .third) in
+        all-both (fieldWords t) (fieldMaxima s) (first ++ (second ++ third)) (m ++ (m ++ m)) fields-le
+        (all-both first m (second ++ third) (m ++ m) (copy-le wide c (q .first) (h .fields .first))
+        (all-both second m third m (copy-le wide c (q .second) (h .fields .second)) (copy-le wide c (q .third) (h .fields .third))))
+
+    pub thread-fit : ThreadFits w t
+    thread-fit =
+        record {
+          fields = all-fit (fieldWords t) (fieldMaxima s) fields-le maxima-fit;
+          first = copy-fits (t .copies .first) (h .fields .first);
+          second = copy-fits (t .copies .second) (h .fields .second);
+          third = copy-fits (t .copies .third) (h .fields .third);
+        }
 
 -- Nodes and cells: in range as words, in range as records.
 module _ (cells : ℕ) (b : List ℕ) (at : ℕ) where
-  node-good : nodeReadable cells b at ≡ true → NodeGood cells (nodeAt b at)
-  unfolding bounded nodeAt
-  node-good e =
+  first-words : (ms : List ℕ) → bounded b at (cells ∷ 1 ∷ anyWord ∷ ms) ≡ true
+      → (word b at ≤ cells) × (word b (suc at) ≤ 1) × (word b (suc (suc at)) ≤ anyWord) × (bounded b (suc (suc (suc at))) ms ≡ true)
+  unfolding bounded
+  first-words ms e =
       let r₁ = and-right (leb (word b at) cells) _ e in
-      let r₂ = and-right (leb (word b (suc at)) 1) _ r₁ in
-      record {
-        first = leb-true (word b at) cells (and-left (leb (word b at) cells) _ e);
-        dirty = leb-true (word b (suc at)) 1 (and-left (leb (word b (suc at)) 1) _ r₁);
-        counter = leb-true (word b (suc (suc at))) greatestCounter (and-left (leb (word b (suc (suc at))) greatestCounter) _ r₂);
-      }
+      let r₂ = and-right (leb (word b (suc at)) 1) _ r₁ in (
+        leb-true (word b at) cells (and-left (leb (word b at) cells) _ e),
+        leb-true (word b (suc at)) 1 (and-left (leb (word b (suc at)) 1) _ r₁),
+        leb-true (word b (suc (suc at))) anyWord (and-left (leb (word b (suc (suc at))) anyWord) _ r₂),
+        and-right (leb (word b (suc (suc at))) anyWord) _ r₂,
+      )
 
-  node-bounded : NodeGood cells (nodeAt b at) → nodeReadable cells b at ≡ true
-  unfolding bounded nodeAt
-  node-bounded g =
-      and-both
-      (le-leb (word b at) cells (g .first))
-      (and-both
-      (le-leb (word b (suc at)) 1 (g .dirty))
-      (and-both (le-leb (word b (suc (suc at))) greatestCounter (g .counter)) refl))
+  last-word : (k : ℕ) → bounded b k (anyWord ∷ []) ≡ true → word b k ≤ anyWord
+  unfolding bounded
+  last-word k e = leb-true (word b k) anyWord (and-left (leb (word b k) anyWord) true e)
+
+  node-good : {w : ℕ} → Width w → nodeReadable w cells b at ≡ true → NodeGood w cells (nodeAt w b at)
+  unfolding nodeAt
+  node-good one-word e = let h = first-words [] e in record { first = h .0; dirty = h .1; low = h .2; high = omega arith; narrow = omega arith }
+  node-good two-words e =
+      let h = first-words (anyWord ∷ []) e in
+      let high = last-word (suc (suc (suc at))) (h .3) in
+      record { first = h .0; dirty = h .1; low = h .2; high = high; narrow = high }
+
+  words-bounded : (ms : List ℕ) → word b at ≤ cells → word b (suc at) ≤ 1 → word b (suc (suc at)) ≤ anyWord
+      → bounded b (suc (suc (suc at))) ms ≡ true → bounded b at (cells ∷ 1 ∷ anyWord ∷ ms) ≡ true
+  unfolding bounded
+  words-bounded ms f d l h =
+      and-both (le-leb (word b at) cells f) (and-both (le-leb (word b (suc at)) 1 d) (and-both (le-leb (word b (suc (suc at))) anyWord l) h))
+
+  node-bounded : {w : ℕ} → Width w → NodeGood w cells (nodeAt w b at) → nodeReadable w cells b at ≡ true
+  unfolding nodeAt bounded
+  node-bounded one-word g = words-bounded [] (g .first) (g .dirty) (g .low) refl
+  node-bounded two-words g =
+      words-bounded (anyWord ∷ []) (g .first) (g .dirty) (g .low) (and-both (le-leb (word b (suc (suc (suc at)))) anyWord (g .high)) refl)
 
   cell-good : cellReadable cells b at ≡ true → CellGood cells (cellAt b at)
   unfolding bounded cellAt
@@ -281,25 +348,28 @@ bounded-behind b (x ∷ xs) ys at =
     ∙ sym (and-assoc (leb (word b at) x) (bounded b (suc at) xs) (bounded b (at + suc (length xs)) ys))
 
 -- a node copy: its node, and its head behind it
-copy-good : (cells : ℕ) (b : List ℕ) (at : ℕ) → bounded b at (copyMaxima cells) ≡ true → CopyGood cells (copyAt b at)
-copy-good cells b at e =
-    let both = sym (bounded-behind b (nodeMaxima cells) (cellMaxima cells) at) ∙ e in
-    subst (CopyGood cells) (sym (copy-parts b at))
+copy-good : {w : ℕ} → Width w → (cells : ℕ) (b : List ℕ) (at : ℕ) → bounded b at (copyMaxima w cells) ≡ true → CopyGood w cells (copyAt w b at)
+copy-good {w} wide cells b at e =
+    let behind : at + length (nodeMaxima w cells) ≡ at + nodeSize w = ap (λ k. at + k) (node-long wide (greatestNode cells)) in
+    let both : nodeReadable w cells b at && cellReadable cells b (at + nodeSize w) ≡ true =
+    ap (λ k. nodeReadable w cells b at && cellReadable cells b k) (sym behind)
+    ∙ sym (bounded-behind b (nodeMaxima w cells) (cellMaxima cells) at) ∙ e in
+    subst (CopyGood w cells) (sym (copy-parts wide b at))
     (record {
-      node = node-good cells b at (and-left (nodeReadable cells b at) (cellReadable cells b (at + nodeSize)) both);
-      head = cell-good cells b (at + nodeSize) (and-right (nodeReadable cells b at) (cellReadable cells b (at + nodeSize)) both);
+      node = node-good cells b at wide (and-left (nodeReadable w cells b at) (cellReadable cells b (at + nodeSize w)) both);
+      head = cell-good cells b (at + nodeSize w) (and-right (nodeReadable w cells b at) (cellReadable cells b (at + nodeSize w)) both);
     })
 
 -- Shared memory in range.
-pub record SharedGood (s : Shape) (m : Shared) : Type 0 where
-  pub node : (n : ℕ) → NodeGood (s .cells) (m .node n)
+pub record SharedGood (w : ℕ) (s : Shape) (m : Shared) : Type 0 where
+  pub node : (n : ℕ) → NodeGood w (s .cells) (m .node n)
   pub cell : (c : ℕ) → CellGood (s .cells) (m .cell c)
   pub depth-least : 1 ≤ m .depth
   pub depth-most : m .depth ≤ s .depth
   pub free : m .free ≤ s .cells
 
-pub empty-good : (cells : ℕ) → NodeGood cells emptyNode
-empty-good cells = record { first = omega arith; dirty = omega arith; counter = omega arith }
+pub empty-good : {w : ℕ} (cells : ℕ) → NodeGood w cells emptyNode
+empty-good cells = record { first = omega arith; dirty = omega arith; low = omega arith; high = omega arith; narrow = omega arith }
 
 pub zero-good : (cells : ℕ) → CellGood cells zeroCell
 zero-good cells = record { key = omega arith; tag = omega arith; next = omega arith }
@@ -325,12 +395,15 @@ load-at at none p b i l =
     let e : suc i - 1 ≡ i = omega arith in
     rw (is-between 1 (suc i) (p .count) (omega arith) l) (ap (λ k. at b (p .start + p .stride * k)) e)
 
-pub good-shared : (f : Frame) (b : List ℕ) → Good f b → SharedGood (f .shape) (sharedIn f b)
+pub good-shared : {w : ℕ} (f : Frame) (b : List ℕ) → GoodOfWidth w f b → SharedGood w (f .shape) (sharedIn f b)
 unfolding sharedIn nodeIn cellIn
-good-shared f b g =
+good-shared {w} f b g =
     let cells = f .shape .cells in
     record {
-      node = load-good (NodeGood cells) nodeAt emptyNode (nodesOf f) b (empty-good cells) (λ i l. node-good cells b _ (g .nodes i l));
+      node = λ n.
+          subst (λ v. NodeGood v cells (nodeIn f b n)) (g .width)
+          (load-good (NodeGood (f .width) cells) (nodeAt (f .width)) emptyNode (nodesOf f) b (empty-good cells)
+          (λ i l. node-good cells b _ (g .framed .width) (g .nodes i l)) n);
       cell = load-good (CellGood cells) cellAt zeroCell (cellsOf f) b (zero-good cells) (λ i l. cell-good cells b _ (g .cells i l));
       depth-least = g .depth-least;
       depth-most = g .depth-most;
@@ -339,18 +412,23 @@ good-shared f b g =
 
 -- A frame's bytes are in range where its shape is, its parts lie within them and apart, shared memory is in range and each thread's record
 -- passes.
-pub make-good : (f : Frame) (b : List ℕ) → InRange (f .shape) → Framed f (length b) → SharedGood (f .shape) (sharedIn f b)
-    → ((i : ℕ) → i < f .shape .threads → threadReadable (f .shape) b (f .threads + f .stride * i) ≡ true) → Good f b
+pub make-good : {w : ℕ} (f : Frame) (b : List ℕ) → f .width ≡ w → InRange (f .shape) → Framed f (length b)
+    → SharedGood w (f .shape) (sharedIn f b)
+    → ((i : ℕ) → i < f .shape .threads → threadReadable (f .width) (f .shape) b (f .threads + f .stride * i) ≡ true) → GoodOfWidth w f b
 unfolding sharedIn nodeIn cellIn
-make-good f b r framed m ts =
+make-good {w} f b ew r framed m ts =
     let cells = f .shape .cells in
     record {
+      width = ew;
       range = r;
       framed = framed;
       depth-least = m .depth-least;
       depth-most = m .depth-most;
       free-most = m .free;
-      nodes = λ i l. node-bounded cells b _ (subst (NodeGood cells) (load-at nodeAt emptyNode (nodesOf f) b i l) (m .node (suc i)));
+      nodes = λ i l.
+          node-bounded cells b _ (framed .width)
+          (subst (NodeGood (f .width) cells) (load-at (nodeAt (f .width)) emptyNode (nodesOf f) b i l)
+          (subst (λ v. NodeGood v cells (nodeIn f b (suc i))) (sym ew) (m .node (suc i))));
       cells = λ i l. cell-bounded cells b _ (subst (CellGood cells) (load-at cellAt zeroCell (cellsOf f) b i l) (m .cell (suc i)));
       threads = ts;
     }
@@ -384,54 +462,61 @@ place-good s t h (suc (suc (suc (suc (suc (suc (suc (suc (suc (suc (suc (suc (su
 fit : {n : ℕ} → n ≤ anyWord → n < 2 ^ 32
 fit h = omega arith
 
-module _ (s : Shape) (r : InRange s) (b : List ℕ) (at : ℕ) (e : threadReadable s b at ≡ true) where
-  words-pass : bounded b at (threadMaxima s) ≡ true
-  unfolding threadReadable
-  words-pass = and-left (bounded b at (threadMaxima s)) _ (and-left (bounded b at (threadMaxima s) && _) _ e)
+module _ {w : ℕ} (wide : Width w) (s : Shape) (r : InRange s) (b : List ℕ) (at : ℕ) (e : threadReadable w s b at ≡ true) where
+  words-pass : bounded b at (threadMaxima w s) ≡ true
+  unfolding threadPasses
+  words-pass = and-left (bounded b at (threadMaxima w s)) _ (and-left (bounded b at (threadMaxima w s) && _) _ e)
 
-  tries-pass : word b (at + triesWord) ≤ greatestTries s (word b (at + placeWord))
-  unfolding threadReadable
-  tries-pass = leb-true _ _ (and-right (bounded b at (threadMaxima s)) _ (and-left (bounded b at (threadMaxima s) && _) _ e))
+  pub tries-pass : word b (at + triesWord) ≤ greatestTries s (word b (at + placeWord))
+  unfolding threadPasses
+  tries-pass = leb-true _ _ (and-right (bounded b at (threadMaxima w s)) _ (and-left (bounded b at (threadMaxima w s) && _) _ e))
 
-  waiting-pass : word b (at + waitingWord) ≤ greatestWaiting (word b (at + placeWord)) (word b (at + nodeWord))
-  unfolding threadReadable
-  waiting-pass = leb-true _ _ (and-right (bounded b at (threadMaxima s) && _) _ e)
+  pub waiting-pass : word b (at + waitingWord) ≤ greatestWaiting (word b (at + placeWord)) (word b (at + nodeWord))
+  unfolding threadPasses
+  waiting-pass = leb-true _ _ (and-right (bounded b at (threadMaxima w s) && _) _ e)
 
-  le : (i : ℕ) → i < threadSize → getD (wordsAt b at threadSize) i 0 ≤ getD (threadMaxima s) i 0
+  -- the words before the copies, and the copies one behind the other
+  pub fields-pass : bounded b at (fieldMaxima s) ≡ true
+  fields-pass =
+      let c = copyMaxima w (s .cells) in
+      and-left (bounded b at (fieldMaxima s)) (bounded b (at + firstCopyWord) (c ++ (c ++ c)))
+      (sym (bounded-behind b (fieldMaxima s) (c ++ (c ++ c)) at) ∙ words-pass)
+
+  is : (i : ℕ) → i < firstCopyWord → getD (wordsAt b at (threadSize w)) i 0 ≡ word b (at + i)
+  is i l = word-among b at (threadSize w) i (omega arith)
+
+  le : (i : ℕ) → i < firstCopyWord → getD (wordsAt b at (threadSize w)) i 0 ≤ getD (fieldMaxima s) i 0
   le i l =
-      subst (λ x. x ≤ getD (threadMaxima s) i 0) (sym (word-among b at threadSize i l))
-      (bounded-at b (threadMaxima s) at i words-pass l)
+      subst (λ x. x ≤ getD (fieldMaxima s) i 0) (sym (is i l))
+      (bounded-at b (fieldMaxima s) at i fields-pass l)
 
-  is : (i : ℕ) → i < threadSize → getD (wordsAt b at threadSize) i 0 ≡ word b (at + i)
-  is i l = word-among b at threadSize i l
-
-  -- the copies stand one behind the other
-  copies-pass : bounded b (at + firstCopyWord) (copyMaxima (s .cells))
-      && (bounded b (at + secondCopyWord) (copyMaxima (s .cells)) && bounded b (at + thirdCopyWord) (copyMaxima (s .cells))) ≡ true
+  pub copies-pass : bounded b (at + firstCopyWord) (copyMaxima w (s .cells))
+      && (bounded b (at + secondCopyWord w) (copyMaxima w (s .cells)) && bounded b (at + thirdCopyWord w) (copyMaxima w (s .cells))) ≡ true
   copies-pass =
-      let c = copyMaxima (s .cells) in
-      let k₂ : at + firstCopyWord + copySize ≡ at + secondCopyWord = omega arith in
-      let k₃ : at + secondCopyWord + copySize ≡ at + thirdCopyWord = omega arith in
+      let c = copyMaxima w (s .cells) in
+      let long : length c ≡ copySize w = copy-long wide (greatestCopy (s .cells)) in
+      let k₂ : at + firstCopyWord + length c ≡ at + secondCopyWord w = omega (arith, long) in
+      let k₃ : at + secondCopyWord w + length c ≡ at + thirdCopyWord w = omega (arith, long) in
       let all = and-right (bounded b at (fieldMaxima s)) (bounded b (at + firstCopyWord) (c ++ (c ++ c)))
       (sym (bounded-behind b (fieldMaxima s) (c ++ (c ++ c)) at) ∙ words-pass) in
       ap (λ q. bounded b (at + firstCopyWord) c && q)
-      (ap (λ k. bounded b (at + secondCopyWord) c && bounded b k c) (sym k₃)
-      ∙ sym (bounded-behind b c c (at + secondCopyWord))
+      (ap (λ k. bounded b (at + secondCopyWord w) c && bounded b k c) (sym k₃)
+      ∙ sym (bounded-behind b c c (at + secondCopyWord w))
       ∙ ap (λ k. bounded b k (c ++ c)) (sym k₂))
       ∙ sym (bounded-behind b c (c ++ c) (at + firstCopyWord))
       ∙ all
 
-  copy-at-good : (k : ℕ) → k + copySize ≤ threadSize → bounded b (at + k) (copyMaxima (s .cells)) ≡ true
-      → CopyGood (s .cells) (copyOf (wordsAt b at threadSize) k)
-  copy-at-good k l h = subst (CopyGood (s .cells)) (copy-among b at threadSize k l) (copy-good (s .cells) b (at + k) h)
+  copy-at-good : (k : ℕ) → k + copySize w ≤ threadSize w → bounded b (at + k) (copyMaxima w (s .cells)) ≡ true
+      → CopyGood w (s .cells) (copyOf w (wordsAt b at (threadSize w)) k)
+  copy-at-good k l h = subst (CopyGood w (s .cells)) (copy-among wide b at (threadSize w) k l) (copy-good wide (s .cells) b (at + k) h)
 
-  fields-good : FieldsGood s (threadAt b at)
+  fields-good : FieldsGood w s (threadAt w b at)
   unfolding threadAt
   fields-good =
-      let c = copyMaxima (s .cells) in
+      let c = copyMaxima w (s .cells) in
       let first = bounded b (at + firstCopyWord) c in
-      let second = bounded b (at + secondCopyWord) c in
-      let third = bounded b (at + thirdCopyWord) c in
+      let second = bounded b (at + secondCopyWord w) c in
+      let third = bounded b (at + thirdCopyWord w) c in
       let rest = and-right first (second && third) copies-pass in
       record {
         permission = le 0 (omega arith);
@@ -448,25 +533,25 @@ module _ (s : Shape) (r : InRange s) (b : List ℕ) (at : ℕ) (e : threadReadab
         result-key = fit (le 13 (omega arith));
         result-tag = le 14 (omega arith);
         first = copy-at-good firstCopyWord (omega arith) (and-left first (second && third) copies-pass);
-        second = copy-at-good secondCopyWord (omega arith) (and-left second third rest);
-        third = copy-at-good thirdCopyWord (omega arith) (and-right second third rest);
+        second = copy-at-good (secondCopyWord w) (omega arith) (and-left second third rest);
+        third = copy-at-good (thirdCopyWord w) (omega arith) (and-right second third rest);
       }
 
-  place-of-good : PlaceGood s (threadAt b at) (threadAt b at .place)
+  place-of-good : PlaceGood s (threadAt w b at) (threadAt w b at .place)
   unfolding threadAt
   place-of-good =
       let place = is placeWord (omega arith) in
-      place-good s (threadAt b at) (r .threshold-least) _ _ (le placeWord (omega arith))
+      place-good s (threadAt w b at) (r .threshold-least) _ _ (le placeWord (omega arith))
       (subst₂ (λ x y. x ≤ greatestTries s y) (sym (is triesWord (omega arith))) (sym place) tries-pass)
       (subst₃ (λ x y z. x ≤ greatestWaiting y z) (sym (is waitingWord (omega arith))) (sym place) (sym (is nodeWord (omega arith))) waiting-pass)
 
-  thread-good : ThreadGood s (threadAt b at)
+  thread-good : ThreadGood w s (threadAt w b at)
   thread-good = record { fields = fields-good; place = place-of-good }
 
-zero-copy-good : (cells : ℕ) → CopyGood cells zeroCopy
+zero-copy-good : {w : ℕ} (cells : ℕ) → CopyGood w cells zeroCopy
 zero-copy-good cells = record { node = empty-good cells; head = zero-good cells }
 
-pub idle-good : (s : Shape) (p : ℕ) → p ≤ greatestPermission → ThreadGood s (idleThread p)
+pub idle-good : {w : ℕ} (s : Shape) (p : ℕ) → p ≤ greatestPermission → ThreadGood w s (idleThread p)
 idle-good s p h =
     record {
       fields =
@@ -491,11 +576,16 @@ idle-good s p h =
       place = tt;
     }
 
-pub good-thread : (f : Frame) (b : List ℕ) → Good f b → (t : ℕ) → ThreadGood (f .shape) (threadIn f b t)
+pub good-thread : {w : ℕ} (f : Frame) (b : List ℕ) → GoodOfWidth w f b → (t : ℕ) → ThreadGood w (f .shape) (threadIn f b t)
 unfolding threadIn
-good-thread f b g =
-    load-good (ThreadGood (f .shape)) threadAt (idleThread 0) (threadsOf f) b (idle-good (f .shape) 0 (omega arith))
-    (λ i l. thread-good (f .shape) (g .range) b _ (g .threads i l))
+good-thread {w} f b g t =
+    subst (λ v. ThreadGood v (f .shape) (threadIn f b t)) (g .width)
+    (load-good (ThreadGood (f .width) (f .shape)) (threadAt (f .width)) (idleThread 0) (threadsOf f) b (idle-good (f .shape) 0 (omega arith))
+    (λ i l. thread-good (g .framed .width) (f .shape) (g .range) b _ (g .threads i l)) t)
+
+pub maxima-long : {w : ℕ} → Width w → (s : Shape) → length (threadMaxima w s) ≡ threadSize w
+maxima-long one-word s = refl
+maxima-long two-words s = refl
 
 -- A thread's record passes by its own words alone.
 bounded-reads : (b b′ ms : List ℕ) (at : ℕ) → ((j : ℕ) → at ≤ j → j < at + length ms → word b′ j ≡ word b j)
@@ -506,12 +596,13 @@ bounded-reads b b′ (m ∷ ms) at h =
     cc
     (h at (omega arith) (omega arith), bounded-reads b b′ ms (suc at) (λ j l u. h j (omega arith) (omega arith)))
 
-pub thread-reads : (s : Shape) (b b′ : List ℕ) (at : ℕ) → ((j : ℕ) → at ≤ j → j < at + threadSize → word b′ j ≡ word b j)
-    → threadReadable s b′ at ≡ threadReadable s b at
-unfolding threadReadable
-thread-reads s b b′ at h =
+pub thread-reads : {w : ℕ} → Width w → (s : Shape) (b b′ : List ℕ) (at : ℕ)
+    → ((j : ℕ) → at ≤ j → j < at + threadSize w → word b′ j ≡ word b j) → threadReadable w s b′ at ≡ threadReadable w s b at
+unfolding threadPasses
+thread-reads {w} wide s b b′ at h =
+    let long : length (threadMaxima w s) ≡ threadSize w = maxima-long wide s in
     rw (
-      bounded-reads b b′ (threadMaxima s) at h,
+      bounded-reads b b′ (threadMaxima w s) at (λ j l u. h j l (omega (arith, u, long))),
       h (at + triesWord) (omega arith) (omega arith),
       h (at + placeWord) (omega arith) (omega arith),
       h (at + waitingWord) (omega arith) (omega arith),
@@ -520,51 +611,54 @@ thread-reads s b b′ at h =
     refl
 
 -- What a store to a frame's parts keeps: the fields stay in range, the bytes are as many, and those outside the parts are the same.
-pub record Keeps (f : Frame) (b b′ : List ℕ) : Type 0 where
-  pub good : Good f b′
+pub record KeepsOfWidth (w : ℕ) (f : Frame) (b b′ : List ℕ) : Type 0 where
+  pub good : GoodOfWidth w f b′
   pub long : length b′ ≡ length b
   pub outside : (j : ℕ) → OutsideParts f j → word b′ j ≡ word b j
 
-pub keeps-same : {f : Frame} {b : List ℕ} → Good f b → Keeps f b b
+abbrev pub Keeps : Frame → List ℕ → List ℕ → Type 0
+Keeps f b b′ = KeepsOfWidth counterSize f b b′
+
+pub keeps-same : {w : ℕ} {f : Frame} {b : List ℕ} → GoodOfWidth w f b → KeepsOfWidth w f b b
 keeps-same g = record { good = g; long = refl; outside = λ j o. refl }
 
-pub keeps-more : {f : Frame} {b b′ b″ : List ℕ} → Keeps f b b′ → Keeps f b′ b″ → Keeps f b b″
+pub keeps-more : {w : ℕ} {f : Frame} {b b′ b″ : List ℕ} → KeepsOfWidth w f b b′ → KeepsOfWidth w f b′ b″ → KeepsOfWidth w f b b″
 keeps-more k l = record { good = l .good; long = l .long ∙ k .long; outside = λ j o. l .outside j o ∙ k .outside j o }
 
 -- the threads' records pass where their words stay
-pub threads-pass : (f : Frame) (b b′ : List ℕ) → Good f b → Kept (threadsOf f) b b′
-    → (i : ℕ) → i < f .shape .threads → threadReadable (f .shape) b′ (f .threads + f .stride * i) ≡ true
+pub threads-pass : {w : ℕ} (f : Frame) (b b′ : List ℕ) → GoodOfWidth w f b → Kept (threadsOf f) b b′
+    → (i : ℕ) → i < f .shape .threads → threadReadable (f .width) (f .shape) b′ (f .threads + f .stride * i) ≡ true
 threads-pass f b b′ g h i l =
     let within = record-within (threadsOf f) i l in
-    thread-reads (f .shape) b b′ (f .threads + f .stride * i)
+    thread-reads (g .framed .width) (f .shape) b b′ (f .threads + f .stride * i)
     (λ j lo hi. h j (omega (arith, lo)) (omega (arith, hi, within, g .framed .stride)))
     ∙ g .threads i l
 
 -- Bytes `after` that change the words of thread t's record alone, and in which that passes.
-module _ (f : Frame) (b : List ℕ) (g : Good f b) (t : ℕ) (l : 1 ≤ t) (u : t ≤ f .shape .threads) (after : List ℕ)
+module _ {w : ℕ} (f : Frame) (b : List ℕ) (g : GoodOfWidth w f b) (t : ℕ) (l : 1 ≤ t) (u : t ≤ f .shape .threads) (after : List ℕ)
     (long : length after ≡ length b) (shared : sharedIn f after ≡ sharedIn f b)
-    (only : (j : ℕ) → Outside (entry (threadsOf f) t) threadSize j → word after j ≡ word b j)
-    (passes : threadReadable (f .shape) after (entry (threadsOf f) t) ≡ true) where
+    (only : (j : ℕ) → Outside (entry (threadsOf f) t) (threadSize (f .width)) j → word after j ≡ word b j)
+    (passes : threadReadable (f .width) (f .shape) after (entry (threadsOf f) t) ≡ true) where
   other-passes : (i : ℕ) → (suc i ≡ t → ⊥)
-      → threadReadable (f .shape) after (f .threads + f .stride * i) ≡ threadReadable (f .shape) b (f .threads + f .stride * i)
+      → threadReadable (f .width) (f .shape) after (f .threads + f .stride * i) ≡ threadReadable (f .width) (f .shape) b (f .threads + f .stride * i)
   other-passes i n =
       let e : suc i - 1 ≡ i = omega arith in
-      thread-reads (f .shape) b after (f .threads + f .stride * i) λ j lo hi.
+      thread-reads (g .framed .width) (f .shape) b after (f .threads + f .stride * i) λ j lo hi.
       only j
-      (records-outside (threadsOf f) (suc i) t threadSize (omega arith) l n (g .framed .stride) j
-      (subst (λ k. f .threads + f .stride * k ≤ j) (sym e) lo) (subst (λ k. j < f .threads + f .stride * k + threadSize) (sym e) hi))
+      (records-outside (threadsOf f) (suc i) t (threadSize (f .width)) (omega arith) l n (g .framed .stride) j
+      (subst (λ k. f .threads + f .stride * k ≤ j) (sym e) lo) (subst (λ k. j < f .threads + f .stride * k + threadSize (f .width)) (sym e) hi))
 
-  all-pass : (i : ℕ) → i < f .shape .threads → Dec (suc i ≡ t) → threadReadable (f .shape) after (f .threads + f .stride * i) ≡ true
+  all-pass : (i : ℕ) → i < f .shape .threads → Dec (suc i ≡ t) → threadReadable (f .width) (f .shape) after (f .threads + f .stride * i) ≡ true
   all-pass i h (yes e) =
       let k : t - 1 ≡ i = omega arith in
-      subst (λ x. threadReadable (f .shape) after (f .threads + f .stride * x) ≡ true) k passes
+      subst (λ x. threadReadable (f .width) (f .shape) after (f .threads + f .stride * x) ≡ true) k passes
   all-pass i h (no n) = other-passes i n ∙ g .threads i h
 
-  keeps-record : Keeps f b after
+  keeps-record : KeepsOfWidth w f b after
   keeps-record =
       record {
         good =
-            make-good f after (g .range) (subst (Framed f) (sym long) (g .framed)) (subst (SharedGood (f .shape)) (sym shared) (good-shared f b g))
+            make-good f after (g .width) (g .range) (subst (Framed f) (sym long) (g .framed)) (subst (SharedGood w (f .shape)) (sym shared) (good-shared f b g))
             (λ i h. all-pass i h (ℕ-discrete (suc i) t));
         long = long;
         outside = λ j o.
@@ -573,8 +667,8 @@ module _ (f : Frame) (b : List ℕ) (g : Good f b) (t : ℕ) (l : 1 ≤ t) (u : 
       }
 
 -- Storing a thread's record in range.
-module _ (f : Frame) (b : List ℕ) (g : Good f b) (t : ℕ) (l : 1 ≤ t) (u : t ≤ f .shape .threads) (v : Thread)
-    (gv : ThreadGood (f .shape) v) where
+module _ {w : ℕ} (f : Frame) (b : List ℕ) (g : GoodOfWidth w f b) (t : ℕ) (l : 1 ≤ t) (u : t ≤ f .shape .threads) (v : Thread)
+    (gv : ThreadGood w (f .shape) v) where
   abbrev s : Shape
   s = f .shape
 
@@ -584,18 +678,25 @@ module _ (f : Frame) (b : List ℕ) (g : Good f b) (t : ℕ) (l : 1 ≤ t) (u : 
   abbrev after : List ℕ
   after = setThreadIn f b t v
 
-  stored-word : (i : ℕ) → i < threadSize → word after (at + i) ≡ getD (threadWords v) i 0
-  stored-word i h = thread-stored-words f b (g .framed) t i v l u (thread-fit s (g .range) v gv) h
+  abbrev ms : List ℕ
+  ms = threadMaxima (f .width) s
 
-  stored-passes : threadReadable s after at ≡ true
-  unfolding threadReadable
+  -- the record, by the frame's own width
+  here : ThreadGood (f .width) s v
+  here = subst (λ x. ThreadGood x s v) (sym (g .width)) gv
+
+  stored-word : (i : ℕ) → i < threadSize (f .width) → word after (at + i) ≡ getD (threadWords (f .width) v) i 0
+  stored-word i h = thread-stored-words f b (g .framed) t i v l u (thread-fit s (g .range) v here) h
+
+  stored-passes : threadReadable (f .width) s after at ≡ true
+  unfolding threadPasses
   stored-passes =
       let place = sym (stored-word placeWord (omega arith)) in
       and-both
       (and-both
-      (bounded-all after (threadMaxima s) at λ i h.
-      subst (λ x. x ≤ getD (threadMaxima s) i 0) (sym (stored-word i h))
-      (all-at (threadWords v) (threadMaxima s) i (thread-le s (g .range) v gv)))
+      (bounded-all after ms at λ i h.
+      subst (λ x. x ≤ getD ms i 0) (sym (stored-word i (subst (λ n. i < n) (maxima-long (g .framed .width) s) h)))
+      (all-at (threadWords (f .width) v) ms i (thread-le s (g .range) v here (g .framed .width))))
       (le-leb _ _
       (subst₂ (λ x y. x ≤ greatestTries s y) (sym (stored-word triesWord (omega arith))) place
       (tries-rule s v (v .place) (gv .fields .tries) (gv .place)))))
@@ -603,7 +704,7 @@ module _ (f : Frame) (b : List ℕ) (g : Good f b) (t : ℕ) (l : 1 ≤ t) (u : 
       (subst₃ (λ x y z. x ≤ greatestWaiting y z) (sym (stored-word waitingWord (omega arith))) place
       (sym (stored-word nodeWord (omega arith))) (waiting-rule s v (v .place) (gv .place))))
 
-  pub keeps-setThread : Keeps f b after
+  pub keeps-setThread : KeepsOfWidth w f b after
   keeps-setThread =
       keeps-record f b g t l u after (length-setThreadIn f b t v) (shared-setThread f b (g .framed) t v)
       (λ j o. word-setThread f b (g .framed) t j v o) stored-passes
@@ -621,20 +722,20 @@ and-instead x y a c h e =
     let left = and-left (x && a) c e in
     and-both (and-both (h (and-left x a left)) (and-right x a left)) (and-right (x && a) c e)
 
-first-passes : (s : Shape) (b b′ : List ℕ) (at : ℕ) → ((j : ℕ) → (j ≡ at → ⊥) → word b′ j ≡ word b j) → word b′ at ≤ greatestPermission
-    → threadReadable s b at ≡ true → threadReadable s b′ at ≡ true
-unfolding threadReadable
-first-passes s b b′ at same first h =
+first-passes : (w : ℕ) (s : Shape) (b b′ : List ℕ) (at : ℕ) → ((j : ℕ) → (j ≡ at → ⊥) → word b′ j ≡ word b j) → word b′ at ≤ greatestPermission
+    → threadReadable w s b at ≡ true → threadReadable w s b′ at ≡ true
+unfolding threadPasses
+first-passes w s b b′ at same first h =
     rw (
       same (at + triesWord) (λ e. omega arith),
       same (at + placeWord) (λ e. omega arith),
       same (at + waitingWord) (λ e. omega arith),
       same (at + nodeWord) (λ e. omega arith),
     )
-    (and-instead (bounded b at (threadMaxima s)) (bounded b′ at (threadMaxima s)) _ _ (first-bounded b b′ at greatestPermission (drop 1 (threadMaxima s)) same first) h)
+    (and-instead (bounded b at (threadMaxima w s)) (bounded b′ at (threadMaxima w s)) _ _ (first-bounded b b′ at greatestPermission (drop 1 (threadMaxima w s)) same first) h)
 
-pub keeps-setPermission : (f : Frame) (b : List ℕ) → Good f b → (t p : ℕ) → 1 ≤ t → t ≤ f .shape .threads → p ≤ greatestPermission
-    → Keeps f b (setPermissionIn f b t p)
+pub keeps-setPermission : {w : ℕ} (f : Frame) (b : List ℕ) → GoodOfWidth w f b → (t p : ℕ) → 1 ≤ t → t ≤ f .shape .threads → p ≤ greatestPermission
+    → KeepsOfWidth w f b (setPermissionIn f b t p)
 keeps-setPermission f b g t p l u few =
     let at = entry (threadsOf f) t in
     let after = setPermissionIn f b t p in
@@ -645,22 +746,22 @@ keeps-setPermission f b g t p l u few =
     in
     keeps-record f b g t l u after (length-setPermissionIn f b t p) (shared-setPermission f b (g .framed) t p l u)
     (λ j o. word-setPermission f b t j p (λ e. ⊎-elim (λ h. omega arith) (λ h. omega arith) o))
-    (first-passes (f .shape) b after at (λ j n. word-setPermission f b t j p n) (subst (λ x. x ≤ greatestPermission) (sym stored) few)
+    (first-passes (f .width) (f .shape) b after at (λ j n. word-setPermission f b t j p n) (subst (λ x. x ≤ greatestPermission) (sym stored) few)
     (g .threads (t - 1) (omega arith)))
 
 -- The readable region of one queue: its shape and length stay, since the first words lie outside the parts, and so it stays readable.
-head-outside : (s : Shape) (k : ℕ) → k < 4 → OutsideParts (frameOf s) k
-unfolding frameOf
-head-outside s k h =
+head-outside : (w : ℕ) (s : Shape) (k : ℕ) → k < 4 → OutsideParts (frameOfWidth w s) k
+unfolding frameOfWidth
+head-outside w s k h =
     record {
       shared = record { depth = inl h; free = inl (omega arith); nodes = inl (omega arith); cells = inl (omega arith) };
       threads = inl (omega arith);
     }
 
-module _ (b b′ : List ℕ) (e : readable b ≡ true) (k : Keeps (frameIn b) b b′) where
-  pub shape-kept : shapeIn b′ ≡ shapeIn b
-  shape-kept =
-      let h : (j : ℕ) → j < 4 → word b′ j ≡ word b j = λ j l. k .outside j (head-outside (shapeIn b) j l) in
+module _ {w : ℕ} (wide : Width w) (b b′ : List ℕ) (e : readableOfWidth w b ≡ true) (k : KeepsOfWidth w (frameOfWidth w (shapeIn b)) b b′) where
+  pub shape-stays : shapeIn b′ ≡ shapeIn b
+  shape-stays =
+      let h : (j : ℕ) → j < 4 → word b′ j ≡ word b j = λ j l. k .outside j (head-outside w (shapeIn b) j l) in
       λ i. record {
         depth = h 0 (omega arith) i;
         cells = h 1 (omega arith) i;
@@ -668,5 +769,12 @@ module _ (b b′ : List ℕ) (e : readable b ≡ true) (k : Keeps (frameIn b) b 
         threshold = h 3 (omega arith) i;
       }
 
+  pub stays-readable : readableOfWidth w b′ ≡ true
+  stays-readable = readable-good (shapeIn b) b′ shape-stays (k .long ∙ length-of-width wide b e) (k .good)
+
+module _ (b b′ : List ℕ) (e : readable b ≡ true) (k : Keeps (frameIn b) b b′) where
+  pub shape-kept : shapeIn b′ ≡ shapeIn b
+  shape-kept = shape-stays two-words b b′ e k
+
   pub readable-kept : readable b′ ≡ true
-  readable-kept = readable-good (shapeIn b) b′ shape-kept (k .long ∙ readable-length b e) (k .good)
+  readable-kept = stays-readable two-words b b′ e k

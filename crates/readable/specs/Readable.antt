@@ -7,12 +7,12 @@ use lib.Dec.{leb, eqb}
 use lib.ListN.{length, set}
 use Rattle.words.specs.Word.{word}
 use Rattle.region.specs.Answer.{done, unreadable, _unless_otherwise_}
-use Rattle.region.specs.Frame.{frameOf}
+use Rattle.region.specs.Frame.{frameOf, frameOfWidth}
 use Rattle.region.specs.Level.{level}
 use Rattle.region.specs.Pick.{pick}
 use Rattle.region.specs.Place.{placeNumber}
-use Rattle.region.specs.Record.{nodeSize, cellSize, nodeWords, cellWords, greatestCounter, greatestTag}
-use Rattle.region.specs.Shape.{between, shapeFits, nodeCount, regionWords}
+use Rattle.region.specs.Record.{counterSize, nodeSize, cellSize, nodeWords, cellWords, greatestTag}
+use Rattle.region.specs.Shape.{between, shapeFits, nodeCount, regionWordsOfWidth}
 use Rattle.region.specs.Thread.{threadWords, greatestPermission, placeWord, triesWord, nodeWord, waitingWord}
 use Rattle.region.specs.declared.frame.Frame.{Frame}
 use Rattle.region.specs.declared.place.Place.the-variants.{ReadLeaf, MendReadNode, MendClean, HandOut}
@@ -23,13 +23,13 @@ use Rattle.region.specs.declared.record.NodeCopy.{NodeCopy}
 use Rattle.region.specs.declared.shape.Shape.{Shape}
 use Rattle.region.specs.declared.thread.Thread.{Thread}
 
--- "Counters and keys are free.": a counter's greatest value is its last, a key's any word
+-- "Counters and keys are free.": any word
 abbrev pub anyWord : ℕ
 anyWord = 4294967295
 
 -- The greatest value of each field, by its name. "cell 0..C", "dirty .. 0 or 1", "tags in range":
 abbrev pub greatestNode : ℕ → Node
-greatestNode cells = record { first = cells; dirty = 1; counter = greatestCounter }
+greatestNode cells = record { first = cells; dirty = 1; low = anyWord; high = anyWord }
 
 abbrev pub greatestItem : Item
 greatestItem = record { key = anyWord; tag = greatestTag }
@@ -62,16 +62,16 @@ greatestThread s =
       copies = record { first = greatestCopy (s .cells); second = greatestCopy (s .cells); third = greatestCopy (s .cells) };
     }
 
--- the same word by word, in the order of the words
-abbrev pub nodeMaxima : ℕ → List ℕ
-nodeMaxima cells = nodeWords (greatestNode cells)
+-- the same word by word, in the order of the words; w is the words of a counter
+abbrev pub nodeMaxima : ℕ → ℕ → List ℕ
+nodeMaxima w cells = nodeWords w (greatestNode cells)
 
 abbrev pub cellMaxima : ℕ → List ℕ
 cellMaxima cells = cellWords (greatestCell cells)
 
 -- "place 0..16", with request 1 0..19: the place of the greatest number carries no waiting levels, so its number is written over M6's
-abbrev pub threadMaxima : Shape → List ℕ
-threadMaxima s = set (threadWords (greatestThread s)) placeWord (placeNumber HandOut)
+abbrev pub threadMaxima : ℕ → Shape → List ℕ
+threadMaxima w s = set (threadWords w (greatestThread s)) placeWord (placeNumber HandOut)
 
 -- "and below H at I2"
 unfoldable pub greatestTries : Shape → ℕ → ℕ
@@ -89,19 +89,22 @@ bounded b at [] = true
 bounded b at (m ∷ ms) = leb (word b at) m && bounded b (suc at) ms
 
 -- the node and the cell at word `at`, in a region with this number of cells
-abbrev pub nodeReadable : ℕ → List ℕ → ℕ → Bool
-nodeReadable cells b at = bounded b at (nodeMaxima cells)
+abbrev pub nodeReadable : ℕ → ℕ → List ℕ → ℕ → Bool
+nodeReadable w cells b at = bounded b at (nodeMaxima w cells)
 
 abbrev pub cellReadable : ℕ → List ℕ → ℕ → Bool
 cellReadable cells b at = bounded b at (cellMaxima cells)
 
--- the thread's record at word `at`: each word alone, then tries by the place, and waiting levels by place and node
-unfoldable pub threadReadable : Shape → List ℕ → ℕ → Bool
+-- the thread's record at word `at`: each word alone, then tries by the place, and waiting levels by place and node; ms are its words' maxima
+unfoldable pub threadPasses : List ℕ → Shape → List ℕ → ℕ → Bool
 unfolding bounded greatestTries greatestWaiting
-threadReadable s b at =
-    bounded b at (threadMaxima s)
+threadPasses ms s b at =
+    bounded b at ms
     && leb (word b (at + triesWord)) (greatestTries s (word b (at + placeWord)))
     && leb (word b (at + waitingWord)) (greatestWaiting (word b (at + placeWord)) (word b (at + nodeWord)))
+
+abbrev pub threadReadable : ℕ → Shape → List ℕ → ℕ → Bool
+threadReadable w s b at = threadPasses (threadMaxima w s) s b at
 
 -- n records from word `at` on, `stride` words from one to the next, all pass the test
 unfoldable pub allRecords : (List ℕ → ℕ → Bool) → ℕ → List ℕ → ℕ → ℕ → Bool
@@ -114,13 +117,13 @@ unfolding bounded allRecords
 treeReadable f b =
     between 1 (word b (f .depth)) (f .shape .depth)
     && leb (word b (f .free)) (f .shape .cells)
-    && allRecords (nodeReadable (f .shape .cells)) nodeSize b (f .nodes) (nodeCount (f .shape))
+    && allRecords (nodeReadable (f .width) (f .shape .cells)) (nodeSize (f .width)) b (f .nodes) (nodeCount (f .shape))
     && allRecords (cellReadable (f .shape .cells)) cellSize b (f .cells) (f .shape .cells)
 
 -- every field of a frame's parts is in range
 unfoldable pub fieldsReadable : Frame → List ℕ → Bool
-unfolding treeReadable threadReadable allRecords
-fieldsReadable f b = treeReadable f b && allRecords (threadReadable (f .shape)) (f .stride) b (f .threads) (f .shape .threads)
+unfolding treeReadable threadPasses allRecords
+fieldsReadable f b = treeReadable f b && allRecords (threadReadable (f .width) (f .shape)) (f .stride) b (f .threads) (f .shape .threads)
 
 -- the shape that the first words give, and the frame of a region that holds one queue of that shape
 abbrev pub shapeIn : List ℕ → Shape
@@ -129,15 +132,22 @@ shapeIn b = record { depth = word b 0; cells = word b 1; threads = word b 2; thr
 abbrev pub frameIn : List ℕ → Frame
 frameIn b = frameOf (shapeIn b)
 
--- the first words are a shape in range, and the length is that of a region of this shape
-abbrev pub isWhole : List ℕ → Bool
-isWhole b = shapeFits (shapeIn b) && eqb (length b) (4 * regionWords (shapeIn b))
+-- the first words are a shape in range, and the length is that of a region of this shape whose counters have w words
+abbrev pub isWholeOfWidth : ℕ → List ℕ → Bool
+isWholeOfWidth w b = shapeFits (shapeIn b) && eqb (length b) (4 * regionWordsOfWidth w (shapeIn b))
 
-unfoldable pub readable : List ℕ → Bool
+unfoldable pub readableOfWidth : ℕ → List ℕ → Bool
 unfolding fieldsReadable
-readable b = isWhole b && fieldsReadable (frameIn b) b
+readableOfWidth w b = isWholeOfWidth w b && fieldsReadable (frameOfWidth w (shapeIn b)) b
+
+-- counters have two words (document 02, request 7)
+abbrev pub isWhole : List ℕ → Bool
+isWhole b = isWholeOfWidth counterSize b
+
+abbrev pub readable : List ℕ → Bool
+readable b = readableOfWidth counterSize b
 
 -- "Check answers yes or 7."
 unfoldable pub checkAnswer : List ℕ → ℕ
-unfolding readable
+unfolding readableOfWidth
 checkAnswer b = unreadable unless readable b otherwise done

@@ -4,11 +4,15 @@ ghost use Prim.Native.Nat.{_+_, _*_, _≤_};
 ghost use lib.ListN.{length};
 ghost use mathlib.Core.Bool.{true};
 ghost use mathlib.Core.List.{[], _∷_};
-ghost use Rattle.region.specs.Inner.{Within, InRange};
-ghost use Rattle.readable.specs.Readable.{bounded, threadMaxima, greatestTries, greatestWaiting, threadReadable, allRecords, treeReadable, shapeIn, frameIn, fieldsReadable, isWhole, readable, checkAnswer};
-ghost use Rattle.readable.specs.Inner.{FrameWithin, ThreadWithin, ThreadsWithin};
+ghost use Rattle.region.specs.Inner.{InRange};
+ghost use Rattle.region.specs.Record.{counterSize, nodeSize};
+ghost use Rattle.region.specs.Shape.{nodeCount};
+ghost use Rattle.readable.specs.Readable.{bounded, threadMaxima, greatestTries, greatestWaiting, nodeReadable, threadPasses, allRecords, treeReadable, shapeIn, frameIn, fieldsReadable, isWhole, readable, checkAnswer};
+ghost use Rattle.readable.specs.Inner.{ThreadWithin, ThreadsWithin, WideWithin};
+use region::CELL_SIZE;
 use region::DONE;
 use region::Frame;
+use region::NODE_SIZE;
 use region::Shape;
 use region::UNREADABLE;
 use words::load_word;
@@ -33,10 +37,19 @@ fn record_bounded(b: &[u8], at: usize, x: u32, y: u32, z: u32) -> bool
     load_word(b, at + 2) <= z
 }
 
-// Records of three words, each at most its maximum; two in a pass of the loop, which halves the passes.
-fn records_bounded(b: &[u8], at: usize, count: usize, x: u32, y: u32, z: u32) -> bool
-    requires { ⌜ 4 * (at + 3 * count) ≤ length (now b) ⌝ }
-    ensures { λ r. ⌜ r ≡ allRecords (λ l k. bounded l k (x ∷ y ∷ z ∷ [])) 3 (now (b .entry)) at count ⌝ }
+// Records, `stride` words from one to the next, whose first three words are each at most their maximum; two in a pass of the loop, which
+// halves the passes.
+pub fn records_bounded(
+    b: &[u8],
+    at: usize,
+    count: usize,
+    stride: usize,
+    x: u32,
+    y: u32,
+    z: u32,
+) -> bool
+    requires { ⌜ (4 * (at + stride * count) ≤ length (now b)) × (3 ≤ stride) ⌝ }
+    ensures { λ r. ⌜ r ≡ allRecords (λ l k. bounded l k (x ∷ y ∷ z ∷ [])) stride (now (b .entry)) at count ⌝ }
 {
     let mut k = at;
     let mut left = count;
@@ -44,10 +57,10 @@ fn records_bounded(b: &[u8], at: usize, count: usize, x: u32, y: u32, z: u32) ->
         if !record_bounded(b, k, x, y, z) {
             return false;
         }
-        if !record_bounded(b, k + 3, x, y, z) {
+        if !record_bounded(b, k + stride, x, y, z) {
             return false;
         }
-        k += 6;
+        k += stride + stride;
         left -= 2;
     }
     if left == 0 {
@@ -97,10 +110,10 @@ fn greatest_waiting(place: u32, node: u32) -> u32
     (1 << (level - 1)) - 1
 }
 
-// The thread's record at word `at`, with the maxima of its words by the shape.
-fn thread_readable(b: &[u8], at: usize, shape: Shape, maxima: &[u32]) -> bool
-    requires { ⌜ ThreadWithin shape (now b) at (now maxima) ⌝ }
-    ensures { λ r. ⌜ r ≡ threadReadable shape (now (b .entry)) at ⌝ }
+// The thread's record at word `at`, with the maxima of its words.
+pub fn thread_readable(b: &[u8], at: usize, shape: Shape, maxima: &[u32]) -> bool
+    requires { ⌜ ThreadWithin shape (length (now b)) at (length (now maxima)) ⌝ }
+    ensures { λ r. ⌜ r ≡ threadPasses (now (maxima .entry)) shape (now (b .entry)) at ⌝ }
 {
     if !words_bounded(b, at, maxima) {
         return false;
@@ -112,10 +125,10 @@ fn thread_readable(b: &[u8], at: usize, shape: Shape, maxima: &[u32]) -> bool
     load_word(b, at + 11) <= greatest_waiting(place, load_word(b, at + 10))
 }
 
-// The threads' records.
+// The threads' records. From one to the next there are as many words as there are maxima, a number that the compiler knows.
 fn threads_readable(b: &[u8], frame: Frame, maxima: &[u32]) -> bool
-    requires { ⌜ ThreadsWithin frame (now b) (now maxima) ⌝ }
-    ensures { λ r. ⌜ r ≡ allRecords (threadReadable (frame .shape)) (frame .stride) (now (b .entry)) (frame .threads) (frame .shape .threads) ⌝ }
+    requires { ⌜ ThreadsWithin frame (length (now b)) (length (now maxima)) ⌝ }
+    ensures { λ r. ⌜ r ≡ allRecords (threadPasses (now (maxima .entry)) (frame .shape)) (frame .stride) (now (b .entry)) (frame .threads) (frame .shape .threads) ⌝ }
 {
     let shape = frame.shape;
     let mut k = frame.threads;
@@ -124,16 +137,16 @@ fn threads_readable(b: &[u8], frame: Frame, maxima: &[u32]) -> bool
         if !thread_readable(b, k, shape, maxima) {
             return false;
         }
-        k += frame.stride;
+        k += maxima.len();
         left -= 1;
     }
     true
 }
 
 // The greatest value of each word of a thread's record.
-fn thread_maxima(shape: Shape) -> [u32; 33]
+fn thread_maxima(shape: Shape) -> [u32; 36]
     requires { ⌜ InRange shape ⌝ }
-    ensures { λ r. ⌜ r ≡ threadMaxima shape ⌝ }
+    ensures { λ r. ⌜ r ≡ threadMaxima counterSize shape ⌝ }
 {
     let nodes = shape.node_count() as u32;
     let c = shape.cells;
@@ -158,16 +171,19 @@ fn thread_maxima(shape: Shape) -> [u32; 33]
         1,
         ANY_WORD,
         ANY_WORD,
+        ANY_WORD,
         GREATEST_TAG,
         c,
         c,
         1,
         ANY_WORD,
         ANY_WORD,
+        ANY_WORD,
         GREATEST_TAG,
         c,
         c,
         1,
+        ANY_WORD,
         ANY_WORD,
         ANY_WORD,
         GREATEST_TAG,
@@ -175,26 +191,44 @@ fn thread_maxima(shape: Shape) -> [u32; 33]
     ]
 }
 
+// The nodes. Any counter passes.
+fn nodes_readable(b: &[u8], frame: Frame) -> bool
+    requires { ⌜ WideWithin frame (length (now b)) ⌝ }
+    ensures { λ r. ⌜ r ≡ allRecords (nodeReadable (frame .width) (frame .shape .cells)) (nodeSize (frame .width)) (now (b .entry)) (frame .nodes) (nodeCount (frame .shape)) ⌝ }
+{
+    let shape = frame.shape;
+    records_bounded(
+        b,
+        frame.nodes,
+        shape.node_count(),
+        NODE_SIZE,
+        shape.cells,
+        1,
+        ANY_WORD,
+    )
+}
+
 // The present depth, the first free cell, the nodes and the cells.
 fn tree_readable(b: &[u8], frame: Frame) -> bool
-    requires { ⌜ Within frame (length (now b)) ⌝ }
+    requires { ⌜ WideWithin frame (length (now b)) ⌝ }
     ensures { λ r. ⌜ r ≡ treeReadable frame (now (b .entry)) ⌝ }
 {
     let shape = frame.shape;
-    if !region::is_between(1, frame.load_depth(b), shape.depth) {
+    if !region::is_between(1, load_word(b, frame.depth), shape.depth) {
         return false;
     }
-    if shape.cells < frame.load_free(b) {
+    if shape.cells < load_word(b, frame.free) {
         return false;
     }
     let cells = shape.cells;
-    if !records_bounded(b, frame.nodes, shape.node_count(), cells, 1, ANY_WORD) {
+    if !nodes_readable(b, frame) {
         return false;
     }
     records_bounded(
         b,
         frame.cells,
         cells as usize,
+        CELL_SIZE,
         ANY_WORD,
         GREATEST_TAG,
         cells,
@@ -203,7 +237,7 @@ fn tree_readable(b: &[u8], frame: Frame) -> bool
 
 // Every field of the frame's parts.
 fn fields_readable(b: &[u8], frame: Frame) -> bool
-    requires { ⌜ FrameWithin frame (length (now b)) ⌝ }
+    requires { ⌜ WideWithin frame (length (now b)) ⌝ }
     ensures { λ r. ⌜ r ≡ fieldsReadable frame (now (b .entry)) ⌝ }
 {
     if !tree_readable(b, frame) {
@@ -215,7 +249,7 @@ fn fields_readable(b: &[u8], frame: Frame) -> bool
 }
 
 // The shape that the first words give.
-fn load_shape(b: &[u8]) -> Shape
+pub fn load_shape(b: &[u8]) -> Shape
     requires { ⌜ 16 ≤ length (now b) ⌝ }
     ensures { λ r. ⌜ r ≡ shapeIn (now (b .entry)) ⌝ }
 {

@@ -7,7 +7,7 @@ use mathlib.Core.Bool.{Bool, true, false, not, _&&_, true≢false}
 use borrow.Author.Tests.{leb-true, le-leb, lt-leb, not-true, not-false}
 use lib.Dec.{leb}
 use lib.Pow.{pow-mono, pow-pos, pow-lt}
-use Rattle.region.specs.Shape.{between, shapeFits, regionWords}
+use Rattle.region.specs.Shape.{between, shapeFits, regionWords, regionWordsOfWidth}
 use Rattle.region.specs.Inner.{InRange}
 use Rattle.region.specs.declared.shape.Shape.{Shape}
 
@@ -137,9 +137,9 @@ module _ (s : Shape) (d : Bool) (ed : d ≡ between 1 (s .depth) 12) where
         unfolding shapeFits
         last-test gt h eh = rw (← ed, not-false d gd, ← cells-test, not-false c gc, ← et, not-false t gt) eh
 
--- The largest region has 20,547 words.
-pub words-most : (s : Shape) → InRange s → regionWords s ≤ 20547
-unfolding regionWords
+-- The largest region has 24,834 words.
+pub words-most : (s : Shape) → InRange s → regionWords s ≤ 24834
+unfolding regionWordsOfWidth
 words-most s r = omega (arith, sizes s (r .depth-most))
 
 -- What the code knows of a shape that has passed the test.
@@ -147,5 +147,5 @@ module _ (s : Shape) (q : Bool) (eq : q ≡ shapeFits s) (gq : not q ≡ false) 
   pub shape-in-range : InRange s
   shape-in-range = in-range s (sym eq ∙ not-false q gq)
 
-  pub few-words : (w : ℕ) → w ≡ regionWords s → w ≤ 20547
+  pub few-words : (w : ℕ) → w ≡ regionWords s → w ≤ 24834
   few-words w ew = omega (arith, words-most s shape-in-range)

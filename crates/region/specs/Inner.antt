@@ -1,9 +1,14 @@
 -- What only the contracts of inner functions and the proofs need. A reader of the result may skip this file.
 use Prim.Native.Nat.{ℕ, _+_, _-_, _*_, _^_, _≤_}
+use mathlib.Core.Path.{_≡_}
+use Rattle.words.specs.Inner.{Fit}
+use Rattle.region.specs.declared.record.Node.{Node}
+use Rattle.region.specs.declared.record.NodeCopy.{NodeCopy}
 use Rattle.region.specs.declared.shape.Shape.{Shape}
-use Rattle.region.specs.Record.{nodeSize, cellSize}
+use Rattle.region.specs.declared.thread.Thread.{Thread}
+use Rattle.region.specs.Record.{cellSize, cellWords, counterSize, nodeSize, nodeWords}
 use Rattle.region.specs.Shape.{nodeCount}
-use Rattle.region.specs.Thread.{threadSize}
+use Rattle.region.specs.Thread.{fieldWords, threadSize}
 use Rattle.region.specs.declared.frame.Frame.{Frame}
 use Rattle.region.specs.Frame.{Part, cellsOf, nodesOf, threadsOf}
 
@@ -29,15 +34,17 @@ depthOf f = record { start = f .depth; stride = 1; count = 1 }
 abbrev pub freeOf : Frame → Part
 freeOf f = record { start = f .free; stride = 1; count = 1 }
 
--- what the code requires: each part of the frame ends within l bytes, a thread's record within its stride, and 2^D is no more than 4,096
+-- what the code requires: counters have two words, each part of the frame ends within l bytes, a thread's record within its stride, and 2^D is
+-- no more than 4,096
 pub record Within (f : Frame) (l : ℕ) : Type 0 where
+  pub width : f .width ≡ counterSize
   pub deep : f .shape .depth ≤ 12
   pub depth : 4 * f .depth + 4 ≤ l
   pub free : 4 * f .free + 4 ≤ l
-  pub nodes : 4 * (f .nodes + nodeSize * nodeCount (f .shape)) ≤ l
+  pub nodes : 4 * (f .nodes + nodeSize counterSize * nodeCount (f .shape)) ≤ l
   pub cells : 4 * (f .cells + cellSize * f .shape .cells) ≤ l
   pub threads : 4 * (f .threads + f .stride * f .shape .threads) ≤ l
-  pub stride : threadSize ≤ f .stride
+  pub stride : threadSize counterSize ≤ f .stride
 
 -- one part ends before the other starts
 pub data Apart (p q : Part) : Type 0 where
@@ -61,13 +68,38 @@ pub record Parted (f : Frame) : Type 0 where
 abbrev pub EndsIn : Part → ℕ → Type 0
 EndsIn p l = 4 * (p .start + partSize p) ≤ l
 
--- what the laws suppose of a frame over l bytes: each part ends within them and lies apart from the others, and a thread's record ends within
--- its stride
+-- the words that a counter can have
+pub data Width : ℕ → Type 0 where
+  one-word : Width 1
+  two-words : Width 2
+
+-- the greatest high word of a counter of w words
+abbrev pub greatestHigh : ℕ → ℕ
+greatestHigh w = 4294967295 * (w - 1)
+
+-- a node, a node copy and a thread's record that can be stored where counters have w words
+pub record NodeFits (w : ℕ) (n : Node) : Type 0 where
+  pub words : Fit (nodeWords counterSize n)
+  pub high : n .high ≤ greatestHigh w
+
+pub record CopyFits (w : ℕ) (q : NodeCopy) : Type 0 where
+  pub node : NodeFits w (q .node)
+  pub head : Fit (cellWords (q .head))
+
+pub record ThreadFits (w : ℕ) (t : Thread) : Type 0 where
+  pub fields : Fit (fieldWords t)
+  pub first : CopyFits w (t .copies .first)
+  pub second : CopyFits w (t .copies .second)
+  pub third : CopyFits w (t .copies .third)
+
+-- what the laws suppose of a frame over l bytes: counters have one word or two, each part ends within the l bytes and lies apart from the others, and
+-- a thread's record ends within its stride
 pub record Framed (f : Frame) (l : ℕ) : Type 0 where
+  pub width : Width (f .width)
   pub depth : EndsIn (depthOf f) l
   pub free : EndsIn (freeOf f) l
   pub nodes : EndsIn (nodesOf f) l
   pub cells : EndsIn (cellsOf f) l
   pub threads : EndsIn (threadsOf f) l
-  pub stride : threadSize ≤ f .stride
+  pub stride : threadSize (f .width) ≤ f .stride
   pub apart : Parted f

@@ -2,7 +2,7 @@
 use Prim.Native.Nat.{ℕ, _+_, _-_, _*_, _^_}
 use mathlib.Core.Bool.{Bool, _&&_}
 use lib.Dec.{leb}
-use Rattle.region.specs.Record.{nodeSize, cellSize}
+use Rattle.region.specs.Record.{counterSize, nodeSize, cellSize}
 use Rattle.region.specs.Thread.{threadSize}
 use Rattle.region.specs.declared.shape.Shape.{Shape}
 
@@ -26,6 +26,10 @@ nodeCount s = 2 ^ s .depth - 1
 abbrev pub headSize : ℕ
 headSize = 6
 
--- "Length: 6 + 3 × (2^D − 1) + 3 × C + 33 × T words."
-unfoldable pub regionWords : Shape → ℕ
-regionWords s = headSize + nodeSize * nodeCount s + cellSize * s .cells + threadSize * s .threads
+-- "Length: 6 + 3 × (2^D − 1) + 3 × C + 33 × T words." of document 01, whose counters have one word; w is the words of a counter
+unfoldable pub regionWordsOfWidth : ℕ → Shape → ℕ
+regionWordsOfWidth w s = headSize + nodeSize w * nodeCount s + cellSize * s .cells + threadSize w * s .threads
+
+-- "the length is 6 + 4 × (2^D − 1) + 3 × C + 36 × T words" (document 02, request 7)
+abbrev pub regionWords : Shape → ℕ
+regionWords s = regionWordsOfWidth counterSize s

@@ -26,11 +26,11 @@ storeEntry store p b k v = pick (between 1 k (p .count)) (store b (entry p k) v)
 
 unfoldable pub nodeIn : Frame → List ℕ → ℕ → Node
 unfolding loadEntry
-nodeIn f b n = loadEntry nodeAt emptyNode (nodesOf f) b n
+nodeIn f b n = loadEntry (nodeAt (f .width)) emptyNode (nodesOf f) b n
 
 unfoldable pub setNodeIn : Frame → List ℕ → ℕ → Node → List ℕ
 unfolding storeEntry
-setNodeIn f b n v = storeEntry setNodeAt (nodesOf f) b n v
+setNodeIn f b n v = storeEntry (setNodeAt (f .width)) (nodesOf f) b n v
 
 unfoldable pub cellIn : Frame → List ℕ → ℕ → Cell
 unfolding loadEntry
@@ -42,11 +42,11 @@ setCellIn f b c v = storeEntry setCellAt (cellsOf f) b c v
 
 unfoldable pub threadIn : Frame → List ℕ → ℕ → Thread
 unfolding loadEntry
-threadIn f b t = loadEntry threadAt (idleThread 0) (threadsOf f) b t
+threadIn f b t = loadEntry (threadAt (f .width)) (idleThread 0) (threadsOf f) b t
 
 unfoldable pub setThreadIn : Frame → List ℕ → ℕ → Thread → List ℕ
 unfolding storeEntry
-setThreadIn f b t v = storeEntry setThreadAt (threadsOf f) b t v
+setThreadIn f b t v = storeEntry (setThreadAt (f .width)) (threadsOf f) b t v
 
 -- the permission is the first word of a thread's record
 unfoldable pub setPermissionIn : Frame → List ℕ → ℕ → ℕ → List ℕ

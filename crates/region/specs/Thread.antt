@@ -32,27 +32,27 @@ nodeWord = 10
 abbrev pub waitingWord : ℕ
 waitingWord = 11
 
--- the first word of each node copy, one copy behind the other
+-- the first word of each node copy, one copy behind the other; w is the words of a counter
 abbrev pub firstCopyWord : ℕ
 firstCopyWord = 15
 
-abbrev pub secondCopyWord : ℕ
-secondCopyWord = firstCopyWord + copySize
+abbrev pub secondCopyWord : ℕ → ℕ
+secondCopyWord w = firstCopyWord + copySize w
 
-abbrev pub thirdCopyWord : ℕ
-thirdCopyWord = secondCopyWord + copySize
+abbrev pub thirdCopyWord : ℕ → ℕ
+thirdCopyWord w = secondCopyWord w + copySize w
 
--- "threads of 33 words"
-abbrev pub threadSize : ℕ
-threadSize = thirdCopyWord + copySize
+-- "threads of 33 words" (document 01, w = 1); "36 × T words" (request 7, w = 2)
+abbrev pub threadSize : ℕ → ℕ
+threadSize w = thirdCopyWord w + copySize w
 
 abbrev pub searchOf : List ℕ → ℕ → ℕ → ℕ → ℕ → Search
 searchOf ws a b c d = record { leaf = getD ws a 0; tries = getD ws b 0; lo = getD ws c 0; hi = getD ws d 0 }
 
 -- "permission, place, key, tag, own cell, d, leaf, tries, lo, hi, node, waiting levels .., after .., result key, result tag,
 -- then three node copies"
-abbrev pub threadOf : List ℕ → Thread
-threadOf ws =
+abbrev pub threadOf : ℕ → List ℕ → Thread
+threadOf w ws =
     record {
       permission = getD ws 0 0;
       place = placeOf (getD ws placeWord 0) (getD ws waitingWord 0);
@@ -63,7 +63,12 @@ threadOf ws =
       node = getD ws nodeWord 0;
       after = getD ws 12 0;
       result = itemOf ws 13;
-      copies = record { first = copyOf ws firstCopyWord; second = copyOf ws secondCopyWord; third = copyOf ws thirdCopyWord };
+      copies =
+          record {
+            first = copyOf w ws firstCopyWord;
+            second = copyOf w ws (secondCopyWord w);
+            third = copyOf w ws (thirdCopyWord w);
+          };
     }
 
 -- the words before the node copies
@@ -86,15 +91,15 @@ fieldWords t =
     ∷ t .result .tag
     ∷ []
 
-abbrev pub threadWords : Thread → List ℕ
-threadWords t = fieldWords t ++ (copyWords (t .copies .first) ++ (copyWords (t .copies .second) ++ copyWords (t .copies .third)))
+abbrev pub threadWords : ℕ → Thread → List ℕ
+threadWords w t = fieldWords t ++ (copyWords w (t .copies .first) ++ (copyWords w (t .copies .second) ++ copyWords w (t .copies .third)))
 
 -- the thread's record at word `at` of the bytes b, and b with another one there
-unfoldable pub threadAt : List ℕ → ℕ → Thread
-threadAt b at = threadOf (wordsAt b at threadSize)
+unfoldable pub threadAt : ℕ → List ℕ → ℕ → Thread
+threadAt w b at = threadOf w (wordsAt b at (threadSize w))
 
-unfoldable pub setThreadAt : List ℕ → ℕ → Thread → List ℕ
-setThreadAt b at t = setWords b at (threadWords t)
+unfoldable pub setThreadAt : ℕ → List ℕ → ℕ → Thread → List ℕ
+setThreadAt w b at t = setWords b at (threadWords w t)
 
 abbrev pub zeroSearch : Search
 zeroSearch = record { leaf = 0; tries = 0; lo = 0; hi = 0 }

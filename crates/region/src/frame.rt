@@ -7,6 +7,7 @@ ghost use Rattle.region.specs.Inner.{InRange, Within};
 ghost use Rattle.region.specs.Frame.{frameOf};
 ghost use Rattle.region.specs.Shared.{nodeIn, setNodeIn, cellIn, setCellIn, threadIn, setThreadIn, setPermissionIn};
 use crate::record::CELL_SIZE;
+use crate::record::COUNTER_SIZE;
 use crate::record::Cell;
 use crate::record::NODE_SIZE;
 use crate::record::Node;
@@ -21,7 +22,7 @@ use crate::thread::Thread;
 use crate::thread::load_thread_at;
 use crate::thread::store_thread_at;
 
-// Word offsets of the parts, and the stride of a thread's record in words.
+// Word offsets of the parts, the stride of a thread's record in words, and the words of a counter.
 pub struct Frame {
     pub shape: Shape,
     pub depth: usize,
@@ -30,6 +31,7 @@ pub struct Frame {
     pub cells: usize,
     pub threads: usize,
     pub stride: usize,
+    pub width: usize,
 }
 
 impl Frame {
@@ -48,6 +50,7 @@ impl Frame {
             cells: HEAD_SIZE + nodes,
             threads: HEAD_SIZE + nodes + cells,
             stride: THREAD_SIZE,
+            width: COUNTER_SIZE,
         }
     }
 

@@ -30,7 +30,6 @@ pub use level::mark_of;
 pub use place::Place;
 pub use record::CELL_SIZE;
 pub use record::Cell;
-pub use record::GREATEST_COUNTER;
 pub use record::Item;
 pub use record::NODE_SIZE;
 pub use record::Node;

@@ -2,16 +2,16 @@
 ghost use mathlib.Core.Path.{_≡_};
 ghost use Prim.Native.Nat.{_+_, _*_, _≤_};
 ghost use lib.ListN.{length};
-ghost use Rattle.region.specs.Record.{nodeSize, cellSize, copySize, emptyNode, zeroCell, copyOf, nodeAt, setNodeAt, cellAt, setCellAt, copyAt, setCopyAt, isItem};
+ghost use Rattle.region.specs.Record.{counterSize, nodeSize, cellSize, copySize, emptyNode, zeroCell, copyOf, nodeAt, setNodeAt, cellAt, setCellAt, copyAt, setCopyAt, isItem};
 ghost use mathlib.Core.List.{[], _∷_};
 
 // The words of a node and of a cell.
-pub const NODE_SIZE: usize = 3;
+pub const NODE_SIZE: usize = 4;
 
 pub const CELL_SIZE: usize = 3;
 
-// The last value of a node's counter.
-pub const GREATEST_COUNTER: u32 = 4294967295;
+// The words of a counter.
+pub const COUNTER_SIZE: usize = 2;
 
 // A key with a tag.
 pub struct Item {
@@ -19,11 +19,12 @@ pub struct Item {
     pub tag: u32,
 }
 
-// A node of the tree: the first cell of its list (0 for none), dirty (0 or 1), and the counter of its updates.
+// A node of the tree: the first cell of its list (0 for none), dirty (0 or 1), and the counter of its updates, in two words.
 pub struct Node {
     pub first: u32,
     pub dirty: u32,
-    pub counter: u32,
+    pub low: u32,
+    pub high: u32,
 }
 
 // A cell of a list: its item, and the next cell (0 ends the list).
@@ -56,7 +57,8 @@ impl Node {
         Node {
             first: 0,
             dirty: 0,
-            counter: 0,
+            low: 0,
+            high: 0,
         }
     }
 }
@@ -74,15 +76,24 @@ impl Cell {
 }
 
 impl NodeCopy {
-    // A node copy from its six words.
-    pub fn of(first: u32, dirty: u32, counter: u32, key: u32, tag: u32, next: u32) -> NodeCopy
-        ensures { λ r. ⌜ r ≡ copyOf (first ∷ dirty ∷ counter ∷ key ∷ tag ∷ next ∷ []) 0 ⌝ }
+    // A node copy from its seven words.
+    pub fn of(
+        first: u32,
+        dirty: u32,
+        low: u32,
+        high: u32,
+        key: u32,
+        tag: u32,
+        next: u32,
+    ) -> NodeCopy
+        ensures { λ r. ⌜ r ≡ copyOf counterSize (first ∷ dirty ∷ low ∷ high ∷ key ∷ tag ∷ next ∷ []) 0 ⌝ }
     {
         NodeCopy {
             node: Node {
                 first,
                 dirty,
-                counter,
+                low,
+                high,
             },
             head: Cell {
                 item: Item { key, tag },
@@ -94,23 +105,24 @@ impl NodeCopy {
 
 // The node at word `at`.
 pub fn load_node_at(b: &[u8], at: usize) -> Node
-    requires { ⌜ 4 * (at + nodeSize) ≤ length (now b) ⌝ }
-    ensures { λ r. ⌜ r ≡ nodeAt (now (b .entry)) at ⌝ }
+    requires { ⌜ 4 * (at + nodeSize counterSize) ≤ length (now b) ⌝ }
+    ensures { λ r. ⌜ r ≡ nodeAt counterSize (now (b .entry)) at ⌝ }
 {
-    let mut a = [0u32; 3];
+    let mut a = [0u32; 4];
     words::load_words(b, at, &mut a);
     Node {
         first: a[0],
         dirty: a[1],
-        counter: a[2],
+        low: a[2],
+        high: a[3],
     }
 }
 
 pub fn store_node_at(b: &mut [u8], at: usize, n: Node)
-    requires { ⌜ 4 * (at + nodeSize) ≤ length (now b) ⌝ }
-    ensures { λ r. ⌜ now (b .exit) ≡ setNodeAt (now (b .entry)) at n ⌝ }
+    requires { ⌜ 4 * (at + nodeSize counterSize) ≤ length (now b) ⌝ }
+    ensures { λ r. ⌜ now (b .exit) ≡ setNodeAt counterSize (now (b .entry)) at n ⌝ }
 {
-    let a = [n.first, n.dirty, n.counter];
+    let a = [n.first, n.dirty, n.low, n.high];
     words::store_words(b, at, &a);
 }
 
@@ -140,22 +152,23 @@ pub fn store_cell_at(b: &mut [u8], at: usize, c: Cell)
 
 // The node copy at word `at`.
 pub fn load_copy_at(b: &[u8], at: usize) -> NodeCopy
-    requires { ⌜ 4 * (at + copySize) ≤ length (now b) ⌝ }
-    ensures { λ r. ⌜ r ≡ copyAt (now (b .entry)) at ⌝ }
+    requires { ⌜ 4 * (at + copySize counterSize) ≤ length (now b) ⌝ }
+    ensures { λ r. ⌜ r ≡ copyAt counterSize (now (b .entry)) at ⌝ }
 {
-    let mut a = [0u32; 6];
+    let mut a = [0u32; 7];
     words::load_words(b, at, &mut a);
-    NodeCopy::of(a[0], a[1], a[2], a[3], a[4], a[5])
+    NodeCopy::of(a[0], a[1], a[2], a[3], a[4], a[5], a[6])
 }
 
 pub fn store_copy_at(b: &mut [u8], at: usize, q: NodeCopy)
-    requires { ⌜ 4 * (at + copySize) ≤ length (now b) ⌝ }
-    ensures { λ r. ⌜ now (b .exit) ≡ setCopyAt (now (b .entry)) at q ⌝ }
+    requires { ⌜ 4 * (at + copySize counterSize) ≤ length (now b) ⌝ }
+    ensures { λ r. ⌜ now (b .exit) ≡ setCopyAt counterSize (now (b .entry)) at q ⌝ }
 {
     let a = [
         q.node.first,
         q.node.dirty,
-        q.node.counter,
+        q.node.low,
+        q.node.high,
         q.head.item.key,
         q.head.item.tag,
         q.head.next,

@@ -2,6 +2,7 @@
 ghost use mathlib.Core.Path.{_≡_};
 ghost use Prim.Native.Nat.{_+_, _*_, _≤_};
 ghost use lib.ListN.{length};
+ghost use Rattle.region.specs.Record.{counterSize};
 ghost use Rattle.region.specs.Thread.{threadSize, idleThread, threadAt, setThreadAt, goneIdle, isIdle, begunPut, mending, atPlace, withItem, withOwn, withDepth, withSearch, withNode, withAfter, withResult, withFirst, withSecond, withThird};
 use crate::place::Place;
 use crate::place::place_of;
@@ -13,11 +14,11 @@ use crate::record::store_copy_at;
 // The words of a thread's record before each of its three node copies, and all its words.
 const FIRST_COPY: usize = 15;
 
-const SECOND_COPY: usize = 21;
+const SECOND_COPY: usize = 22;
 
-const THIRD_COPY: usize = 27;
+const THIRD_COPY: usize = 29;
 
-pub const THREAD_SIZE: usize = 33;
+pub const THREAD_SIZE: usize = 36;
 
 // What a put's search for its node keeps: the leaf, the tries so far, and the levels between which it looks.
 pub struct Search {
@@ -54,8 +55,8 @@ pub struct Thread {
 
 // The thread's record at word `at`: fifteen words, then three node copies.
 pub fn load_thread_at(b: &[u8], at: usize) -> Thread
-    requires { ⌜ 4 * (at + threadSize) ≤ length (now b) ⌝ }
-    ensures { λ r. ⌜ r ≡ threadAt (now (b .entry)) at ⌝ }
+    requires { ⌜ 4 * (at + threadSize counterSize) ≤ length (now b) ⌝ }
+    ensures { λ r. ⌜ r ≡ threadAt counterSize (now (b .entry)) at ⌝ }
 {
     let mut a = [0u32; 15];
     words::load_words(b, at, &mut a);
@@ -89,8 +90,8 @@ pub fn load_thread_at(b: &[u8], at: usize) -> Thread
 }
 
 pub fn store_thread_at(b: &mut [u8], at: usize, t: Thread)
-    requires { ⌜ 4 * (at + threadSize) ≤ length (now b) ⌝ }
-    ensures { λ r. ⌜ now (b .exit) ≡ setThreadAt (now (b .entry)) at t ⌝ }
+    requires { ⌜ 4 * (at + threadSize counterSize) ≤ length (now b) ⌝ }
+    ensures { λ r. ⌜ now (b .exit) ≡ setThreadAt counterSize (now (b .entry)) at t ⌝ }
 {
     let place = t.place;
     let copies = t.copies;
@@ -122,7 +123,7 @@ impl Thread {
     pub fn idle(permission: u32) -> Thread
         ensures { λ r. ⌜ r ≡ idleThread permission ⌝ }
     {
-        let none = NodeCopy::of(0, 0, 0, 0, 0, 0);
+        let none = NodeCopy::of(0, 0, 0, 0, 0, 0, 0);
         Thread {
             permission,
             place: Place::Idle,

@@ -67,7 +67,7 @@ module _ (u : Setup) (e : setupRefusal u ≡ done) where
 -- With it laid out at the start of the lent region g₁, the lines can be run.
 module _ (s : List ℕ) (u : Setup) (g g₁ out : List ℕ) (a r : ℕ) (e : SetUp g g₁ u r) (d : r ≡ done) where
   pub lines-ready : (w : ℕ) → w ≡ regionWords (u .shape) → (f : Frame) → f ≡ frameOf (u .shape)
-      → (length s ≤ 60000) × (length g ≡ 13068) × (a + 330055 ≤ length out) → LinesReady f s (take (4 * w) g₁) out a
+      → (length s ≤ 60000) × (length g ≡ 14856) × (a + 330055 ≤ length out) → LinesReady f s (take (4 * w) g₁) out a
   lines-ready w ew f ef h =
       let laid : take (4 * w) g₁ ≡ laidRegion u = ready-laid s u g g₁ out a r e d w ew in
       record {

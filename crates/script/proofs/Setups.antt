@@ -13,7 +13,7 @@ use lib.Pow.{pow-mono}
 use lib.Seq.{drop-at, length-take-le, take-at}
 use Rattle.region.specs.Answer.{done, badShape}
 use Rattle.region.specs.Pick.{pick}
-use Rattle.region.specs.Shape.{regionWords, shapeFits}
+use Rattle.region.specs.Shape.{regionWords, regionWordsOfWidth, shapeFits}
 use Rattle.region.specs.Inner.{InRange}
 use Rattle.region.proofs.Shapes.{and-both, and-left, and-not-left, and-not-right, shape-in-range}
 use Rattle.layout.specs.Layout.{LaidOut, atMost, layoutBytes, layoutRefusal, permissionsFit}
@@ -126,8 +126,8 @@ module _ (u : Setup) (e : setupRefusal u ≡ done) where
     pub threads-length : u .shape .threads ≡ length (take (u .shape .threads) all)
     threads-length = sym (ap length threads-part ∙ length-replicate (u .shape .threads) (u .permission))
 
-  pub fine-length : regionLength u ≤ 13068
-  unfolding regionWords
+  pub fine-length : regionLength u ≤ 14856
+  unfolding regionWordsOfWidth
   fine-length =
       let leaves = pow-mono {i = u .shape .depth - 1} {j = 7} (omega (arith, fine .shallow)) in
       let nodes = pow-mono {i = u .shape .depth} {j = 8} (fine .shallow) in
@@ -155,7 +155,7 @@ module _ (u : Setup) (e : setupRefusal u ≡ done) where
       laid-beyond : drop (4 * w) g₁ ≡ drop (regionLength u) g
       laid-beyond = ap (drop (4 * w)) laid ∙ drop-at (laidRegion u) (drop (regionLength u) g) (4 * w) all-laid
 
-    module _ (g : List ℕ) (lent : length g ≡ 13068) where
+    module _ (g : List ℕ) (lent : length g ≡ 14856) where
       pub region-room : 4 * w ≤ length g
       region-room = omega (arith, fine-length, exact-length)
 
@@ -231,7 +231,7 @@ module _ (s : List ℕ) (u : Setup) (g g₁ out : List ℕ) (a : ℕ) (r : ℕ) 
       pub ready-laid : take (4 * w) g₁ ≡ laidRegion u
       ready-laid = laid-part u ready w ew g g₁ laid
 
-      module _ (same : length g₁ ≡ length g) (lent : length g ≡ 13068) where
+      module _ (same : length g₁ ≡ length g) (lent : length g ≡ 14856) where
         pub ready-room : 4 * w ≤ length g₁
         ready-room = region-room u ready w ew g₁ (same ∙ lent)
 

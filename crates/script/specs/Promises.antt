@@ -7,7 +7,7 @@ use Rattle.script.specs.Script.{scriptRun}
 
 -- the bytes of the largest region that a script can lay out: D 8, C 128, T 64
 abbrev pub regionRoom : ℕ
-regionRoom = 13068
+regionRoom = 14856
 
 -- a line of the output has at most 55 bytes, a line of the script that can be read at least ten; so 60,000 bytes print at most
 -- 6,000 lines, and one more that cannot be read

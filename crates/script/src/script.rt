@@ -23,7 +23,7 @@ use region::Frame;
 use region::Place;
 
 // The bytes of the largest region that a script can lay out: D 8, C 128, T 64.
-pub const REGION_ROOM: usize = 13068;
+pub const REGION_ROOM: usize = 14856;
 
 // The most that a script prints: its heading, and 55 bytes for each of 6,000 lines and for one that cannot be read.
 pub const OUTPUT_ROOM: usize = 330082;

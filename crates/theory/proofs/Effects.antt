@@ -8,7 +8,7 @@ use mathlib.Core.Logic.{_⊎_}
 use borrow.Author.Tests.{ne-eqb}
 use lib.Pow.{pow-mono}
 use Rattle.region.specs.Pick.{pick, upd}
-use Rattle.region.specs.Record.{sameItem}
+use Rattle.region.specs.Record.{counterOf, sameItem}
 use Rattle.region.specs.Shape.{nodeCount}
 use Rattle.region.specs.Shared.{Shared}
 use Rattle.region.specs.declared.record.Cell.{Cell}
@@ -41,15 +41,15 @@ pub record Mound (s : Shape) (m : Shared) (own : ℕ → ℕ) (all : ℕ) : Type
 -- c stays clean while its parent's counter stands, and falls at most to the lesser of its value and its parent's
 abbrev pub Falls : Shared → Shared → ℕ → Type 0
 Falls m m′ c =
-    1 ≤ c / 2 → m′ .node (c / 2) .counter ≡ m .node (c / 2) .counter → m .node c .dirty ≡ 0
+    1 ≤ c / 2 → counterOf (m′ .node (c / 2)) ≡ counterOf (m .node (c / 2)) → m .node c .dirty ≡ 0
     → (m′ .node c .dirty ≡ 0) × ((v : Item) → AtMost v (val m c) → AtMost v (val m (c / 2)) → AtMost v (val m′ c))
 
 -- What every thread may rely on when another moves.
 pub record Rely (m m′ : Shared) : Type 0 where
   pub depth : m .depth ≤ m′ .depth
-  pub counters : (n : ℕ) → 1 ≤ n → m .node n .counter ≤ m′ .node n .counter
+  pub counters : (n : ℕ) → 1 ≤ n → counterOf (m .node n) ≤ counterOf (m′ .node n)
   -- a node whose counter stands is unchanged, its head cell too
-  pub unchanged : (n : ℕ) → 1 ≤ n → m′ .node n .counter ≡ m .node n .counter → readNode m′ n ≡ readNode m n
+  pub unchanged : (n : ℕ) → 1 ≤ n → counterOf (m′ .node n) ≡ counterOf (m .node n) → readNode m′ n ≡ readNode m n
   pub child : (c : ℕ) → Falls m m′ c
 
 -- a step of thread t keeps the mound, with what the others rely on and what each of them holds
@@ -85,22 +85,22 @@ unfolding readNode
 node-of-read m m′ x e = ap (λ q. q .node) e
 
 -- At most two nodes change, and the counter of each becomes one more.
-module _ (m m′ : Shared) (n k : ℕ) (deeper : m .depth ≤ m′ .depth) (up-n : m′ .node n .counter ≡ m .node n .counter + 1)
-    (up-k : m′ .node k .counter ≡ m .node k .counter + 1)
+module _ (m m′ : Shared) (n k : ℕ) (deeper : m .depth ≤ m′ .depth) (up-n : counterOf (m′ .node n) ≡ counterOf (m .node n) + 1)
+    (up-k : counterOf (m′ .node k) ≡ counterOf (m .node k) + 1)
     (others : (x : ℕ) → 1 ≤ x → (x ≡ n → ⊥) → (x ≡ k → ⊥) → readNode m′ x ≡ readNode m x)
     (falls-n : Falls m m′ n) (falls-k : Falls m m′ k) where
-  counter-up : (x : ℕ) → 1 ≤ x → Dec (x ≡ n) → Dec (x ≡ k) → m .node x .counter ≤ m′ .node x .counter
+  counter-up : (x : ℕ) → 1 ≤ x → Dec (x ≡ n) → Dec (x ≡ k) → counterOf (m .node x) ≤ counterOf (m′ .node x)
   counter-up x p (yes e) d =
-      subst (λ y. m .node y .counter ≤ m′ .node y .counter) (sym e) (omega (arith, up-n))
+      subst (λ y. counterOf (m .node y) ≤ counterOf (m′ .node y)) (sym e) (omega (arith, up-n))
   counter-up x p (no a) (yes e) =
-      subst (λ y. m .node y .counter ≤ m′ .node y .counter) (sym e) (omega (arith, up-k))
-  counter-up x p (no a) (no b) = let e = ap (λ y. y .counter) (node-of-read m m′ x (others x p a b)) in omega arith
+      subst (λ y. counterOf (m .node y) ≤ counterOf (m′ .node y)) (sym e) (omega (arith, up-k))
+  counter-up x p (no a) (no b) = let e = ap counterOf (node-of-read m m′ x (others x p a b)) in omega arith
 
-  same-read : (x : ℕ) → 1 ≤ x → m′ .node x .counter ≡ m .node x .counter → Dec (x ≡ n) → Dec (x ≡ k) → readNode m′ x ≡ readNode m x
+  same-read : (x : ℕ) → 1 ≤ x → counterOf (m′ .node x) ≡ counterOf (m .node x) → Dec (x ≡ n) → Dec (x ≡ k) → readNode m′ x ≡ readNode m x
   same-read x p e (yes a) d =
-      absurd (let z = subst (λ y. m′ .node y .counter ≡ m .node y .counter) a e in omega (arith, z, up-n))
+      absurd (let z = subst (λ y. counterOf (m′ .node y) ≡ counterOf (m .node y)) a e in omega (arith, z, up-n))
   same-read x p e (no a) (yes b) =
-      absurd (let z = subst (λ y. m′ .node y .counter ≡ m .node y .counter) b e in omega (arith, z, up-k))
+      absurd (let z = subst (λ y. counterOf (m′ .node y) ≡ counterOf (m .node y)) b e in omega (arith, z, up-k))
   same-read x p e (no a) (no b) = others x p a b
 
   child-falls : (c : ℕ) → Dec (c ≡ n) → Dec (c ≡ k) → Falls m m′ c
@@ -124,7 +124,7 @@ pub rely-same : (m m′ : Shared) → m .depth ≤ m′ .depth → ((x : ℕ) �
 rely-same m m′ d h =
     record {
       depth = d;
-      counters = λ x p. let e = ap (λ y. y .counter) (node-of-read m m′ x (h x p)) in omega arith;
+      counters = λ x p. let e = ap counterOf (node-of-read m m′ x (h x p)) in omega arith;
       unchanged = λ x p e. h x p;
       child = λ c p e z.
           let r = h c (omega arith) in
@@ -304,8 +304,8 @@ module _ (s : Shape) (m : Shared) (own own′ : ℕ → ℕ) {all : ℕ} (g : Mo
 
   push-relies : Rely m pushed
   push-relies =
-      let up : pushed .node n .counter ≡ m .node n .counter + 1 =
-      ap (λ y. y .counter) (push-node ∙ a .value) ∙ updated-counter (m .node n) c (m .node n .dirty) in
+      let up : counterOf (pushed .node n) ≡ counterOf (m .node n) + 1 =
+      ap counterOf (push-node ∙ a .value) ∙ updated-counter (m .node n) c (m .node n .dirty) in
       relies m pushed n n (omega (arith, push-depth)) up up (λ y p ne _. push-others y p ne) push-falls push-falls
 
   pub push-counts : (i : Item) → counted s pushed i ≡ counted s m i + pick (sameItem i (m .cell c .item)) 1 0
@@ -347,7 +347,7 @@ module _ (s : Shape) (m m′ : Shared) (own own′ : ℕ → ℕ) {all : ℕ} (g
 
   root-relies : Rely m m′
   root-relies =
-      let up : m′ .node 1 .counter ≡ m .node 1 .counter + 1 = ap (λ y. y .counter) root ∙ updated-counter (m .node 1) first 1 in
+      let up : counterOf (m′ .node 1) ≡ counterOf (m .node 1) + 1 = ap counterOf root ∙ updated-counter (m .node 1) first 1 in
       relies m m′ 1 1 (omega arith) up up (λ y p ne _. others y p ne) (λ p e z. absurd (omega arith)) (λ p e z. absurd (omega arith))
 
 -- Popping.
@@ -457,13 +457,13 @@ module _ (s : Shape) (m : Shared) (own : ℕ → ℕ) {all : ℕ} (g : Mound s m
   exchange-relies : Rely m swapped
   unfolding effectShared
   exchange-relies =
-      let up-n : swapped .node n .counter ≡ m .node n .counter + 1 =
-      ap (λ z. z .counter) at-n ∙ updated-counter (m .node n) (m .node k .first) 0 in
-      let up-k : swapped .node k .counter ≡ m .node k .counter + 1 =
-      ap (λ z. z .counter) at-k ∙ updated-counter (m .node k) (m .node n .first) 1 in
+      let up-n : counterOf (swapped .node n) ≡ counterOf (m .node n) + 1 =
+      ap counterOf at-n ∙ updated-counter (m .node n) (m .node k .first) 0 in
+      let up-k : counterOf (swapped .node k) ≡ counterOf (m .node k) + 1 =
+      ap counterOf at-k ∙ updated-counter (m .node k) (m .node n .first) 1 in
       relies m swapped n k (omega arith) up-n up-k (λ x p q r. read-same m swapped x (at-x x q r) refl)
       (λ p e z. absurd (omega (arith, z, a .dirty)))
-      (λ p e z. absurd (let h = subst (λ y. swapped .node y .counter ≡ m .node y .counter) (a .child) e in omega (arith, h, up-n)))
+      (λ p e z. absurd (let h = subst (λ y. counterOf (swapped .node y) ≡ counterOf (m .node y)) (a .child) e in omega (arith, h, up-n)))
 
   pub exchange-keeps : (t : ℕ) → Keeps s m swapped own own all t
   unfolding effectShared
@@ -509,8 +509,8 @@ module _ (s : Shape) (m : Shared) (own : ℕ → ℕ) {all : ℕ} (g : Mound s m
   clean-relies : Rely m cleaned
   unfolding effectShared
   clean-relies =
-      let up : cleaned .node n .counter ≡ m .node n .counter + 1 =
-      ap (λ z. z .counter) clean-node ∙ updated-counter (m .node n) (m .node n .first) 0 in
+      let up : counterOf (cleaned .node n) ≡ counterOf (m .node n) + 1 =
+      ap counterOf clean-node ∙ updated-counter (m .node n) (m .node n .first) 0 in
       relies m cleaned n n (omega arith) up up (λ x p q r. read-same m cleaned x (clean-other x q) refl)
       (λ p e z. absurd (omega (arith, z, a .dirty))) (λ p e z. absurd (omega (arith, z, a .dirty)))
 

@@ -7,6 +7,7 @@ use mathlib.Core.Bool.{true, false, true≢false}
 use mathlib.Core.List.{List, [], _∷_}
 use lib.Dec.{eqb}
 use lib.Pow.{pow-mono}
+use Rattle.region.specs.Record.{counterOf}
 use Rattle.region.specs.Level.{level}
 use Rattle.region.specs.Place.{placeNumber}
 use Rattle.region.specs.Shared.{Shared}
@@ -28,13 +29,13 @@ use Rattle.theory.proofs.Sorted.{AtMost, Proper}
 
 -- a copy q of node n: counters never fall, and an equal counter means an unchanged node
 pub record Sound (m : Shared) (n : ℕ) (q : NodeCopy) : Type 0 where
-  pub counter : q .node .counter ≤ m .node n .counter
-  pub same : m .node n .counter ≡ q .node .counter → readNode m n ≡ q
+  pub counter : counterOf (q .node) ≤ counterOf (m .node n)
+  pub same : counterOf (m .node n) ≡ counterOf (q .node) → readNode m n ≡ q
 
 -- While node n is as in its copy q, child c is clean, and every value below n's and of this kind is below c's.
 abbrev pub Child : Shared → ℕ → NodeCopy → ℕ → (Item → Type 0) → Type 0
 Child m n q c kind =
-    m .node n .counter ≡ q .node .counter
+    counterOf (m .node n) ≡ counterOf (q .node)
     → (m .node c .dirty ≡ 0) × ((v : Item) → kind v → AtMost v (val m n) → AtMost v (val m c))
 
 abbrev pub AnyValue : Item → Type 0
@@ -280,11 +281,11 @@ module _ (m m′ : Shared) (r : Rely m m′) where
   deeper n h = omega (arith, h, pow-mono {i = m .depth} {j = m′ .depth} (r .depth))
 
   -- a node that now is as in its sound copy has not changed
-  stood : (n : ℕ) (q : NodeCopy) → 1 ≤ n → Sound m n q → m′ .node n .counter ≡ q .node .counter → m .node n .counter ≡ q .node .counter
+  stood : (n : ℕ) (q : NodeCopy) → 1 ≤ n → Sound m n q → counterOf (m′ .node n) ≡ counterOf (q .node) → counterOf (m .node n) ≡ counterOf (q .node)
   stood n q p h e = omega (arith, r .counters n p, h .counter, e)
 
-  stands : (n : ℕ) (q : NodeCopy) → 1 ≤ n → Sound m n q → m′ .node n .counter ≡ q .node .counter
-      → m′ .node n .counter ≡ m .node n .counter
+  stands : (n : ℕ) (q : NodeCopy) → 1 ≤ n → Sound m n q → counterOf (m′ .node n) ≡ counterOf (q .node)
+      → counterOf (m′ .node n) ≡ counterOf (m .node n)
   stands n q p h e = omega (arith, r .counters n p, h .counter, e)
 
   sound-stays : (n : ℕ) (q : NodeCopy) → 1 ≤ n → Sound m n q → Sound m′ n q
@@ -298,8 +299,8 @@ module _ (m m′ : Shared) (r : Rely m m′) where
       → Child m′ n q c kind
   child-stays n q c kind p ec h k e =
       let old = k (stood n q p h e) in
-      let parent : m′ .node (c / 2) .counter ≡ m .node (c / 2) .counter =
-      ap (λ y. m′ .node y .counter) ec ∙ stands n q p h e ∙ ap (λ y. m .node y .counter) (sym ec) in
+      let parent : counterOf (m′ .node (c / 2)) ≡ counterOf (m .node (c / 2)) =
+      ap (λ y. counterOf (m′ .node y)) ec ∙ stands n q p h e ∙ ap (λ y. counterOf (m .node y)) (sym ec) in
       let now = r .child c (omega arith) parent (old .0) in
       let same : val m′ n ≡ val m n = ap valueOf (r .unchanged n p (stands n q p h e)) in (
         now .0,

@@ -10,6 +10,7 @@ use mathlib.Core.Logic.{_⊎_, inl, inr}
 use borrow.Author.Tests.{ltb-true, eqb-true, eqb-false, ne-eqb, lt-ltb, le-ltb}
 use lib.Dec.{ltb, eqb}
 use lib.Pow.{pow-mono, pow-pos}
+use Rattle.region.specs.Record.{counterOf}
 use Rattle.region.specs.Answer.{counterSpent, unreadable}
 use Rattle.region.specs.Level.{ancestor, level, mark}
 use Rattle.region.specs.Pick.{pick}
@@ -189,7 +190,7 @@ module _ (s : Shape) (r : InRange s) (m : Shared) (own : ℕ → ℕ) {all : ℕ
 
   -- a sound copy that the comparison finds is what a READ finds
   found : (n : ℕ) (q : NodeCopy) → Sound m n q → sameNode (m .node n) (q .node) ≡ true → readNode m n ≡ q
-  found n q h e = h .same (ap (λ x. x .counter) (same-node (m .node n) (q .node) e))
+  found n q h e = h .same (ap counterOf (same-node (m .node n) (q .node) e))
 
   found-node : (n : ℕ) (q : NodeCopy) → readNode m n ≡ q → m .node n ≡ q .node
   unfolding readNode
@@ -686,7 +687,7 @@ module _ (s : Shape) (r : InRange s) (m : Shared) (own : ℕ → ℕ) {all : ℕ
           let nq = found-node c q fq in
           let vp : val m n ≡ valueOf p = ap valueOf fp in
           let vq : val m c ≡ valueOf q = ap valueOf fq in
-          let sib = there .child clean-other (ap (λ v. v .counter) np) in
+          let sib = there .child clean-other (ap counterOf np) in
           let ln : AtMost (val m c) (val m n) = subst (AtMost (val m c)) (sym vp) (subst (λ i. AtMost i (valueOf p)) (sym vq) lesser) in
           moves op (
             j,
@@ -739,8 +740,8 @@ module _ (s : Shape) (r : InRange s) (m : Shared) (own : ℕ → ℕ) {all : ℕ
         (λ y. pick-good Fits (isSpent (q .node)) (λ z. is-refused th)
         (λ z. let f = found n q (a .sound) y in
         let fn = found-node n q f in
-        let l = b .left (ap (λ v. v .counter) fn) in
-        let r′ = b .right (ap (λ v. v .counter) fn) in
+        let l = b .left (ap counterOf fn) in
+        let r′ = b .right (ap counterOf fn) in
         return-planned (Clean n (updated (q .node) (q .node .first) 0)) th refl h
         (record {
           some = h .1 .0;

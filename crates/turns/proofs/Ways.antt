@@ -19,27 +19,27 @@ use Rattle.access.specs.declared.effect.Effect.{Effect}
 use Rattle.access.specs.declared.effect.Effect.the-variants.{Nothing, Grow, Push, Pop, Exchange, Clean, Detach, Free}
 use Rattle.access.specs.declared.plan.Plan.{Plan}
 use Rattle.permission.specs.Withdraw.{isUnreadable, withdrawal}
-use Rattle.turns.specs.Inner.{Ended, Looked, Stored, goesIdle, isWithheld, recordBytes}
+use Rattle.turns.specs.Inner.{Ended, Looked, goesIdle, isWithheld, recordBytes}
 
 -- Storing a plan's record: none, an idle one, or another; w is the test that was made.
 module _ (f : Frame) (b : List ℕ) (n : ℕ) (p : Plan) (idle q : Bool) (eq : q ≡ changesNothing (p .answer)) where
-  pub none-stored : q ≡ true → Stored f b b n p idle (p .answer)
+  pub none-stored : q ≡ true → b ≡ recordBytes f b n p idle
   unfolding recordBytes pick
-  none-stored g = record { answer = refl; bytes = rw (← eq, g) refl }
+  none-stored g = rw (← eq, g) refl
 
   module _ (g : q ≡ false) (b′ : List ℕ) (w : Bool) (ew : w ≡ idle) where
-    pub idle-stored : w ≡ true → (u : Thread) → u ≡ goneIdle (p .thread) → b′ ≡ setThreadIn f b n u → Stored f b b′ n p idle (p .answer)
+    pub idle-stored : w ≡ true → (u : Thread) → u ≡ goneIdle (p .thread) → b′ ≡ setThreadIn f b n u → b′ ≡ recordBytes f b n p idle
     unfolding recordBytes pick
-    idle-stored z u eu e = record { answer = refl; bytes = rw (← eq, g, ← ew, z) (e ∙ ap (setThreadIn f b n) eu) }
+    idle-stored z u eu e = rw (← eq, g, ← ew, z) (e ∙ ap (setThreadIn f b n) eu)
 
-    pub record-stored : w ≡ false → b′ ≡ setThreadIn f b n (p .thread) → Stored f b b′ n p idle (p .answer)
+    pub record-stored : w ≡ false → b′ ≡ setThreadIn f b n (p .thread) → b′ ≡ recordBytes f b n p idle
     unfolding recordBytes pick
-    record-stored z e = record { answer = refl; bytes = rw (← eq, g, ← ew, z) e }
+    record-stored z e = rw (← eq, g, ← ew, z) e
 
 -- a plan that is at hand, with an effect of kind k
-pub changed : (k : ℕ) (f : Frame) (b b₁ b₂ : List ℕ) (n : ℕ) (p : Plan) (r : Answer) → Stored f b b₁ n p (goesIdle k p) r
-    → b₂ ≡ effectBytes f b₁ (ofKind k (p .effect)) → Ended k f b b₂ n p r
-changed k f b b₁ b₂ n p r h e = record { answer = h .answer; bytes = e ∙ ap (λ l. effectBytes f l (ofKind k (p .effect))) (h .bytes) }
+pub changed : (k : ℕ) (f : Frame) (b b₁ b₂ : List ℕ) (n : ℕ) (p : Plan) → b₁ ≡ recordBytes f b n p (goesIdle k p)
+    → b₂ ≡ effectBytes f b₁ (ofKind k (p .effect)) → Ended k f b b₂ n p (p .answer)
+changed k f b b₁ b₂ n p h e = record { answer = refl; bytes = e ∙ ap (λ l. effectBytes f l (ofKind k (p .effect))) h }
 
 -- Whether a turn is withheld: q tells whether nothing changes, and only where nothing changes it may be refused 7.
 answered : (a : Answer) → changesNothing a ≡ false → isUnreadable a ≡ false
@@ -70,10 +70,10 @@ module _ (a : Answer) (may q : Bool) (eq : q ≡ changesNothing a) where
 
 -- The withdrawal.
 pub withdraws : (f : Frame) (b b₁ b₂ : List ℕ) (n : ℕ) (z : Place) (x : Thread) → x ≡ threadIn f b n → (y : Thread) → y ≡ atPlace x z
-    → (p : Plan) → p ≡ withdrawal y → (r : Answer) → Stored f b b₁ n p (isIdle (p .thread)) r
-    → b₂ ≡ effectBytes f b₁ (ofKind freeing (p .effect)) → Ended freeing f b b₂ n (withdrawal (atPlace (threadIn f b n) z)) r
-withdraws f b b₁ b₂ n z x ex y ey p ep r h e =
-    subst (λ q. Ended freeing f b b₂ n q r) (ep ∙ ap withdrawal (ey ∙ ap (λ t. atPlace t z) ex)) (changed freeing f b b₁ b₂ n p r h e)
+    → (p : Plan) → p ≡ withdrawal y → b₁ ≡ recordBytes f b n p (isIdle (p .thread))
+    → b₂ ≡ effectBytes f b₁ (ofKind freeing (p .effect)) → Ended freeing f b b₂ n (withdrawal (atPlace (threadIn f b n) z)) (p .answer)
+withdraws f b b₁ b₂ n z x ex y ey p ep h e =
+    subst (λ q. Ended freeing f b b₂ n q (p .answer)) (ep ∙ ap withdrawal (ey ∙ ap (λ t. atPlace t z) ex)) (changed freeing f b b₁ b₂ n p h e)
 
 -- The end of a turn: D is the plan that the place decides, by the shape, shared memory and the thread's record, and in two of the laws
 -- by a number, the choice or the waiting levels.
@@ -90,7 +90,7 @@ no-effect f b (Detach v) = refl
 no-effect f b (Free c) = refl
 
 module _ (D : Shape → Shared → Thread → Plan) (f : Frame) (b b₁ : List ℕ) (n : ℕ) (x : Thread) (p : Plan)
-    (r : Answer) (ex : x ≡ threadIn f b n) (ep : p ≡ D (f .shape) (sharedIn f b) x) where
+    (ex : x ≡ threadIn f b n) (ep : p ≡ D (f .shape) (sharedIn f b) x) where
   abbrev plan : Plan
   plan = D (f .shape) (sharedIn f b) (threadIn f b n)
 
@@ -98,12 +98,12 @@ module _ (D : Shape → Shared → Thread → Plan) (f : Frame) (b b₁ : List �
   decided = ep ∙ ap (D (f .shape) (sharedIn f b)) ex
 
   -- with an effect of kind k
-  pub changes : (k : ℕ) → Stored f b b₁ n p (goesIdle k p) r → (b₂ : List ℕ) → b₂ ≡ effectBytes f b₁ (ofKind k (p .effect))
-      → Ended k f b b₂ n plan r
-  changes k h b₂ e₂ = subst (λ q. Ended k f b b₂ n q r) decided (changed k f b b₁ b₂ n p r h e₂)
+  pub changes : (k : ℕ) → b₁ ≡ recordBytes f b n p (goesIdle k p) → (b₂ : List ℕ) → b₂ ≡ effectBytes f b₁ (ofKind k (p .effect))
+      → Ended k f b b₂ n plan (p .answer)
+  changes k h b₂ e₂ = subst (λ q. Ended k f b b₂ n q (p .answer)) decided (changed k f b b₁ b₂ n p h e₂)
 
   -- with none
-  pub reads : Stored f b b₁ n p (answersOperation (p .answer)) r → Ended reading f b b₁ n plan r
+  pub reads : b₁ ≡ recordBytes f b n p (answersOperation (p .answer)) → Ended reading f b b₁ n plan (p .answer)
   reads h = changes reading h b₁ (no-effect f b₁ (p .effect))
 
 -- The same at a place that looks at the permission, of which `may` says whether a thread has it; q is the test that was made.
@@ -119,25 +119,26 @@ module _ (D : Shape → Shared → Thread → Plan) (may : Thread → Bool) (f :
   pub lacks : q ≡ true → (k : ℕ) → LookedAt k b Withdrawn
   lacks g k = record { ended = λ e. absurd (true≢false (sym g ∙ asked ∙ e)); withheld = λ e. (refl, refl) }
 
-  module _ (g : q ≡ false) (b₁ : List ℕ) (r : Answer) where
-    went-on : {k : ℕ} {b′ : List ℕ} → Ended k f b b′ n (D (f .shape) (sharedIn f b) (threadIn f b n)) r → LookedAt k b′ r
+  module _ (g : q ≡ false) (b₁ : List ℕ) where
+    went-on : {k : ℕ} {b′ : List ℕ} → Ended k f b b′ n (D (f .shape) (sharedIn f b) (threadIn f b n)) (p .answer) → LookedAt k b′ (p .answer)
     went-on h = record { ended = λ e. h; withheld = λ e. absurd (true≢false (sym e ∙ sym asked ∙ g)) }
 
-    pub changes-looked : (k : ℕ) → Stored f b b₁ n p (goesIdle k p) r → (b₂ : List ℕ) → b₂ ≡ effectBytes f b₁ (ofKind k (p .effect))
-        → LookedAt k b₂ r
-    changes-looked k h b₂ e₂ = went-on (changes D f b b₁ n x p r ex ep k h b₂ e₂)
+    pub changes-looked : (k : ℕ) → b₁ ≡ recordBytes f b n p (goesIdle k p) → (b₂ : List ℕ) → b₂ ≡ effectBytes f b₁ (ofKind k (p .effect))
+        → LookedAt k b₂ (p .answer)
+    changes-looked k h b₂ e₂ = went-on (changes D f b b₁ n x p ex ep k h b₂ e₂)
 
-    pub reads-looked : Stored f b b₁ n p (answersOperation (p .answer)) r → LookedAt reading b₁ r
-    reads-looked h = went-on (reads D f b b₁ n x p r ex ep h)
+    pub reads-looked : b₁ ≡ recordBytes f b n p (answersOperation (p .answer)) → LookedAt reading b₁ (p .answer)
+    reads-looked h = went-on (reads D f b b₁ n x p ex ep h)
 
 module _ (D : Shape → Shared → Thread → ℕ → Plan) (f : Frame) (b b₁ : List ℕ) (n w : ℕ) (x : Thread) (p : Plan)
-    (r : Answer) (ex : x ≡ threadIn f b n) (ep : p ≡ D (f .shape) (sharedIn f b) x w) where
-  pub changes-by : (k : ℕ) → Stored f b b₁ n p (goesIdle k p) r → (b₂ : List ℕ) → b₂ ≡ effectBytes f b₁ (ofKind k (p .effect))
-      → Ended k f b b₂ n (D (f .shape) (sharedIn f b) (threadIn f b n) w) r
-  changes-by = changes (λ s m t. D s m t w) f b b₁ n x p r ex ep
+    (ex : x ≡ threadIn f b n) (ep : p ≡ D (f .shape) (sharedIn f b) x w) where
+  pub changes-by : (k : ℕ) → b₁ ≡ recordBytes f b n p (goesIdle k p) → (b₂ : List ℕ) → b₂ ≡ effectBytes f b₁ (ofKind k (p .effect))
+      → Ended k f b b₂ n (D (f .shape) (sharedIn f b) (threadIn f b n) w) (p .answer)
+  changes-by = changes (λ s m t. D s m t w) f b b₁ n x p ex ep
 
-  pub reads-by : Stored f b b₁ n p (answersOperation (p .answer)) r → Ended reading f b b₁ n (D (f .shape) (sharedIn f b) (threadIn f b n) w) r
-  reads-by = reads (λ s m t. D s m t w) f b b₁ n x p r ex ep
+  pub reads-by : b₁ ≡ recordBytes f b n p (answersOperation (p .answer))
+      → Ended reading f b b₁ n (D (f .shape) (sharedIn f b) (threadIn f b n) w) (p .answer)
+  reads-by = reads (λ s m t. D s m t w) f b b₁ n x p ex ep
 
 -- At such a place whose plan hangs on a number.
 module _ (D : Shape → Shared → Thread → ℕ → Plan) (may : Thread → Bool) (f : Frame) (b : List ℕ) (n v : ℕ) (x : Thread) (p : Plan)
@@ -146,6 +147,6 @@ module _ (D : Shape → Shared → Thread → ℕ → Plan) (may : Thread → Bo
   pub lacks-by : q ≡ true → (k : ℕ) → Looked (may (threadIn f b n)) k f b b n (D (f .shape) (sharedIn f b) (threadIn f b n) v) Withdrawn
   lacks-by = lacks (λ s m t. D s m t v) may f b n x p ex ep w ew q eq
 
-  pub reads-looked-by : q ≡ false → (b₁ : List ℕ) (r : Answer) → Stored f b b₁ n p (answersOperation (p .answer)) r
-      → Looked (may (threadIn f b n)) reading f b b₁ n (D (f .shape) (sharedIn f b) (threadIn f b n) v) r
+  pub reads-looked-by : q ≡ false → (b₁ : List ℕ) → b₁ ≡ recordBytes f b n p (answersOperation (p .answer))
+      → Looked (may (threadIn f b n)) reading f b b₁ n (D (f .shape) (sharedIn f b) (threadIn f b n) v) (p .answer)
   reads-looked-by = reads-looked (λ s m t. D s m t v) may f b n x p ex ep w ew q eq

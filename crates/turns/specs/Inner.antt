@@ -20,11 +20,6 @@ use Rattle.permission.specs.Withdraw.{isUnreadable}
 unfoldable pub recordBytes : Frame → List ℕ → ℕ → Plan → Bool → List ℕ
 recordBytes f b n p idle = pick (changesNothing (p .answer)) b (setThreadIn f b n (pick idle (goneIdle (p .thread)) (p .thread)))
 
--- what storing it answers and leaves: the answer is the plan's
-pub record Stored (f : Frame) (b b′ : List ℕ) (n : ℕ) (p : Plan) (idle : Bool) (r : Answer) : Type 0 where
-  pub answer : r ≡ p .answer
-  pub bytes : b′ ≡ recordBytes f b n p idle
-
 -- Whether the record goes idle: by the answer, with which an operation ends; by the place at a hand-out, which may answer and go on, and at a
 -- withdrawal, which is no answer. These two are told by the kind of effect that is carried out: they alone free a cell and change no node.
 abbrev pub idleByAnswer : Plan → Bool

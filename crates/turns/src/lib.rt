@@ -15,7 +15,7 @@ ghost use Rattle.insert.specs.Insert.{growDepth, insertAtRoot, insertBelow, rea
 ghost use Rattle.moundify.specs.Moundify.{mendClean, mendReadDepth, mendReadLeft, mendReadNode, mendReadRight, mendSwap};
 ghost use Rattle.permission.specs.Grants.{mayPut, mayTake};
 ghost use Rattle.permission.specs.Withdraw.{withdrawal};
-ghost use Rattle.turns.specs.Inner.{Ended, Looked, Stored, isWithheld};
+ghost use Rattle.turns.specs.Inner.{Ended, Looked, isWithheld, recordBytes};
 use access::Plan;
 use region::Answer;
 use region::Frame;
@@ -51,43 +51,41 @@ fn answers_operation(answer: Answer) -> bool
     }
 }
 
-// Stores the record of thread n as its plan has it; an idle or refused turn stores nothing. Answers what the plan answers. The
-// record of an ended operation is idle, and has a branch of its own, so that the compiled code of the other branch stores no
-// field that the turn left alone.
-fn store_record(f: Frame, b: &mut [u8], n: u32, plan: Plan) -> Answer
+// Stores the record of thread n as its plan has it; an idle or refused turn stores nothing. The record of an ended operation is idle, and
+// has a branch of its own, so that the compiled code of the other branch stores no field that the turn left alone. The answer stays with the
+// turn: with it this function would be called and not copied into each place.
+fn store_record(f: Frame, b: &mut [u8], n: u32, plan: Plan)
     requires { ⌜ Within f (length (now b)) ⌝ }
-    ensures { λ r. ⌜ Stored f (now (b .entry)) (now (b .exit)) n plan (answersOperation (plan .answer)) r ⌝ }
+    ensures { λ r. ⌜ now (b .exit) ≡ recordBytes f (now (b .entry)) n plan (answersOperation (plan .answer)) ⌝ }
 {
     let answer = plan.answer;
     if changes_nothing(answer) {
-        return answer;
+        return;
     }
     let record = plan.thread;
     if answers_operation(answer) {
         f.store_thread(b, n, record.gone_idle());
-        return answer;
+        return;
     }
     f.store_thread(b, n, record);
-    answer
 }
 
 // The same after a hand-out, which answers took and may go on, and after a withdrawal: the record is idle by its place. One function
 // for both would be called and not copied into each place.
-fn store_hand(f: Frame, b: &mut [u8], n: u32, plan: Plan) -> Answer
+fn store_hand(f: Frame, b: &mut [u8], n: u32, plan: Plan)
     requires { ⌜ Within f (length (now b)) ⌝ }
-    ensures { λ r. ⌜ Stored f (now (b .entry)) (now (b .exit)) n plan (isIdle (plan .thread)) r ⌝ }
+    ensures { λ r. ⌜ now (b .exit) ≡ recordBytes f (now (b .entry)) n plan (isIdle (plan .thread)) ⌝ }
 {
     let answer = plan.answer;
     if changes_nothing(answer) {
-        return answer;
+        return;
     }
     let record = plan.thread;
     if record.is_idle() {
         f.store_thread(b, n, record.gone_idle());
-        return answer;
+        return;
     }
     f.store_thread(b, n, record);
-    answer
 }
 
 // Whether the turn is to be withdrawn: its permission is not there, and it is not refused 7. The answer is looked at first, so that the
@@ -114,9 +112,9 @@ pub fn withdraw(f: Frame, b: &mut [u8], n: u32, place: Place) -> Answer
     let t = f.load_thread(b, n);
     let plan = permission::withdrawal(t.at_place(place));
     let effect = plan.effect;
-    let answer = store_hand(f, b, n, plan);
+    store_hand(f, b, n, plan);
     access::carry_freeing(f, b, effect);
-    answer
+    plan.answer
 }
 
 // I1
@@ -129,7 +127,8 @@ pub fn turn_read_depth(f: Frame, b: &mut [u8], n: u32) -> Answer
     if is_withheld(plan, permission::may_put(t)) {
         return Answer::Withdrawn;
     }
-    store_record(f, b, n, plan)
+    store_record(f, b, n, plan);
+    plan.answer
 }
 
 // I2
@@ -142,7 +141,8 @@ pub fn turn_read_leaf(f: Frame, b: &mut [u8], n: u32, choice: u32) -> Answer
     if is_withheld(plan, permission::may_put(t)) {
         return Answer::Withdrawn;
     }
-    store_record(f, b, n, plan)
+    store_record(f, b, n, plan);
+    plan.answer
 }
 
 // I3
@@ -155,7 +155,8 @@ pub fn turn_read_ancestor(f: Frame, b: &mut [u8], n: u32) -> Answer
     if is_withheld(plan, permission::may_put(t)) {
         return Answer::Withdrawn;
     }
-    store_record(f, b, n, plan)
+    store_record(f, b, n, plan);
+    plan.answer
 }
 
 // I4
@@ -169,9 +170,9 @@ pub fn turn_grow_depth(f: Frame, b: &mut [u8], n: u32) -> Answer
         return Answer::Withdrawn;
     }
     let effect = plan.effect;
-    let answer = store_record(f, b, n, plan);
+    store_record(f, b, n, plan);
     access::carry_growth(f, b, effect);
-    answer
+    plan.answer
 }
 
 // I5
@@ -184,7 +185,8 @@ pub fn turn_read_target(f: Frame, b: &mut [u8], n: u32) -> Answer
     if is_withheld(plan, permission::may_put(t)) {
         return Answer::Withdrawn;
     }
-    store_record(f, b, n, plan)
+    store_record(f, b, n, plan);
+    plan.answer
 }
 
 // I6
@@ -198,9 +200,9 @@ pub fn turn_insert_at_root(f: Frame, b: &mut [u8], n: u32) -> Answer
         return Answer::Withdrawn;
     }
     let effect = plan.effect;
-    let answer = store_record(f, b, n, plan);
+    store_record(f, b, n, plan);
     access::carry_push(f, b, effect);
-    answer
+    plan.answer
 }
 
 // I7
@@ -213,7 +215,8 @@ pub fn turn_read_parent(f: Frame, b: &mut [u8], n: u32) -> Answer
     if is_withheld(plan, permission::may_put(t)) {
         return Answer::Withdrawn;
     }
-    store_record(f, b, n, plan)
+    store_record(f, b, n, plan);
+    plan.answer
 }
 
 // I8
@@ -227,9 +230,9 @@ pub fn turn_insert_below(f: Frame, b: &mut [u8], n: u32) -> Answer
         return Answer::Withdrawn;
     }
     let effect = plan.effect;
-    let answer = store_record(f, b, n, plan);
+    store_record(f, b, n, plan);
     access::carry_push(f, b, effect);
-    answer
+    plan.answer
 }
 
 // E1
@@ -242,7 +245,8 @@ pub fn turn_read_root(f: Frame, b: &mut [u8], n: u32) -> Answer
     if is_withheld(plan, permission::may_take(t)) {
         return Answer::Withdrawn;
     }
-    store_record(f, b, n, plan)
+    store_record(f, b, n, plan);
+    plan.answer
 }
 
 // E2
@@ -256,9 +260,9 @@ pub fn turn_remove_head(f: Frame, b: &mut [u8], n: u32) -> Answer
         return Answer::Withdrawn;
     }
     let effect = plan.effect;
-    let answer = store_record(f, b, n, plan);
+    store_record(f, b, n, plan);
     access::carry_pop(f, b, effect);
-    answer
+    plan.answer
 }
 
 // M1
@@ -267,7 +271,8 @@ pub fn turn_mend_read_node(f: Frame, b: &mut [u8], n: u32, w: u32) -> Answer
     ensures { λ r. ⌜ Ended reading f (now (b .entry)) (now (b .exit)) n (mendReadNode (sharedIn f (now (b .entry))) (threadIn f (now (b .entry)) n) w) r ⌝ }
 {
     let plan = moundify::mend_read_node(f, b, f.load_thread(b, n), w);
-    store_record(f, b, n, plan)
+    store_record(f, b, n, plan);
+    plan.answer
 }
 
 // M2
@@ -276,7 +281,8 @@ pub fn turn_mend_read_depth(f: Frame, b: &mut [u8], n: u32, w: u32) -> Answer
     ensures { λ r. ⌜ Ended reading f (now (b .entry)) (now (b .exit)) n (mendReadDepth (sharedIn f (now (b .entry))) (threadIn f (now (b .entry)) n) w) r ⌝ }
 {
     let plan = moundify::mend_read_depth(f, b, f.load_thread(b, n), w);
-    store_record(f, b, n, plan)
+    store_record(f, b, n, plan);
+    plan.answer
 }
 
 // M3
@@ -285,7 +291,8 @@ pub fn turn_mend_read_left(f: Frame, b: &mut [u8], n: u32, w: u32) -> Answer
     ensures { λ r. ⌜ Ended reading f (now (b .entry)) (now (b .exit)) n (mendReadLeft (f .shape) (sharedIn f (now (b .entry))) (threadIn f (now (b .entry)) n) w) r ⌝ }
 {
     let plan = moundify::mend_read_left(f, b, f.load_thread(b, n), w);
-    store_record(f, b, n, plan)
+    store_record(f, b, n, plan);
+    plan.answer
 }
 
 // M4
@@ -294,7 +301,8 @@ pub fn turn_mend_read_right(f: Frame, b: &mut [u8], n: u32, w: u32) -> Answer
     ensures { λ r. ⌜ Ended reading f (now (b .entry)) (now (b .exit)) n (mendReadRight (f .shape) (sharedIn f (now (b .entry))) (threadIn f (now (b .entry)) n) w) r ⌝ }
 {
     let plan = moundify::mend_read_right(f, b, f.load_thread(b, n), w);
-    store_record(f, b, n, plan)
+    store_record(f, b, n, plan);
+    plan.answer
 }
 
 // M5
@@ -304,9 +312,9 @@ pub fn turn_mend_swap(f: Frame, b: &mut [u8], n: u32, w: u32) -> Answer
 {
     let plan = moundify::mend_swap(f, b, f.load_thread(b, n), w);
     let effect = plan.effect;
-    let answer = store_record(f, b, n, plan);
+    store_record(f, b, n, plan);
     access::carry_exchange(f, b, effect);
-    answer
+    plan.answer
 }
 
 // M6
@@ -316,9 +324,9 @@ pub fn turn_mend_clean(f: Frame, b: &mut [u8], n: u32, w: u32) -> Answer
 {
     let plan = moundify::mend_clean(f, b, f.load_thread(b, n), w);
     let effect = plan.effect;
-    let answer = store_record(f, b, n, plan);
+    store_record(f, b, n, plan);
     access::carry_cleaning(f, b, effect);
-    answer
+    plan.answer
 }
 
 // 17
@@ -331,7 +339,8 @@ pub fn turn_list_read_root(f: Frame, b: &mut [u8], n: u32) -> Answer
     if is_withheld(plan, permission::may_take(t)) {
         return Answer::Withdrawn;
     }
-    store_record(f, b, n, plan)
+    store_record(f, b, n, plan);
+    plan.answer
 }
 
 // 18
@@ -345,9 +354,9 @@ pub fn turn_remove_list(f: Frame, b: &mut [u8], n: u32) -> Answer
         return Answer::Withdrawn;
     }
     let effect = plan.effect;
-    let answer = store_record(f, b, n, plan);
+    store_record(f, b, n, plan);
     access::carry_detaching(f, b, effect);
-    answer
+    plan.answer
 }
 
 // 19
@@ -357,7 +366,7 @@ pub fn turn_hand_out(f: Frame, b: &mut [u8], n: u32) -> Answer
 {
     let plan = extract::hand_out(f, b, f.load_thread(b, n));
     let effect = plan.effect;
-    let answer = store_hand(f, b, n, plan);
+    store_hand(f, b, n, plan);
     access::carry_freeing(f, b, effect);
-    answer
+    plan.answer
 }

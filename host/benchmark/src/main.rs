@@ -37,7 +37,7 @@ greater keys stand below. Accesses and times are for one item. The list is two c
 each run with just the turns that it takes.";
 
 const CHECKS: &str = "
-A check at the largest shape, D 12, C 2,048, T 64, of 20,547 words: a yes, and refusals by the first
+A check at the largest shape, D 12, C 2,048, T 64, of 24,834 words: a yes, and refusals by the first
 word out of range. The share is that of the library's time for a yes.";
 
 const PERMITS: &str = "
@@ -47,6 +47,10 @@ relation to a check, both by the library.";
 const GROWTH: &str = "
 How cost grows with D, T 4: a check looks at the whole region, a turn at one place of it. The turn
 is one of 4,096 in a run of puts that find no leaf, all of them accesses.";
+
+const CONVERSIONS: &str = "
+A conversion of a region of the old form: a check of it, and each byte of the new one. The share is
+that of a conversion in relation to a check of the new region, both by the library.";
 
 const RECORDS: &str = "
 A check of records from a simulated run of 8 threads, puts, takes and empties: accepted, and refused
@@ -72,6 +76,7 @@ fn main() {
     lists();
     checks();
     permits();
+    conversions();
     growth();
     records();
     cuts();
@@ -173,19 +178,19 @@ fn checks() {
 }
 
 /// The first word, and a word of the middle record of each part, with the number of words before
-/// it: 6 of the heading, 3 of each node and cell, 33 of each thread's record.
+/// it: 6 of the heading, 4 of each node, 3 of each cell, 36 of each thread's record.
 fn bad_words(shape: Shape) -> [(&'static str, usize); 4] {
     let [cells, threads] = [shape.cells, shape.threads].map(|count| count as usize);
     let nodes = (1 << shape.depth) - 1;
     let first_node = 6;
-    let first_cell = first_node + 3 * nodes;
+    let first_cell = first_node + 4 * nodes;
     let first_thread = first_cell + 3 * cells;
     [
         ("the first word", 0),
-        ("in the middle of the nodes", first_node + 3 * (nodes / 2)),
+        ("in the middle of the nodes", first_node + 4 * (nodes / 2)),
         // A cell's tag: its first word, the key, has no range.
         ("in the middle of the cells", first_cell + 3 * (cells / 2) + 1),
-        ("in the middle of the threads' records", first_thread + 33 * (threads / 2)),
+        ("in the middle of the threads' records", first_thread + 36 * (threads / 2)),
     ]
 }
 
@@ -198,13 +203,24 @@ fn check_row(name: &str, words_before: usize, work: &Work, yes: &Work) {
 /// Permits beside checks.
 fn permits() {
     println!("{PERMITS}");
+    beside_checks(|shape| Work::permits(shape, 20));
+}
+
+/// Conversions beside checks.
+fn conversions() {
+    println!("{CONVERSIONS}");
+    beside_checks(|shape| Work::conversions(shape, 20));
+}
+
+/// Calls on a region of a small shape and of a large one, beside checks of such a region.
+fn beside_checks(work: impl Fn(Shape) -> Work) {
     println!(
         "{:>4}{:>4}{:>9}{:>10}{:>10}{:>8}{:>8}",
         "D", "T", "bytes", "library", "plain", "ratio", "share"
     );
     for shape in [SMALL, LARGE] {
-        let work = Work::permits(shape, 20);
-        let Times { library, plain, ratio } = measure(&work, 20);
+        let work = work(shape);
+        let Times { library, plain, ratio } = measure(&work, work.call_count());
         let share = share(&work, &Work::checks(shape, 20));
         let Shape { depth, threads, .. } = shape;
         println!(

@@ -95,7 +95,7 @@ impl Bench<'_> {
         reason = "a time is above 0, and the number of copies no greater than the cache allows"
     )]
     fn of(work: &Work) -> Bench<'_> {
-        let answers = vec![0; work.answer_bytes()];
+        let answers = vec![0; work.answer_bytes];
         let mut once = Bench { work, rounds: 0, regions: work.start.clone(), answers };
         let fastest = (0..20).map(|_| once.time::<Plain>()).fold(f64::INFINITY, f64::min);
         let copies = ((NANOSECONDS / fastest) as usize).min(CACHE / work.start.len()).max(1);

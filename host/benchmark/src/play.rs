@@ -31,6 +31,8 @@ pub enum Call {
     /// A run of these turns of the work's schedule, without a limit.
     Run(Range<usize>),
     Check,
+    /// A conversion of a region of the old form, which the bytes are; the answer is the new region.
+    Convert,
     /// A check of records, which the bytes are instead of a region.
     Records,
     /// A cut of a script, which the bytes are instead of a region; the answer is what is left.
@@ -47,6 +49,7 @@ pub trait Queue {
     fn permit(region: &mut [u8], thread: u32, permission: u32);
     fn run(region: &mut [u8], schedule: &[u8], answers: &mut [u8]);
     fn check(region: &[u8]);
+    fn convert(old: &[u8], new: &mut [u8]);
     fn records(records: &[u8]);
     fn cut(script: &[u8], number: u32, out: &mut [u8]);
 }
@@ -77,6 +80,10 @@ impl Queue for Library {
 
     fn check(region: &[u8]) {
         black_box(calls::check(black_box(region)));
+    }
+
+    fn convert(old: &[u8], new: &mut [u8]) {
+        black_box(calls::convert(black_box(old), new));
     }
 
     fn records(records: &[u8]) {
@@ -116,6 +123,10 @@ impl Queue for Plain {
         _ = black_box(plain::check(black_box(region)));
     }
 
+    fn convert(old: &[u8], new: &mut [u8]) {
+        _ = black_box(plain::convert(black_box(old), new));
+    }
+
     fn records(records: &[u8]) {
         _ = black_box(plain::check_records_by_position(black_box(records)));
     }
@@ -137,6 +148,7 @@ pub fn play<Q: Queue>(work: &Work, region: &mut [u8], answers: &mut [u8]) {
                 Q::run(region, &work.schedule[8 * turns.start..8 * turns.end], answers);
             }
             Call::Check => Q::check(region),
+            Call::Convert => Q::convert(region, answers),
             Call::Records => Q::records(region),
             Call::Cut { number } => Q::cut(region, *number, answers),
         }

@@ -37,11 +37,14 @@ impl Random {
 /// The greatest item.
 const GREATEST: Item = (u32::MAX - 1, 0xffff);
 
-/// Where the first leaf stands in a region: before it are the heading, 6 words, and 3 of each node
-/// above it.
+/// Bytes of a node: first cell, dirty, and two words of its counter.
+const NODE: usize = 16;
+
+/// Where the first leaf stands in a region: before it are the heading, 6 words, and the nodes above
+/// it.
 fn first_leaf_at(shape: Shape) -> usize {
     let nodes_before = (1 << (shape.depth - 1)) - 1;
-    4 * (6 + 3 * nodes_before)
+    4 * 6 + NODE * nodes_before
 }
 
 /// A region, and the calls made on it so far.
@@ -70,7 +73,7 @@ impl Recorder {
             recorder.put_by_choice_and_run((key, 0), 0);
         }
         let (_, first_leaf_on) = recorder.region.split_at_mut(first_leaf_at(shape));
-        let leaves = first_leaf_on[..12 << (shape.depth - 1)].chunks_exact_mut(12);
+        let leaves = first_leaf_on[..NODE << (shape.depth - 1)].chunks_exact_mut(NODE);
         leaves.for_each(|leaf| leaf[..4].copy_from_slice(&shape.depth.to_le_bytes()));
         recorder.started()
     }
@@ -257,6 +260,7 @@ impl Recorder {
         let answer = plain::turn(&mut self.region, thread, choice);
         self.work.schedule.extend([thread, choice].into_iter().flat_map(u32::to_le_bytes));
         self.work.turns += 1;
+        self.work.answer_bytes += 12;
         self.work.accesses += u32::from(answer.is_access());
         answer
     }

@@ -2,6 +2,7 @@
 //! on a script.
 
 use checks::ending_scripts::LongScript;
+use checks::old_queue::OldQueue;
 use mound::{Permission, Record, Shape, Verdict};
 
 use crate::native;
@@ -16,6 +17,9 @@ pub const PAIRS: u32 = 32;
 pub struct Work {
     /// The region before the calls, or the records, or the script.
     pub start: Vec<u8>,
+    /// The bytes that the calls' answers need: twelve for each turn, those of a region that is
+    /// converted, or those of a script that is cut.
+    pub answer_bytes: usize,
     pub calls: Vec<Call>,
     /// The turns of all runs, eight bytes each.
     pub schedule: Vec<u8>,
@@ -27,14 +31,6 @@ pub struct Work {
 impl Work {
     pub fn call_count(&self) -> u32 {
         u32::try_from(self.calls.len()).expect("a work has few calls")
-    }
-
-    /// The bytes that the answers need: twelve for each turn, or those of a script that is cut.
-    pub fn answer_bytes(&self) -> usize {
-        match self.calls[..] {
-            [Call::Cut { .. }] => self.start.len(),
-            _ => 12 * self.turns as usize,
-        }
     }
 
     /// One run in which every second thread has begun a take and each other one a put, with half of
@@ -139,6 +135,13 @@ impl Work {
         work
     }
 
+    /// This many conversions of a region of the old form that is laid out.
+    pub fn conversions(shape: Shape, conversions: usize) -> Work {
+        let start = OldQueue::open_to_all(shape).bytes;
+        let answer_bytes = shape.byte_len().expect("a shape in range");
+        Work { start, answer_bytes, calls: vec![Call::Convert; conversions], ..Work::default() }
+    }
+
     /// This many checks of the records of so many operations, which are accepted.
     pub fn records(operations: u32, checks: usize) -> Work {
         let records = native::records(operations);
@@ -151,7 +154,8 @@ impl Work {
     /// A cut of a script for the number that it shows.
     pub fn cut(script: &LongScript) -> Work {
         let start = script.text.clone().into_bytes();
-        Work { start, calls: vec![Call::Cut { number: script.number }], ..Work::default() }
+        let calls = vec![Call::Cut { number: script.number }];
+        Work { answer_bytes: start.len(), start, calls, ..Work::default() }
     }
 
     /// The same calls on bytes in which the word behind this many others is out of any range.

@@ -8,10 +8,16 @@ use crate::random::Random;
 pub const HEADING: usize = 6;
 pub const PRESENT_DEPTH: usize = 4;
 pub const FIRST_FREE_CELL: usize = 5;
-/// Words of a node or a cell.
-pub const RECORD: usize = 3;
-/// Words of a thread's record.
-pub const THREAD: usize = 33;
+/// Words of a node, of a cell, of a node copy and of a thread's record.
+pub const NODE_RECORD: usize = Form::PRESENT.node();
+pub const CELL_RECORD: usize = 3;
+pub const COPY_RECORD: usize = Form::PRESENT.copy();
+pub const THREAD: usize = Form::PRESENT.thread();
+
+/// The words of a node, or of a node copy, behind its first cell.
+pub const DIRTY: usize = 1;
+pub const COUNTER_LOW: usize = 2;
+pub const COUNTER_HIGH: usize = 3;
 
 /// The words of a thread's record up to its three node copies.
 pub const PERMISSION: usize = 0;
@@ -32,7 +38,40 @@ pub const RESULT_TAG: usize = 14;
 
 /// Where the three node copies start in a thread's record; each has the words of a node, then those
 /// of its head cell.
-pub const COPIES: [usize; 3] = [15, 21, 27];
+pub const COPIES: [usize; 3] = [15, 22, 29];
+
+/// A form of regions, by the words of a counter; these decide the other sizes.
+#[derive(Clone, Copy, Debug, PartialEq)]
+pub struct Form {
+    counter: usize,
+}
+
+impl Form {
+    /// Counters of 64 bits, low word first, request 7.
+    pub const PRESENT: Form = Form { counter: 2 };
+    /// Counters of 32 bits.
+    pub const OLD: Form = Form { counter: 1 };
+
+    const fn node(self) -> usize {
+        2 + self.counter
+    }
+
+    const fn copy(self) -> usize {
+        self.node() + CELL_RECORD
+    }
+
+    const fn thread(self) -> usize {
+        THREAD_FIELDS.len() + 3 * self.copy()
+    }
+
+    /// The words of a region of this shape, which is in range.
+    pub fn word_count(self, shape: Shape) -> usize {
+        HEADING
+            + self.node() * ((1 << shape.depth) - 1)
+            + CELL_RECORD * shape.cells as usize
+            + self.thread() * shape.threads as usize
+    }
+}
 
 /// The places' numbers.
 pub mod place {
@@ -65,7 +104,8 @@ pub enum Field {
     Depth,
     Cell,
     Dirty,
-    Counter,
+    CounterLow,
+    CounterHigh,
     Key,
     Tag,
     Permission,
@@ -77,10 +117,10 @@ pub enum Field {
     After,
 }
 
-const NODE_FIELDS: [Field; RECORD] = [Field::Cell, Field::Dirty, Field::Counter];
-const CELL_FIELDS: [Field; RECORD] = [Field::Key, Field::Tag, Field::Cell];
-const COPY_FIELDS: [Field; 6] =
-    [Field::Cell, Field::Dirty, Field::Counter, Field::Key, Field::Tag, Field::Cell];
+/// In the old form the last one is missing.
+const NODE_FIELDS: [Field; NODE_RECORD] =
+    [Field::Cell, Field::Dirty, Field::CounterLow, Field::CounterHigh];
+const CELL_FIELDS: [Field; CELL_RECORD] = [Field::Key, Field::Tag, Field::Cell];
 const THREAD_FIELDS: [Field; 15] = [
     Field::Permission,
     Field::Place,
@@ -103,15 +143,21 @@ const THREAD_FIELDS: [Field; 15] = [
 #[derive(Clone)]
 pub struct Words {
     pub words: Vec<u32>,
+    form: Form,
 }
 
 impl Words {
     /// The words of an empty queue whose threads may do nothing.
     pub fn laid_out(shape: Shape) -> Words {
-        let mut words = vec![0; shape.byte_len().expect("a shape in range") / 4];
+        Words::laid_out_in(Form::PRESENT, shape)
+    }
+
+    /// The same in a region of this form.
+    pub fn laid_out_in(form: Form, shape: Shape) -> Words {
+        let mut words = vec![0; form.word_count(shape)];
         let first_words = [shape.depth, shape.cells, shape.threads, shape.threshold, 1, 1];
         words[..HEADING].copy_from_slice(&first_words);
-        let mut region = Words { words };
+        let mut region = Words { words, form };
         for cell in 1..shape.cells {
             let next = region.cell(cell) + 2;
             region.words[next] = cell + 1;
@@ -119,19 +165,25 @@ impl Words {
         region
     }
 
-    /// A readable region, each field anywhere in its range, the ends of the range frequent. Half of
-    /// the regions have but two keys, so that items of one key meet; one of the two is
-    /// 4,294,967,295, which no item of a laid-out region has.
+    /// A readable region, each field anywhere in its range, the ends of the range frequent; so that
+    /// those of both words of a counter are, half of the high words equal the low ones. Half of the
+    /// regions have but two keys, so that items of one key meet; one of the two is 4,294,967,295,
+    /// which no item of a laid-out region has.
     pub fn any_readable(random: &mut Random, shape: Shape) -> Words {
-        let mut region = Words::laid_out(shape);
+        Words::any_readable_in(Form::PRESENT, random, shape)
+    }
+
+    /// The same in a region of this form.
+    pub fn any_readable_in(form: Form, random: &mut Random, shape: Shape) -> Words {
+        let mut region = Words::laid_out_in(form, shape);
         let has_few_keys = random.among(0..=1) == 0;
         let few_keys = [u32::MAX, random.among_or_extreme(0..=u32::MAX)];
         // Place and node stand before the fields whose ranges depend on them.
         for at in 4..region.words.len() {
-            region.words[at] = if has_few_keys && region.field(at) == Field::Key {
-                random.one_of(&few_keys)
-            } else {
-                random.among_or_extreme(region.least(at)..=region.greatest(at))
+            region.words[at] = match region.field(at) {
+                Field::Key if has_few_keys => random.one_of(&few_keys),
+                Field::CounterHigh if random.among(0..=1) == 0 => region.words[at - 1],
+                _ => random.among_or_extreme(region.least(at)..=region.greatest(at)),
             };
         }
         region
@@ -139,8 +191,13 @@ impl Words {
 
     /// The words of a region's bytes.
     pub fn of(bytes: &[u8]) -> Words {
+        Words::of_form(Form::PRESENT, bytes)
+    }
+
+    /// The same of a region of this form.
+    pub fn of_form(form: Form, bytes: &[u8]) -> Words {
         let (words, _) = bytes.as_chunks();
-        Words { words: words.iter().map(|&word| u32::from_le_bytes(word)).collect() }
+        Words { words: words.iter().map(|&word| u32::from_le_bytes(word)).collect(), form }
     }
 
     pub fn bytes(&self) -> Vec<u8> {
@@ -162,14 +219,16 @@ impl Words {
 
     /// Whether the length is the shape's and every field is in its range.
     pub fn is_readable(&self) -> bool {
-        self.shape().byte_len() == Ok(4 * self.words.len())
+        let shape = self.shape();
+        shape.is_in_range()
+            && self.form.word_count(shape) == self.words.len()
             && (4..self.words.len())
                 .all(|at| (self.least(at)..=self.greatest(at)).contains(&self.words[at]))
     }
 
     /// Whether a word after the shape has a range: counters and keys are free.
     pub fn has_range(&self, at: usize) -> bool {
-        !matches!(self.field(at), Field::Counter | Field::Key)
+        !matches!(self.field(at), Field::CounterLow | Field::CounterHigh | Field::Key)
     }
 
     /// What the word holds, for any word after the shape.
@@ -177,13 +236,23 @@ impl Words {
         if at < HEADING {
             [Field::Depth, Field::Cell][at - 4]
         } else if at < self.cell(1) {
-            NODE_FIELDS[(at - HEADING) % RECORD]
+            NODE_FIELDS[(at - HEADING) % self.form.node()]
         } else if at < self.thread(1) {
-            CELL_FIELDS[(at - self.cell(1)) % RECORD]
+            CELL_FIELDS[(at - self.cell(1)) % CELL_RECORD]
         } else {
-            let word = (at - self.thread(1)) % THREAD;
-            let copies = THREAD_FIELDS.len();
-            *THREAD_FIELDS.get(word).unwrap_or_else(|| &COPY_FIELDS[(word - copies) % 6])
+            let word = (at - self.thread(1)) % self.form.thread();
+            match word.checked_sub(THREAD_FIELDS.len()) {
+                None => THREAD_FIELDS[word],
+                Some(of_copies) => self.copy_field(of_copies % self.form.copy()),
+            }
+        }
+    }
+
+    /// What a word of a node copy holds: the node's words come first, then those of its head cell.
+    fn copy_field(&self, word: usize) -> Field {
+        match word.checked_sub(self.form.node()) {
+            None => NODE_FIELDS[word],
+            Some(of_head) => CELL_FIELDS[of_head],
         }
     }
 
@@ -196,7 +265,7 @@ impl Words {
     pub fn greatest(&self, at: usize) -> u32 {
         let shape = self.shape();
         match self.field(at) {
-            Field::Counter | Field::Key => u32::MAX,
+            Field::CounterLow | Field::CounterHigh | Field::Key => u32::MAX,
             Field::Tag => 65_535,
             Field::Dirty => 1,
             Field::Permission | Field::After => 3,
@@ -223,26 +292,30 @@ impl Words {
             Field::Tries if value > self.shape().threshold => at + 1,
             Field::Tries | Field::Waiting => {
                 let first_thread = self.thread(1);
-                first_thread + (at - first_thread).next_multiple_of(THREAD)
+                first_thread + (at - first_thread).next_multiple_of(self.form.thread())
             }
             _ => at + 1,
         }
     }
 
+    /// Where a node starts, counted from 1.
+    pub fn node(&self, node: u32) -> usize {
+        HEADING + self.form.node() * (node as usize - 1)
+    }
+
     /// Where the record of a cell starts, counted from 1.
     pub fn cell(&self, cell: u32) -> usize {
-        let nodes = (1 << self.shape().depth) - 1;
-        HEADING + RECORD * nodes + RECORD * (cell as usize - 1)
+        self.node(1 << self.shape().depth) + CELL_RECORD * (cell as usize - 1)
     }
 
     /// Where the record of a thread starts, counted from 1.
     pub fn thread(&self, thread: u32) -> usize {
-        self.cell(1) + RECORD * self.shape().cells as usize + THREAD * (thread as usize - 1)
+        self.cell(self.shape().cells + 1) + self.form.thread() * (thread as usize - 1)
     }
 
     /// Another word of the thread's record in which a word stands.
     fn beside(&self, at: usize, word: usize) -> u32 {
         let threads = self.thread(1);
-        self.words[at - (at - threads) % THREAD + word]
+        self.words[at - (at - threads) % self.form.thread() + word]
     }
 }

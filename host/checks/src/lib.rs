@@ -15,6 +15,7 @@ pub mod figures;
 pub mod leaves;
 pub mod made_scripts;
 pub mod native;
+pub mod old_queue;
 pub mod program;
 pub mod queue;
 pub mod random;

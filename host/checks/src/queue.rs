@@ -6,8 +6,8 @@ use mound::{Answer, Refusal, Shape};
 use plain::Machine;
 
 use crate::fields::{
-    place, COPIES, FIRST_FREE_CELL, HEADING, KEY, NODE, OWN_CELL, PERMISSION, PLACE, PRESENT_DEPTH,
-    RECORD, TAG, THREAD,
+    place, CELL_RECORD, COPIES, COPY_RECORD, COUNTER_HIGH, COUNTER_LOW, DIRTY, FIRST_FREE_CELL,
+    HEADING, KEY, NODE, NODE_RECORD, OWN_CELL, PERMISSION, PLACE, PRESENT_DEPTH, TAG, THREAD,
 };
 use crate::values::Value;
 
@@ -63,7 +63,7 @@ impl Queue {
         queue.set_word(FIRST_FREE_CELL, 0);
         for (number, value) in (1..).zip(values) {
             if let Some((key, tag)) = value {
-                queue.set_words(queue.node_at(number), [number, 0, 9]);
+                queue.set_words(queue.node_at(number), [number, 0, 9, 0]);
                 queue.set_words(queue.cell_at(number), [key, tag, 0]);
             }
         }
@@ -150,7 +150,7 @@ impl Queue {
         self.bytes[4 * at..4 * at + 4].copy_from_slice(&value.to_le_bytes());
     }
 
-    pub fn set_words(&mut self, at: usize, values: [u32; 3]) {
+    pub fn set_words<const N: usize>(&mut self, at: usize, values: [u32; N]) {
         for (at, value) in (at..).zip(values) {
             self.set_word(at, value);
         }
@@ -158,12 +158,12 @@ impl Queue {
 
     /// Where the record of a node starts.
     pub fn node_at(&self, node: u32) -> usize {
-        HEADING + RECORD * (node as usize - 1)
+        HEADING + NODE_RECORD * (node as usize - 1)
     }
 
     /// Where the record of a cell starts.
     pub fn cell_at(&self, cell: u32) -> usize {
-        self.node_at(1 << self.word(0)) + RECORD * (cell as usize - 1)
+        self.node_at(1 << self.word(0)) + CELL_RECORD * (cell as usize - 1)
     }
 
     /// Where the record of a thread starts.
@@ -171,11 +171,23 @@ impl Queue {
         self.cell_at(self.word(1) + 1) + THREAD * (thread as usize - 1)
     }
 
-    pub fn node(&self, node: u32) -> [u32; 3] {
+    pub fn node(&self, node: u32) -> [u32; NODE_RECORD] {
         self.words(self.node_at(node))
     }
 
-    pub fn cell(&self, cell: u32) -> [u32; 3] {
+    /// The counter of a node.
+    pub fn counter(&self, node: u32) -> u64 {
+        let node = self.node(node);
+        u64::from(node[COUNTER_HIGH]) << 32 | u64::from(node[COUNTER_LOW])
+    }
+
+    /// Sets the counter of the node, or of the node copy, that starts at this word.
+    #[allow(clippy::cast_possible_truncation, reason = "a counter is cut into its words")]
+    pub fn set_counter(&mut self, at: usize, counter: u64) {
+        self.set_words(at + COUNTER_LOW, [counter as u32, (counter >> 32) as u32]);
+    }
+
+    pub fn cell(&self, cell: u32) -> [u32; CELL_RECORD] {
         self.words(self.cell_at(cell))
     }
 
@@ -219,15 +231,15 @@ impl Queue {
 
     /// What a READ copies of a node: its words, then those of its head cell, all 0 for an empty
     /// list.
-    pub fn read(&self, node: u32) -> [u32; 6] {
-        let [first_cell, dirty, counter] = self.node(node);
+    pub fn read(&self, node: u32) -> [u32; COPY_RECORD] {
+        let [first_cell, dirty, low, high] = self.node(node);
         let [key, tag, next] = if first_cell == 0 { [0; 3] } else { self.cell(first_cell) };
-        [first_cell, dirty, counter, key, tag, next]
+        [first_cell, dirty, low, high, key, tag, next]
     }
 
     /// One of a thread's node copies, the first as 0.
-    pub fn copy(&self, thread: u32, copy: usize) -> [u32; 6] {
-        std::array::from_fn(|word| self.field(thread, COPIES[copy] + word))
+    pub fn copy(&self, thread: u32, copy: usize) -> [u32; COPY_RECORD] {
+        self.words(self.thread_at(thread) + COPIES[copy])
     }
 
     pub fn place(&self, thread: u32) -> u32 {
@@ -281,7 +293,7 @@ impl Queue {
     }
 
     pub fn dirty_nodes(&self) -> impl Iterator<Item = u32> + '_ {
-        (1..1 << self.shape().depth).filter(|&node| self.node(node)[1] == 1)
+        (1..1 << self.shape().depth).filter(|&node| self.node(node)[DIRTY] == 1)
     }
 
     pub fn all_clean(&self) -> bool {
@@ -371,7 +383,7 @@ impl Queue {
         (key, tag)
     }
 
-    fn words(&self, at: usize) -> [u32; 3] {
-        [at, at + 1, at + 2].map(|at| self.word(at))
+    fn words<const N: usize>(&self, at: usize) -> [u32; N] {
+        std::array::from_fn(|word| self.word(at + word))
     }
 }

@@ -27,6 +27,11 @@ impl Random {
         range.start() + above
     }
 
+    /// The same of wide numbers.
+    pub fn wide_among(&mut self, range: RangeInclusive<u64>) -> u64 {
+        range.start() + self.next() % (range.end() - range.start() + 1)
+    }
+
     /// Any number of the range, its ends and their neighbours as often as all others together.
     pub fn among_or_extreme(&mut self, range: RangeInclusive<u32>) -> u32 {
         let (least, greatest) = (*range.start(), *range.end());
@@ -60,6 +65,11 @@ impl Random {
     /// A permission for each thread of the shape.
     pub fn permissions(&mut self, shape: Shape) -> Vec<u8> {
         (0..shape.threads).map(|_| self.one_of(&[0, 1, 2, 3])).collect()
+    }
+
+    /// The same, most of them both permissions.
+    pub fn generous_permissions(&mut self, shape: Shape) -> Vec<u8> {
+        (0..shape.threads).map(|_| self.one_of(&[0, 1, 2, 3, 3, 3, 3, 3])).collect()
     }
 
     /// A shape in range, at most so deep.

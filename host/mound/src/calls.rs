@@ -12,7 +12,7 @@
 //! ```
 //! use mound::{calls, Refusal};
 //!
-//! let mut bytes = [0; 180];
+//! let mut bytes = [0; 196];
 //! assert_eq!(calls::layout(&mut bytes, 1, 1, 1, 1, &[3]), 0);
 //! assert_eq!(calls::put(&mut bytes, 1, 5, 9), 0);
 //! assert_eq!(calls::put(&mut bytes, 1, 6, 9), Refusal::Busy.number());
@@ -64,6 +64,8 @@ mod exported {
         ) -> u64;
 
         pub fn mound_check(region: *const u8, region_len: usize) -> u32;
+
+        pub fn mound_convert(old: *const u8, old_len: usize, new: *mut u8, new_len: usize) -> u32;
 
         pub fn mound_records(records: *const u8, records_len: usize) -> u32;
 
@@ -192,6 +194,19 @@ pub fn check(region: &[u8]) -> u32 {
     // SAFETY: the pointer goes with the slice's own length. The slice is lent for the call, in
     // which the library only reads it; it does not keep the pointer.
     unsafe { exported::mound_check(region.as_ptr(), region.len()) }
+}
+
+/// Carries a region of the old form, whose counters have one word, over to `new`: each byte of it is
+/// set, each value is the same, and the high words of the counters are 0. What may be expected of
+/// `new` afterwards is said at [`Region::convert`](crate::Region::convert).
+///
+/// Refusals, in order: 7 (`old` is no readable region of the old form), 2 (length of `new`). Cost:
+/// that of [`check`] for `old`, then each byte of `new` is written.
+#[must_use = "the number says whether the call was refused"]
+pub fn convert(old: &[u8], new: &mut [u8]) -> u32 {
+    // SAFETY: each pointer goes with the length of its own slice. Both slices are lent for the
+    // call, `old` to be read, `new` exclusively; the library keeps neither pointer.
+    unsafe { exported::mound_convert(old.as_ptr(), old.len(), new.as_mut_ptr(), new.len()) }
 }
 
 /// Checks the records of a queue that runs on several cores, seven words each: kind, thread, begin

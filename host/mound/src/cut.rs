@@ -21,7 +21,7 @@ pub const MOST_SCRIPT_BYTES: usize = 60_000;
 ///
 /// Cost: each line is read once. For a pass over n lines of which it keeps k, the region of the
 /// script is copied at most n times, and at most n × (log2 n + k) lines are carried out; none of them checks
-/// the region. No memory is allocated; 360 kB of the stack are used.
+/// the region. No memory is allocated; 385 kB of the stack are used.
 ///
 /// ```
 /// use mound::{cut, Refusal};

@@ -24,10 +24,10 @@ use walk::walk;
 /// Region::layout(&mut bytes, shape, &[Permission::PUT])?;
 /// assert_eq!(Damage::of(&bytes), None);
 ///
-/// // Word 25 is the dirty mark of node 7.
-/// bytes[4 * 25] = 2;
+/// // Word 31 is the dirty mark of node 7.
+/// bytes[4 * 31] = 2;
 /// let damage = Region::open(&mut bytes).unwrap_err();
-/// assert_eq!(damage.to_string(), "word 25: node 7's dirty mark is 2, not 0 to 1");
+/// assert_eq!(damage.to_string(), "word 31: node 7's dirty mark is 2, not 0 to 1");
 /// assert_eq!(Refusal::from(damage), Refusal::Unreadable);
 /// # Ok::<(), Refusal>(())
 /// ```
@@ -129,10 +129,10 @@ impl fmt::Display for Part {
 /// let shape = Shape { depth: 1, cells: 1, threads: 1, threshold: 1 };
 /// let mut bytes = vec![0; shape.byte_len()?];
 /// Region::layout(&mut bytes, shape, &[Permission::PUT])?;
-/// bytes[4 * 13] = 20;
-/// let Some(Damage::Word(word)) = Damage::of(&bytes) else { panic!("word 13 is out of range") };
-/// assert_eq!(word.to_string(), "word 13: thread 1's place is 20, not 0 to 19");
-/// assert_eq!((word.index(), word.part(), word.field()), (13, Part::Thread(1), "place"));
+/// bytes[4 * 14] = 20;
+/// let Some(Damage::Word(word)) = Damage::of(&bytes) else { panic!("word 14 is out of range") };
+/// assert_eq!(word.to_string(), "word 14: thread 1's place is 20, not 0 to 19");
+/// assert_eq!((word.index(), word.part(), word.field()), (14, Part::Thread(1), "place"));
 /// assert_eq!((word.value(), word.range()), (20, 0..=19));
 /// # Ok::<(), Refusal>(())
 /// ```
@@ -167,8 +167,8 @@ impl OutOfRange {
         self.part
     }
 
-    /// What the word holds, by its name in docs/REFERENCE.md. Counters and keys may be any number,
-    /// so the names are
+    /// What the word holds, by its name in docs/REFERENCE.md. Both words of a counter, and
+    /// keys, may be any number, so the names are
     /// - of the heading `greatest depth`, `cells`, `threads`, `threshold`, `present depth` and
     ///   `first free cell`;
     /// - of a node `first cell` and `dirty mark`;

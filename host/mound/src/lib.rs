@@ -16,7 +16,7 @@
 //! # fn main() -> Result<(), Refusal> {
 //! let shape = Shape { depth: 2, cells: 2, threads: 2, threshold: 1 };
 //! let mut bytes = vec![0; shape.byte_len()?];
-//! assert_eq!(bytes.len(), 348);
+//! assert_eq!(bytes.len(), 384);
 //!
 //! // Thread 1 may put and take, thread 2 may do nothing.
 //! let mut region =
@@ -44,6 +44,10 @@
 //! # }
 //! ```
 //!
+//! Regions that earlier versions of this library left have counters of one word, where they have
+//! two now. [`Region::convert`] carries such a region of the old form over, with its items and the
+//! operations under way; no other call reads one.
+//!
 //! A queue of another make, one that runs on several cores, can have the records of its operations
 //! checked by [`check_records`]; that needs no region. Nor does [`cut()`], which finds in a long
 //! script, as the script program of this repository runs them, the few lines that a refusal needs.
@@ -66,6 +70,7 @@
 //! |---|---|---|
 //! | [`Region::layout`] | 1 shape or permissions, 2 length | each byte |
 //! | [`Region::open`] | 7 not readable, as a [`Damage`] | a check |
+//! | [`Region::convert`] | 7 no readable region of the old form, 2 length | a check, each byte |
 //! | [`Region::put`] | 3 thread, 4 item, 8 permission, 9 busy, 10 no free cell | a check, one record and one cell |
 //! | [`Region::take`], [`Region::list`] | 3 thread, 8 permission, 9 busy | a check, one record |
 //! | [`Region::permit`] | 3 thread | a check, one word |

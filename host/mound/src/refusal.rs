@@ -22,8 +22,8 @@ pub enum Refusal {
     /// 1: the shape is outside its ranges, or a permission is above 3, or the permissions are not
     /// one a thread.
     Shape = 1,
-    /// 2: the slice to lay out does not have the exact length of the shape, or the slice for a
-    /// script that is to be cut down is shorter than the script.
+    /// 2: the slice to lay out, or to convert to, does not have the exact length of the shape; or the
+    /// slice for a script that is to be cut down is shorter than the script.
     RegionLength = 2,
     /// 3: the thread is 0 or above the number of threads.
     Thread = 3,
@@ -33,9 +33,9 @@ pub enum Refusal {
     AnswerLength = 5,
     /// 6: the schedule is not whole turns of 8 bytes, or has over 4,096 of them.
     Schedule = 6,
-    /// 7: the region is not readable, where a [`Damage`](crate::Damage) says why; or a turn's
-    /// access, or the local work after it, names a node, a cell or a level that does not exist; or
-    /// a search at I3 has nothing left to search.
+    /// 7: the region is not readable, where a [`Damage`](crate::Damage) says why; or the region to
+    /// convert is not one of the old form; or a turn's access, or the local work after it, names a
+    /// node, a cell or a level that does not exist; or a search at I3 has nothing left to search.
     Unreadable = 7,
     /// 8: the thread lacks the permission.
     Permission = 8,
@@ -43,7 +43,7 @@ pub enum Refusal {
     Busy = 9,
     /// 10: no cell is free.
     NoFreeCell = 10,
-    /// 11: an update whose comparison holds meets a counter of 4,294,967,295.
+    /// 11: an update whose comparison holds meets a counter of 2^64 − 1.
     CounterSpent = 11,
     /// 12: the records to check are not whole, or over 1,024; or a kind, a thread, a key or a tag
     /// of them is outside its range.

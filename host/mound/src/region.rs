@@ -14,8 +14,9 @@ const IDLE: u32 = 0;
 
 /// A queue in bytes that the host lends for as long as this value lives.
 ///
-/// It comes from [`Region::layout`], which starts an empty queue, or from [`Region::open`], which
-/// goes on with the bytes that an earlier region left. Either way the bytes are a readable region.
+/// It comes from [`Region::layout`], which starts an empty queue, from [`Region::open`], which goes
+/// on with the bytes that an earlier region left, or from [`Region::convert`], which carries over
+/// bytes of the old form. Whichever it is, the bytes are a readable region.
 /// They stay one, since nobody else can write them meanwhile and every call leaves them readable.
 /// So no call of a region is refused as [`Refusal::Unreadable`], though a turn inside a run may be.
 pub struct Region<'a> {
@@ -26,16 +27,16 @@ impl<'a> Region<'a> {
     /// Lays `bytes` out for an empty queue, with a permission for each thread. What the bytes held
     /// before does not matter.
     ///
-    /// Cost: each byte is written; at most 82,188 of them. No memory is allocated.
+    /// Cost: each byte is written; at most 99,336 of them. No memory is allocated.
     ///
     /// ```
     /// use mound::{Permission, Refusal, Region, Shape};
     ///
     /// let shape = Shape { depth: 1, cells: 1, threads: 1, threshold: 1 };
-    /// let mut bytes = [0xff; 180];
-    /// let refused = Region::layout(&mut bytes[..176], shape, &[Permission::PUT]);
+    /// let mut bytes = [0xff; 196];
+    /// let refused = Region::layout(&mut bytes[..192], shape, &[Permission::PUT]);
     /// assert_eq!(refused.unwrap_err(), Refusal::RegionLength);
-    /// assert_eq!(bytes, [0xff; 180]);
+    /// assert_eq!(bytes, [0xff; 196]);
     ///
     /// let region = Region::layout(&mut bytes, shape, &[Permission::PUT])?;
     /// assert_eq!(region.check(), Ok(()));
@@ -84,8 +85,8 @@ impl<'a> Region<'a> {
     /// let mut region = Region::open(&mut kept)?;
     /// region.put(1, 5, 9)?;
     ///
-    /// let damage = Region::open(&mut bytes[..344]).unwrap_err();
-    /// assert_eq!(damage.to_string(), "the length in bytes is 344, not 348");
+    /// let damage = Region::open(&mut bytes[..380]).unwrap_err();
+    /// assert_eq!(damage.to_string(), "the length in bytes is 380, not 384");
     /// # Ok::<(), Refusal>(())
     /// ```
     ///
@@ -97,6 +98,43 @@ impl<'a> Region<'a> {
             None => Ok(Region { bytes }),
             Some(damage) => Err(damage),
         }
+    }
+
+    /// Carries a region of the old form over to `bytes`, and goes on with these: `old` as an earlier
+    /// version of this library left it, with counters of one word. Each value is the same, and each
+    /// operation under way goes on where it stands; the high words of the counters are 0. `old` stays
+    /// as it is, and what `bytes` held before does not matter.
+    ///
+    /// From then on each call answers as that version would have answered it on `old`, as long as
+    /// that refuses no turn as [`Refusal::CounterSpent`]: old counters end at 2^32 − 1.
+    ///
+    /// Cost: that of [`Region::check`] for `old`, and each byte of `bytes` is written. No memory is
+    /// allocated.
+    ///
+    /// ```
+    /// use mound::{Permission, Refusal, Region, Shape};
+    ///
+    /// // The smallest region of the old form: each word of its heading is 1, its thread may put.
+    /// let mut old = vec![0; 180];
+    /// (0..6).for_each(|word| old[4 * word] = 1);
+    /// old[4 * 12] = 1;
+    ///
+    /// let shape = Shape::of_region(&old)?;
+    /// let mut bytes = vec![0; shape.byte_len()?];
+    /// let mut region = Region::convert(&old, &mut bytes)?;
+    /// assert_eq!(region.permission(1), Ok(Permission::PUT));
+    /// region.put(1, 5, 9)?;
+    /// # Ok::<(), Refusal>(())
+    /// ```
+    ///
+    /// # Errors
+    ///
+    /// In this order, and with no byte changed:
+    /// - [`Refusal::Unreadable`] where `old` is no readable region of the old form;
+    /// - [`Refusal::RegionLength`] where `bytes` is not of [`Shape::byte_len`] bytes, for the shape
+    ///   that [`Shape::of_region`] tells of `old`.
+    pub fn convert(old: &[u8], bytes: &'a mut [u8]) -> Result<Region<'a>, Refusal> {
+        Refusal::result_of(calls::convert(old, bytes)).map(|()| Region { bytes })
     }
 
     /// Begins a put of an item by a thread, counted from 1. The item is in the queue when a turn of

@@ -7,12 +7,23 @@ use crate::Refusal;
 
 /// Words before the first node: the shape, the present depth, the first free cell.
 const HEADING_WORDS: usize = 6;
-/// Words of one node.
-const NODE_WORDS: usize = 3;
 /// Words of one cell.
 const CELL_WORDS: usize = 3;
-/// Words of one thread's record.
-const THREAD_WORDS: usize = 33;
+/// The words of the shape.
+pub(crate) const SHAPE_WORDS: usize = 4;
+
+/// Words of what has counters in it: two words each, and one in a region of the old form.
+struct Form {
+    /// Of one node.
+    node: usize,
+    /// Of one thread's record.
+    thread: usize,
+}
+
+impl Form {
+    const PRESENT: Form = Form { node: 4, thread: 36 };
+    const OLD: Form = Form { node: 3, thread: 33 };
+}
 
 /// The four numbers that a region is laid out by. Any numbers can be written down here; a shape
 /// outside the ranges is refused when it is used.
@@ -21,7 +32,7 @@ const THREAD_WORDS: usize = 33;
 /// use mound::{Refusal, Shape};
 ///
 /// let shape = Shape { depth: 2, cells: 2, threads: 2, threshold: 1 };
-/// assert_eq!(shape.byte_len(), Ok(348));
+/// assert_eq!(shape.byte_len(), Ok(384));
 /// assert_eq!(Shape { cells: 3, ..shape }.byte_len(), Err(Refusal::Shape));
 /// assert_eq!(shape.to_string(), "depth 2, cells 2, threads 2, threshold 1");
 /// ```
@@ -39,10 +50,10 @@ pub struct Shape {
 }
 
 impl Shape {
-    /// The smallest shape there is, of 180 bytes.
+    /// The smallest shape there is, of 196 bytes.
     pub(crate) const SMALLEST: Shape = Shape { depth: 1, cells: 1, threads: 1, threshold: 1 };
 
-    /// The largest shape there is, of 82,188 bytes.
+    /// The largest shape there is, of 99,336 bytes.
     pub const LARGEST: Shape = Shape { depth: 12, cells: 2048, threads: 64, threshold: 16 };
 
     /// Whether each number is in its range.
@@ -87,25 +98,79 @@ impl Shape {
         }
     }
 
+    /// The exact length, in bytes, that a region of this shape has in the old form, which
+    /// [`Region::convert`](crate::Region::convert) carries over.
+    ///
+    /// ```
+    /// use mound::{Refusal, Shape};
+    ///
+    /// let shape = Shape { depth: 2, cells: 2, threads: 2, threshold: 1 };
+    /// assert_eq!(shape.old_byte_len(), Ok(348));
+    /// ```
+    ///
+    /// # Errors
+    ///
+    /// [`Refusal::Shape`] for a shape out of range.
+    #[inline]
+    pub const fn old_byte_len(self) -> Result<usize, Refusal> {
+        if self.is_in_range() {
+            Ok(self.byte_len_in(&Form::OLD))
+        } else {
+            Err(Refusal::Shape)
+        }
+    }
+
     /// The exact length of a region of this shape, for a shape in range.
     pub(crate) const fn byte_len_in_range(self) -> usize {
-        WORD * (self.words_before_threads() + THREAD_WORDS * self.threads as usize)
+        self.byte_len_in(&Form::PRESENT)
+    }
+
+    const fn byte_len_in(self, form: &Form) -> usize {
+        WORD * (self.words_before_threads(form) + form.thread * self.threads as usize)
     }
 
     /// The first word of a thread's record, for a shape in range; none where there is no such
     /// thread.
     pub(crate) fn thread_record(self, thread: u32) -> Option<usize> {
+        let form = Form::PRESENT;
         let others = (1..=self.threads).contains(&thread).then(|| thread as usize - 1)?;
-        Some(self.words_before_threads() + THREAD_WORDS * others)
+        Some(self.words_before_threads(&form) + form.thread * others)
     }
 
-    const fn words_before_threads(self) -> usize {
-        HEADING_WORDS + NODE_WORDS * self.nodes() as usize + CELL_WORDS * self.cells as usize
+    const fn words_before_threads(self, form: &Form) -> usize {
+        HEADING_WORDS + form.node * self.nodes() as usize + CELL_WORDS * self.cells as usize
     }
 
     /// The nodes of a tree of the greatest depth, for a shape in range.
     pub(crate) const fn nodes(self) -> u32 {
         (1 << self.depth) - 1
+    }
+
+    /// The shape that the first four words of a region name, be it of this form or of the old one;
+    /// the rest is not looked at.
+    ///
+    /// ```
+    /// use mound::{Refusal, Shape};
+    ///
+    /// let words = [2_u32, 2, 2, 1];
+    /// let mut first_bytes: Vec<u8> = words.into_iter().flat_map(u32::to_le_bytes).collect();
+    /// let shape = Shape { depth: 2, cells: 2, threads: 2, threshold: 1 };
+    /// assert_eq!(Shape::of_region(&first_bytes), Ok(shape));
+    /// first_bytes[0] = 13;
+    /// assert_eq!(Shape::of_region(&first_bytes), Err(Refusal::Unreadable));
+    /// ```
+    ///
+    /// # Errors
+    ///
+    /// [`Refusal::Unreadable`] where there are no four words, or where a number is out of its range.
+    pub fn of_region(bytes: &[u8]) -> Result<Shape, Refusal> {
+        let four_words = bytes.get(..SHAPE_WORDS * WORD).ok_or(Refusal::Unreadable)?;
+        let shape = Shape::named_by(four_words);
+        if shape.is_in_range() {
+            Ok(shape)
+        } else {
+            Err(Refusal::Unreadable)
+        }
     }
 
     /// The shape that a region's first words name, in range or not.

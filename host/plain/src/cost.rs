@@ -1,11 +1,12 @@
 //! The cost of a take, change request 3: a figure read from the region, no turn served.
 
+use crate::counter::Counter;
 use crate::fields::ROOT;
 use crate::machine::Machine;
 use crate::memory::NodeCopy;
 use crate::value::Value;
 
-impl Machine<'_> {
+impl<C: Counter> Machine<'_, C> {
     /// The accesses that a take begun now makes up to its answer.
     ///
     /// They are 1 where the root is empty. Otherwise the rest of the root's list, once its head is
@@ -48,7 +49,7 @@ impl Machine<'_> {
     }
 
     /// The root, or a child of a node above the present depth.
-    fn read(&self, node: u32) -> NodeCopy {
+    fn read(&self, node: u32) -> NodeCopy<C> {
         self.memory.read(node).expect("the present depth is at most that of the tree")
     }
 }

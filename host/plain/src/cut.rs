@@ -94,7 +94,7 @@ fn first_shown<'a>(
     lines: impl IntoIterator<Item = &'a ScriptLine<'a>>,
     number: u32,
 ) -> Option<usize> {
-    let mut machine = Machine::of_readable(region);
+    let mut machine = <Machine>::of_readable(region);
     let shows = |refusal: Refusal| refusal.number() == number;
     lines.into_iter().position(|ScriptLine { line, .. }| line.make(&mut machine).is_err_and(shows))
 }

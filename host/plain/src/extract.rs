@@ -3,12 +3,13 @@
 
 use mound::{Answer, Refusal};
 
+use crate::counter::Counter;
 use crate::fields::{After, Field, Place, MAY_TAKE, ROOT};
 use crate::memory::{Cell, Node, NodeCopy, Update};
 use crate::record::Copied;
 use crate::turn::{existing, Outcome, Stop, Turn};
 
-impl Turn<'_, '_> {
+impl<C: Counter> Turn<'_, '_, C> {
     /// E1, lines 22 to 26, and 17: READ the root. A dirty one is mended before it is read again;
     /// one that holds something is updated at the next place.
     pub(crate) fn read_root(&mut self, again: After, next: Place) -> Outcome {
@@ -64,7 +65,7 @@ impl Turn<'_, '_> {
 
     /// CAS of the root to a list that starts at this cell, dirty. Only a success names the copied
     /// head, so a copy without one is refused only where the comparison holds.
-    fn cut_root(&mut self, old: Node, first_cell: u32) -> Result<bool, Stop> {
+    fn cut_root(&mut self, old: Node<C>, first_cell: u32) -> Result<bool, Stop> {
         if old.first_cell == 0 && self.memory.equals(ROOT, old)? {
             return Err(Refusal::Unreadable.into());
         }

@@ -16,8 +16,16 @@ pub(crate) mod heading {
     pub const FIRST_FREE_CELL: usize = 5;
 }
 
-/// The words of a cell: key, tag, next cell.
+/// The words of a node; the counter has one or two.
+pub(crate) mod node {
+    pub const FIRST_CELL: usize = 0;
+    pub const DIRTY: usize = 1;
+    pub const COUNTER: usize = 2;
+}
+
+/// The words of a cell behind its key.
 pub(crate) mod cell {
+    pub const TAG: usize = 1;
     pub const NEXT: usize = 2;
 }
 

@@ -2,6 +2,7 @@
 
 use mound::{Answer, Refusal};
 
+use crate::counter::Counter;
 use crate::fields::{Field, Place, MAY_PUT, ROOT};
 use crate::memory::{Node, Update};
 use crate::record::Copied;
@@ -30,7 +31,7 @@ fn leaf_of(d: u32, number: u32) -> u32 {
     leaves + number % leaves
 }
 
-impl Turn<'_, '_> {
+impl<C: Counter> Turn<'_, '_, C> {
     /// I1, line 15: READ depth.
     pub(crate) fn read_depth(&mut self) -> Outcome {
         self.needs(MAY_PUT)?;
@@ -162,13 +163,13 @@ impl Turn<'_, '_> {
     }
 
     /// Line 6: the own cell before the copied list, the dirty bit as it was found.
-    fn push_on(&self, at: u32) -> Result<Update, Refusal> {
+    fn push_on(&self, at: u32) -> Result<Update<C>, Refusal> {
         let first_cell = existing(self.thread.get(Field::OwnCell))?;
         let old @ Node { dirty, .. } = self.thread.copy(Copied::First).node;
         Ok(Update { at, old, first_cell, dirty })
     }
 
-    fn end_push(&mut self, pushed: bool, push: &Update) -> Outcome {
+    fn end_push(&mut self, pushed: bool, push: &Update<C>) -> Outcome {
         if !pushed {
             return self.moved_to(Place::I1);
         }

@@ -2,38 +2,49 @@
 
 use mound::{Answer, Refusal, Shape};
 
+use crate::counter::Counter;
 use crate::fields::{
     Field, Place, GREATEST_KEY, GREATEST_PERMISSION, GREATEST_TAG, MAY_PUT, MAY_TAKE,
 };
 use crate::memory::Memory;
-use crate::parts::{Parts, ThreadWords};
+use crate::parts::PartsMut;
 use crate::readable::check;
 use crate::record::Record;
-use crate::sizes::shape_named_by;
+use crate::sizes::{byte_len, shape_named_by};
 use crate::turn::Turn;
 
-/// A queue in a region that was found readable, and that every call leaves readable.
-pub struct Machine<'a> {
+/// A queue in a region that was found readable, and that every call leaves readable. Its form is
+/// that of its counters.
+pub struct Machine<'a, C: Counter = u64> {
     shape: Shape,
-    pub(crate) memory: Memory<'a>,
-    threads: &'a mut [ThreadWords],
+    pub(crate) memory: Memory<'a, C>,
+    threads: &'a mut [C::ThreadWords],
 }
 
-impl<'a> Machine<'a> {
+impl<'a, C: Counter> Machine<'a, C> {
+    /// The exact length, in bytes, of a region of this shape.
+    ///
+    /// # Errors
+    ///
+    /// [`Refusal::Shape`] for a shape out of range.
+    pub fn byte_len(shape: Shape) -> Result<usize, Refusal> {
+        byte_len::<C>(shape)
+    }
+
     /// Opens a region after a check.
     ///
     /// # Errors
     ///
     /// [`Refusal::Unreadable`] where the region is not readable.
-    pub fn open(region: &'a mut [u8]) -> Result<Machine<'a>, Refusal> {
-        check(region)?;
+    pub fn open(region: &'a mut [u8]) -> Result<Machine<'a, C>, Refusal> {
+        check::<C>(region)?;
         Ok(Machine::of_readable(region))
     }
 
     /// Opens a region that is known to be readable: it was laid out, and calls alone changed it.
-    pub(crate) fn of_readable(region: &'a mut [u8]) -> Machine<'a> {
+    pub(crate) fn of_readable(region: &'a mut [u8]) -> Machine<'a, C> {
         let shape = shape_named_by(region);
-        let Parts { heading, nodes, cells, threads } = Parts::of(region, shape);
+        let PartsMut { heading, nodes, cells, threads } = PartsMut::<C>::of(region, shape);
         Machine { shape, memory: Memory { heading, nodes, cells }, threads }
     }
 
@@ -44,7 +55,7 @@ impl<'a> Machine<'a> {
     /// In this order, and with no byte changed: [`Refusal::Thread`], [`Refusal::Item`],
     /// [`Refusal::Permission`], [`Refusal::Busy`], [`Refusal::NoFreeCell`].
     pub fn put(&mut self, thread: u32, key: u32, tag: u32) -> Result<(), Refusal> {
-        let mut record = record_of(self.threads, thread)?;
+        let mut record = record_of::<C>(self.threads, thread)?;
         if key > GREATEST_KEY || tag > GREATEST_TAG {
             return Err(Refusal::Item);
         }
@@ -77,7 +88,7 @@ impl<'a> Machine<'a> {
     }
 
     fn begin_taking(&mut self, thread: u32, place: Place) -> Result<(), Refusal> {
-        let mut record = record_of(self.threads, thread)?;
+        let mut record = record_of::<C>(self.threads, thread)?;
         record.may_begin(MAY_TAKE)?;
         record.set_place(place);
         Ok(())
@@ -90,7 +101,7 @@ impl<'a> Machine<'a> {
     /// In this order, and with no byte changed: [`Refusal::Thread`], [`Refusal::Shape`] for a
     /// permission above 3.
     pub fn permit(&mut self, thread: u32, permission: u32) -> Result<(), Refusal> {
-        let mut record = record_of(self.threads, thread)?;
+        let mut record = record_of::<C>(self.threads, thread)?;
         if permission > GREATEST_PERMISSION {
             return Err(Refusal::Shape);
         }
@@ -110,13 +121,16 @@ impl<'a> Machine<'a> {
     }
 
     fn serve(&mut self, thread: u32, choice: u32) -> Result<Answer, Refusal> {
-        let thread = record_of(self.threads, thread)?;
+        let thread = record_of::<C>(self.threads, thread)?;
         Turn { shape: self.shape, memory: &mut self.memory, thread }.serve(choice)
     }
 }
 
 /// The record of a thread, counted from 1.
-fn record_of(threads: &mut [ThreadWords], thread: u32) -> Result<Record<'_>, Refusal> {
+fn record_of<C: Counter>(
+    threads: &mut [C::ThreadWords],
+    thread: u32,
+) -> Result<Record<'_, C>, Refusal> {
     let index = (thread as usize).wrapping_sub(1);
     threads.get_mut(index).map(Record).ok_or(Refusal::Thread)
 }

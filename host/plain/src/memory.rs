@@ -3,26 +3,33 @@
 
 use mound::Refusal;
 
-use crate::fields::{cell, heading};
-use crate::parts::{CellWords, Heading, NodeWords};
+use crate::counter::Counter;
+use crate::fields::{cell, heading, node};
+use crate::parts::{CellWords, Heading};
 use crate::value::Value;
+use crate::words::{Block, Word};
 
 /// A node of the tree: its list's first cell (0 for none), its dirty bit, its counter.
 #[derive(Clone, Copy, PartialEq, Eq)]
-pub(crate) struct Node {
+pub(crate) struct Node<C> {
     pub first_cell: u32,
     pub dirty: bool,
-    pub counter: u32,
+    pub counter: C,
 }
 
-impl Node {
-    pub fn from_words(words: NodeWords) -> Node {
-        let [first_cell, dirty, counter] = words.map(u32::from_le_bytes);
-        Node { first_cell, dirty: dirty != 0, counter }
+impl<C: Counter> Node<C> {
+    pub fn from_words(words: &[Word]) -> Node<C> {
+        Node {
+            first_cell: u32::from_le_bytes(words[node::FIRST_CELL]),
+            dirty: u32::from_le_bytes(words[node::DIRTY]) != 0,
+            counter: C::from_words(&words[node::COUNTER..]),
+        }
     }
 
-    pub fn to_words(self) -> NodeWords {
-        [self.first_cell, self.dirty.into(), self.counter].map(u32::to_le_bytes)
+    pub fn write_to(self, words: &mut [Word]) {
+        words[node::FIRST_CELL] = self.first_cell.to_le_bytes();
+        words[node::DIRTY] = u32::from(self.dirty).to_le_bytes();
+        self.counter.write_to(&mut words[node::COUNTER..]);
     }
 }
 
@@ -52,12 +59,24 @@ impl Cell {
 
 /// What READ copies of a node: the node and its head cell, which is all 0 for an empty list.
 #[derive(Clone, Copy)]
-pub(crate) struct NodeCopy {
-    pub node: Node,
+pub(crate) struct NodeCopy<C> {
+    pub node: Node<C>,
     pub head: Cell,
 }
 
-impl NodeCopy {
+impl<C: Counter> NodeCopy<C> {
+    pub fn from_words(words: &C::CopyWords) -> NodeCopy<C> {
+        let (node, head) = words.as_ref().split_at(C::NodeWords::WORDS);
+        let head = head.first_chunk().expect("a cell stands behind the node");
+        NodeCopy { node: Node::from_words(node), head: Cell::from_words(*head) }
+    }
+
+    pub fn write_to(self, words: &mut C::CopyWords) {
+        let (node, head) = words.as_mut().split_at_mut(C::NodeWords::WORDS);
+        self.node.write_to(node);
+        head.copy_from_slice(&self.head.to_words());
+    }
+
     /// val, line 1: the head's item, and above every item for an empty list.
     pub fn val(self) -> Value {
         if self.node.first_cell == 0 {
@@ -69,37 +88,37 @@ impl NodeCopy {
 }
 
 /// An update of one node: what it must equal, and what it gets.
-pub(crate) struct Update {
+pub(crate) struct Update<C> {
     pub at: u32,
-    pub old: Node,
+    pub old: Node<C>,
     pub first_cell: u32,
     pub dirty: bool,
 }
 
-impl Update {
+impl<C: Counter> Update<C> {
     /// The node afterwards, its counter one more. Refused if the counter cannot grow.
-    fn updated(&self) -> Result<Node, Refusal> {
-        let counter = self.old.counter.checked_add(1).ok_or(Refusal::CounterSpent)?;
+    fn updated(&self) -> Result<Node<C>, Refusal> {
+        let counter = self.old.counter.next().ok_or(Refusal::CounterSpent)?;
         Ok(Node { first_cell: self.first_cell, dirty: self.dirty, counter })
     }
 }
 
 /// The shared part of a readable region. An access that names a node that does not exist is
 /// refused, whether its comparisons hold or not.
-pub(crate) struct Memory<'a> {
+pub(crate) struct Memory<'a, C: Counter> {
     pub heading: &'a mut Heading,
-    pub nodes: &'a mut [NodeWords],
+    pub nodes: &'a mut [C::NodeWords],
     pub cells: &'a mut [CellWords],
 }
 
-impl Memory<'_> {
+impl<C: Counter> Memory<'_, C> {
     /// READ of the present depth.
     pub fn read_depth(&self) -> u32 {
         u32::from_le_bytes(self.heading[heading::PRESENT_DEPTH])
     }
 
     /// READ of a node, with its head cell.
-    pub fn read(&self, at: u32) -> Result<NodeCopy, Refusal> {
+    pub fn read(&self, at: u32) -> Result<NodeCopy<C>, Refusal> {
         let node = self.node(at)?;
         let head = match node.first_cell {
             0 => Cell::default(),
@@ -116,7 +135,7 @@ impl Memory<'_> {
     }
 
     /// CAS of a node; answers whether the comparison held.
-    pub fn cas(&mut self, update: &Update) -> Result<bool, Refusal> {
+    pub fn cas(&mut self, update: &Update<C>) -> Result<bool, Refusal> {
         let holds = self.equals(update.at, update.old)?;
         if holds {
             self.set_node(update.at, update.updated()?);
@@ -125,7 +144,12 @@ impl Memory<'_> {
     }
 
     /// DCSS: the update of a node if another node, too, equals its copy.
-    pub fn dcss(&mut self, update: &Update, other: u32, copied: Node) -> Result<bool, Refusal> {
+    pub fn dcss(
+        &mut self,
+        update: &Update<C>,
+        other: u32,
+        copied: Node<C>,
+    ) -> Result<bool, Refusal> {
         let holds = self.equals(update.at, update.old)? & self.equals(other, copied)?;
         if holds {
             self.set_node(update.at, update.updated()?);
@@ -134,7 +158,7 @@ impl Memory<'_> {
     }
 
     /// DCAS: both updates or neither.
-    pub fn dcas(&mut self, one: &Update, other: &Update) -> Result<bool, Refusal> {
+    pub fn dcas(&mut self, one: &Update<C>, other: &Update<C>) -> Result<bool, Refusal> {
         let holds = self.equals(one.at, one.old)? & self.equals(other.at, other.old)?;
         if holds {
             let both_updated = (one.updated()?, other.updated()?);
@@ -168,18 +192,18 @@ impl Memory<'_> {
         self.cells[cell as usize - 1][cell::NEXT] = next.to_le_bytes();
     }
 
-    fn node(&self, at: u32) -> Result<Node, Refusal> {
+    fn node(&self, at: u32) -> Result<Node<C>, Refusal> {
         let words = self.nodes.get((at as usize).wrapping_sub(1)).ok_or(Refusal::Unreadable)?;
-        Ok(Node::from_words(*words))
+        Ok(Node::from_words(words.as_ref()))
     }
 
     /// Whether a node equals its copy: cell, dirty and counter together.
-    pub fn equals(&self, at: u32, copied: Node) -> Result<bool, Refusal> {
+    pub fn equals(&self, at: u32, copied: Node<C>) -> Result<bool, Refusal> {
         Ok(self.node(at)? == copied)
     }
 
-    fn set_node(&mut self, at: u32, node: Node) {
-        self.nodes[at as usize - 1] = node.to_words();
+    fn set_node(&mut self, at: u32, node: Node<C>) {
+        node.write_to(self.nodes[at as usize - 1].as_mut());
     }
 
     pub fn cell(&self, cell: u32) -> Cell {

@@ -3,12 +3,13 @@
 
 use mound::Answer;
 
+use crate::counter::Counter;
 use crate::fields::{After, Field, Place};
 use crate::memory::Update;
 use crate::record::Copied;
 use crate::turn::{existing, level_of, Outcome, Turn};
 
-impl Turn<'_, '_> {
+impl<C: Counter> Turn<'_, '_, C> {
     /// Mending of a node starts, or starts again.
     pub(crate) fn mend(&mut self, node: u32) -> Outcome {
         self.thread.set(Field::Node, node);

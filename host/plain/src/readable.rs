@@ -2,60 +2,62 @@
 
 use mound::{Refusal, Shape};
 
-use crate::fields::{heading, After, Field, Place, GREATEST_PERMISSION, GREATEST_TAG};
-use crate::parts::{CellWords, CopyWords, NodeWords, ThreadWords};
-use crate::sizes::{byte_len, node_count, shape_named_by, CELL_WORDS, HEADING_WORDS, NODE_WORDS};
-use crate::words::{word, WORD};
+use crate::counter::Counter;
+use crate::fields::{cell, heading, node, After, Field, Place, GREATEST_PERMISSION, GREATEST_TAG};
+use crate::parts::Parts;
+use crate::sizes::{byte_len, node_count, shape_named_by, HEADING_WORDS};
+use crate::words::{Block, Word, WORD};
 
-/// Tells whether `region` is readable; ends at the first field out of its range.
-///
-/// # Errors
-///
-/// [`Refusal::Unreadable`] where it is not.
-pub fn check(region: &[u8]) -> Result<(), Refusal> {
-    if is_readable(region) {
+/// Tells whether `region` is readable; ends at the first field out of its range. Refused as
+/// unreadable where it is not.
+#[inline(never)] // For speed: all calls share one copy of the whole, for each form.
+pub(crate) fn check<C: Counter>(region: &[u8]) -> Result<(), Refusal> {
+    if is_readable::<C>(region) {
         Ok(())
     } else {
         Err(Refusal::Unreadable)
     }
 }
 
-fn is_readable(region: &[u8]) -> bool {
-    let Some((heading, records)) = region.split_at_checked(WORD * HEADING_WORDS) else {
+fn is_readable<C: Counter>(region: &[u8]) -> bool {
+    let Some((heading, _)) = region.split_at_checked(WORD * HEADING_WORDS) else {
         return false;
     };
     let shape = shape_named_by(heading);
-    if byte_len(shape) != Ok(region.len()) {
+    if byte_len::<C>(shape) != Ok(region.len()) {
         return false;
     }
-    let (words, _) = records.as_chunks();
-    let (nodes, words) = words.split_at(NODE_WORDS * node_count(shape) as usize);
-    let (cells, threads) = words.split_at(CELL_WORDS * shape.cells as usize);
+    let Parts { heading, nodes, cells, threads } = Parts::<C>::of(region, shape);
 
-    (1..=shape.depth).contains(&word(heading, heading::PRESENT_DEPTH))
-        && word(heading, heading::FIRST_FREE_CELL) <= shape.cells
-        && nodes.as_chunks().0.iter().all(|node| node_in_range(node, shape))
-        && cells.as_chunks().0.iter().all(|cell| cell_in_range(cell, shape))
-        && threads.as_chunks().0.iter().all(|thread| thread_in_range(thread, shape))
+    (1..=shape.depth).contains(&value(heading, heading::PRESENT_DEPTH))
+        && value(heading, heading::FIRST_FREE_CELL) <= shape.cells
+        && nodes.iter().all(|node| node_in_range(node.as_ref(), shape))
+        && cells.iter().all(|cell| cell_in_range(cell, shape))
+        && threads.iter().all(|thread| thread_in_range::<C>(thread, shape))
 }
 
-fn node_in_range(node: &NodeWords, shape: Shape) -> bool {
-    let [first_cell, dirty, _counter] = node.map(u32::from_le_bytes);
-    first_cell <= shape.cells && dirty <= 1
+fn value(words: &[Word], index: usize) -> u32 {
+    u32::from_le_bytes(words[index])
 }
 
-fn cell_in_range(cell: &CellWords, shape: Shape) -> bool {
-    let [_key, tag, next] = cell.map(u32::from_le_bytes);
-    tag <= GREATEST_TAG && next <= shape.cells
+/// The counter may be any number.
+fn node_in_range(words: &[Word], shape: Shape) -> bool {
+    value(words, node::FIRST_CELL) <= shape.cells && value(words, node::DIRTY) <= 1
 }
 
-fn copy_in_range([cell, dirty, counter, key, tag, next]: &CopyWords, shape: Shape) -> bool {
-    node_in_range(&[*cell, *dirty, *counter], shape) && cell_in_range(&[*key, *tag, *next], shape)
+/// So may the key.
+fn cell_in_range(words: &[Word], shape: Shape) -> bool {
+    value(words, cell::TAG) <= GREATEST_TAG && value(words, cell::NEXT) <= shape.cells
 }
 
-fn thread_in_range(record: &ThreadWords, shape: Shape) -> bool {
-    let (fields, copies) = record.split_at(Field::Copies as usize);
-    let field = |field: Field| u32::from_le_bytes(fields[field as usize]);
+fn copy_in_range<C: Counter>(copy: &C::CopyWords, shape: Shape) -> bool {
+    let (node, head) = copy.as_ref().split_at(C::NodeWords::WORDS);
+    node_in_range(node, shape) && cell_in_range(head, shape)
+}
+
+fn thread_in_range<C: Counter>(record: &C::ThreadWords, shape: Shape) -> bool {
+    let (fields, copies) = record.as_ref().split_at(Field::Copies as usize);
+    let field = |field: Field| value(fields, field as usize);
     let place = field(Field::Place);
     let node = field(Field::Node);
 
@@ -72,7 +74,7 @@ fn thread_in_range(record: &ThreadWords, shape: Shape) -> bool {
         && field(Field::Waiting) <= all_that_may_wait(place, node)
         && field(Field::After) <= After::LAST as u32
         && field(Field::ResultTag) <= GREATEST_TAG
-        && copies.as_chunks().0.iter().all(|copy| copy_in_range(copy, shape))
+        && C::CopyWords::all_of(copies).iter().all(|copy| copy_in_range::<C>(copy, shape))
 }
 
 /// A put that has used up its tries no longer stands at I2.

@@ -2,10 +2,11 @@
 
 use mound::Refusal;
 
+use crate::counter::Counter;
 use crate::fields::{After, Field, Place};
-use crate::memory::{Cell, Node, NodeCopy};
-use crate::parts::{CopyWords, ThreadWords};
+use crate::memory::NodeCopy;
 use crate::value::Value;
+use crate::words::{Block, Word};
 
 /// One of the three node copies.
 #[derive(Clone, Copy)]
@@ -19,15 +20,15 @@ pub(crate) enum Copied {
 }
 
 /// A thread's record in a readable region.
-pub(crate) struct Record<'a>(pub &'a mut ThreadWords);
+pub(crate) struct Record<'a, C: Counter>(pub &'a mut C::ThreadWords);
 
-impl Record<'_> {
+impl<C: Counter> Record<'_, C> {
     pub fn get(&self, field: Field) -> u32 {
-        u32::from_le_bytes(self.0[field as usize])
+        u32::from_le_bytes(self.0.as_ref()[field as usize])
     }
 
     pub fn set(&mut self, field: Field, value: u32) {
-        self.0[field as usize] = value.to_le_bytes();
+        self.0.as_mut()[field as usize] = value.to_le_bytes();
     }
 
     pub fn place(&self) -> Place {
@@ -47,20 +48,14 @@ impl Record<'_> {
         Value::Item { key: self.get(Field::Key), tag: self.get(Field::Tag) }
     }
 
-    pub fn copy(&self, copied: Copied) -> NodeCopy {
-        let all: &[CopyWords] = self.0[Field::Copies as usize..].as_chunks().0;
-        let [first_cell, dirty, counter, key, tag, next] = all[copied as usize];
-        NodeCopy {
-            node: Node::from_words([first_cell, dirty, counter]),
-            head: Cell::from_words([key, tag, next]),
-        }
+    pub fn copy(&self, copied: Copied) -> NodeCopy<C> {
+        let all = C::CopyWords::all_of(&self.0.as_ref()[Field::Copies as usize..]);
+        NodeCopy::from_words(&all[copied as usize])
     }
 
-    pub fn set_copy(&mut self, copied: Copied, copy: NodeCopy) {
-        let [first_cell, dirty, counter] = copy.node.to_words();
-        let [key, tag, next] = copy.head.to_words();
-        let all: &mut [CopyWords] = self.0[Field::Copies as usize..].as_chunks_mut().0;
-        all[copied as usize] = [first_cell, dirty, counter, key, tag, next];
+    pub fn set_copy(&mut self, copied: Copied, copy: NodeCopy<C>) {
+        let all = C::CopyWords::all_of_mut(&mut self.0.as_mut()[Field::Copies as usize..]);
+        copy.write_to(&mut all[copied as usize]);
     }
 
     /// Whether the thread's list grants this.
@@ -81,7 +76,6 @@ impl Record<'_> {
 
     /// Going idle zeroes every field but the permission.
     pub fn go_idle(&mut self) {
-        let [_permission, others @ ..] = &mut *self.0;
-        others.fill([0; 4]);
+        self.0.as_mut()[Field::Permission as usize + 1..].fill(Word::default());
     }
 }

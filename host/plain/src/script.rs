@@ -3,9 +3,7 @@
 
 use mound::{Answer, Refusal, Shape};
 
-use crate::layout::layout;
 use crate::machine::Machine;
-use crate::sizes::byte_len;
 
 /// The most bytes of a script, and of all scripts of a report together.
 pub const MOST_BYTES: usize = 60_000;
@@ -45,8 +43,8 @@ impl Opening {
         if GREATEST_DEPTH < shape.depth {
             return Err(Refusal::Shape);
         }
-        let mut region = vec![0; byte_len(shape)?];
-        layout(&mut region, shape, &vec![permission; shape.threads as usize])?;
+        let mut region = vec![0; <Machine>::byte_len(shape)?];
+        <Machine>::lay_out(&mut region, shape, &vec![permission; shape.threads as usize])?;
         Ok(region)
     }
 }

@@ -2,6 +2,7 @@
 
 use mound::{Answer, Refusal, Shape};
 
+use crate::counter::Counter;
 use crate::fields::{After, Field, Place, MAY_PUT};
 use crate::memory::Memory;
 use crate::record::Record;
@@ -24,13 +25,13 @@ impl From<Refusal> for Stop {
 }
 
 /// A turn of one thread: the shared memory and the thread's own record.
-pub(crate) struct Turn<'t, 'a> {
+pub(crate) struct Turn<'t, 'a, C: Counter> {
     pub shape: Shape,
-    pub memory: &'t mut Memory<'a>,
-    pub thread: Record<'t>,
+    pub memory: &'t mut Memory<'a, C>,
+    pub thread: Record<'t, C>,
 }
 
-impl Turn<'_, '_> {
+impl<C: Counter> Turn<'_, '_, C> {
     /// Serves the turn at the place where the thread stands, or withdraws its operation.
     pub fn serve(&mut self, choice: u32) -> Result<Answer, Refusal> {
         match self.serve_place(choice) {

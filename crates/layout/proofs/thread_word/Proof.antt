@@ -2,6 +2,7 @@
 use native.Mathlib.Omega.{arith}
 use borrow.Author.Needs.{needs}
 use Rattle.layout.proofs.thread_word.Statement.{statement}
+use Rattle.region.specs.Record.{counterSize}
 use Rattle.region.specs.Thread.{threadSize}
 use Rattle.layout.proofs.Loops.{no-permission, permission}
 use Prim.Native.Nat.{_/_}
@@ -14,7 +15,7 @@ shared-slice-read-result : tie.Need-shared-slice-read-result
 shared-slice-read-result c = search needs
 
 cast-result : tie.Need-cast-result
-cast-result c = omega (arith, c .shared-slice-known .given (c .before .before .args .j / threadSize))
+cast-result c = omega (arith, c .shared-slice-known .given (c .before .before .args .j / threadSize counterSize))
 
 returns-2 : tie.Need-returns-2
 returns-2 c = search permission

@@ -1,7 +1,8 @@
 -- `readable::check_region` meets its contract: as `is_readable`, in numbers. Assumes nothing.
 use borrow.Author.Needs.{needs}
 use Rattle.readable.proofs.check_region.Statement.{statement}
-use Rattle.readable.proofs.Loops.{check-not-whole, long-enough, shape-in-range, fields-within, check-yes, check-no}
+use Rattle.region.specs.Inner.{two-words}
+use Rattle.readable.proofs.Loops.{check-not-whole, long-enough, shape-in-range, wide-within, check-yes, check-no}
 use Rattle.readable.proofs.check_region.Tie as tie
 
 is-whole-requires : tie.Need-is-whole-requires
@@ -11,13 +12,13 @@ returns : tie.Need-returns
 returns c = search check-not-whole
 
 load-shape-requires : tie.Need-load-shape-requires
-load-shape-requires c κs = search long-enough
+load-shape-requires c κs = search (long-enough two-words)
 
 of-requires : tie.Need-of-requires
-of-requires c κs = search shape-in-range
+of-requires c κs = search (shape-in-range two-words)
 
 fields-readable-requires : tie.Need-fields-readable-requires
-fields-readable-requires c κs = search fields-within
+fields-readable-requires c κs = search wide-within
 
 returns-2 : tie.Need-returns-2
 returns-2 c = search check-yes

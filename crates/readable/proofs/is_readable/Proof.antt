@@ -1,26 +1,27 @@
 -- `readable::is_readable` meets its contract: a region that is not whole is not readable, else the fields decide. Assumes nothing.
 use borrow.Author.Needs.{needs}
 use Rattle.readable.proofs.is_readable.Statement.{statement}
-use Rattle.readable.proofs.Loops.{not-whole, long-enough, shape-in-range, fields-within, readable-rest}
+use Rattle.region.specs.Inner.{two-words}
+use Rattle.readable.proofs.Loops.{not-whole, long-enough, shape-in-range, readable-rest, wide-within}
 use Rattle.readable.proofs.is_readable.Tie as tie
 
 is-whole-requires : tie.Need-is-whole-requires
 is-whole-requires c κs = search needs
 
 returns : tie.Need-returns
-returns c = search not-whole
+returns c = search (not-whole two-words)
 
 load-shape-requires : tie.Need-load-shape-requires
-load-shape-requires c κs = search long-enough
+load-shape-requires c κs = search (long-enough two-words)
 
 of-requires : tie.Need-of-requires
-of-requires c κs = search shape-in-range
+of-requires c κs = search (shape-in-range two-words)
 
 fields-readable-requires : tie.Need-fields-readable-requires
-fields-readable-requires c κs = search fields-within
+fields-readable-requires c κs = search wide-within
 
 returns-2 : tie.Need-returns-2
-returns-2 c = search readable-rest
+returns-2 c = search (readable-rest two-words)
 
 pub is-readable-spec : {M : Type 1} → statement M
 is-readable-spec =

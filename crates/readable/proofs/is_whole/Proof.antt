@@ -3,11 +3,12 @@ use native.Mathlib.Omega.{arith}
 use borrow.Author.Needs.{needs}
 use Rattle.region.proofs.Shapes.{shape-in-range, few-words}
 use Rattle.readable.proofs.is_whole.Statement.{statement}
+use Rattle.region.specs.Record.{counterSize}
 use Rattle.readable.proofs.Loops.{too-short, shape-bad, length-decides}
 use Rattle.readable.proofs.is_whole.Tie as tie
 
 returns : tie.Need-returns
-returns c = search too-short
+returns c = search (too-short counterSize)
 
 load-shape-requires : tie.Need-load-shape-requires
 load-shape-requires c κs = search needs

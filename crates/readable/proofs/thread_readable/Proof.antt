@@ -1,11 +1,11 @@
 -- `readable::thread_readable` meets its contract: the first test that fails decides. Assumes nothing.
 use borrow.Author.Needs.{needs}
 use Rattle.readable.proofs.thread_readable.Statement.{statement}
-use Rattle.readable.proofs.Loops.{maxima-long, thread-bad, tries-bad, thread-rest}
+use Rattle.readable.proofs.Loops.{thread-bad, tries-bad, thread-rest}
 use Rattle.readable.proofs.thread_readable.Tie as tie
 
 words-bounded-requires : tie.Need-words-bounded-requires
-words-bounded-requires c κs = search maxima-long
+words-bounded-requires c κs = search needs
 
 returns : tie.Need-returns
 returns c = search thread-bad

@@ -4,8 +4,8 @@ use Rattle.readable.proofs.tree_readable.Statement.{statement}
 use Rattle.readable.proofs.Loops.{depth-bad, free-bad, nodes-bad, tree-rest}
 use Rattle.readable.proofs.tree_readable.Tie as tie
 
-load-depth-requires : tie.Need-load-depth-requires
-load-depth-requires c κs = search needs
+load-word-requires : tie.Need-load-word-requires
+load-word-requires c κs = search needs
 
 is-between-requires : tie.Need-is-between-requires
 is-between-requires c κs = search needs
@@ -13,17 +13,14 @@ is-between-requires c κs = search needs
 returns : tie.Need-returns
 returns c = search depth-bad
 
-load-free-requires : tie.Need-load-free-requires
-load-free-requires c κs = search needs
+load-word-requires-2 : tie.Need-load-word-requires-2
+load-word-requires-2 c κs = search needs
 
 returns-2 : tie.Need-returns-2
 returns-2 c = search free-bad
 
-node-count-requires : tie.Need-node-count-requires
-node-count-requires c κs = search needs
-
-records-bounded-requires : tie.Need-records-bounded-requires
-records-bounded-requires c κs = search needs
+nodes-readable-requires : tie.Need-nodes-readable-requires
+nodes-readable-requires c κs = search needs
 
 returns-3 : tie.Need-returns-3
 returns-3 c = search nodes-bad
@@ -31,8 +28,8 @@ returns-3 c = search nodes-bad
 cast-records-bounded : tie.Need-cast-records-bounded
 cast-records-bounded c = search needs
 
-records-bounded-requires-2 : tie.Need-records-bounded-requires-2
-records-bounded-requires-2 c κs = search needs
+records-bounded-requires : tie.Need-records-bounded-requires
+records-bounded-requires c κs = search needs
 
 returns-4 : tie.Need-returns-4
 returns-4 c = search tree-rest
@@ -41,14 +38,13 @@ pub tree-readable-spec : {M : Type 1} → statement M
 tree-readable-spec =
     tie.close
     (tie.spec
-    load-depth-requires
+    load-word-requires
     is-between-requires
     returns
-    load-free-requires
+    load-word-requires-2
     returns-2
-    node-count-requires
-    records-bounded-requires
+    nodes-readable-requires
     returns-3
     cast-records-bounded
-    records-bounded-requires-2
+    records-bounded-requires
     returns-4)

@@ -155,7 +155,7 @@ pub fn run(
 
     let (written, rest) = answers.split_at(12 * usize::from(turns));
     assert!(rest == &unwritten[written.len()..], "written past the last answer of {}", what());
-    let answers: Vec<Answer> = written.chunks_exact(12).map(answer).collect();
+    let answers = answers_of(written);
     let made = answers.iter().filter(|answer| answer.is_access()).count();
     assert_eq!(made, accesses as usize, "accesses of {}", what());
     let ended = accesses == limit || refusal != 0 || usize::from(turns) == schedule.len() / 8;
@@ -173,6 +173,18 @@ pub fn is_readable(region: &[u8]) -> bool {
     assert_eq!(number, number_of(plain::check(&before)), "check of {:?}", Start(region));
     assert!(region == before, "a check changed {:?}", Start(region));
     number == 0
+}
+
+/// Converts a region of the old form.
+pub fn convert(random: &mut Random, old: &[u8], new: &mut [u8]) -> u32 {
+    let length = new.len();
+    change(
+        random,
+        [&mut old.to_vec(), new],
+        || format!("conversion to {length} bytes of {:?}", Start(old)),
+        |[old, new]| calls::convert(old, new),
+        |[old, new]| number_of(plain::convert(old, new)),
+    )
 }
 
 /// Checks records; the fast checker must answer the same as the two.
@@ -211,10 +223,11 @@ fn packed(result: Result<Served, Refusal>) -> u64 {
     )
 }
 
-/// The answer whose words these are; all of them must be its words.
-fn answer(bytes: &[u8]) -> Answer {
-    let word = |at: usize| u32::from_le_bytes(bytes[4 * at..][..4].try_into().unwrap());
-    Answer::try_from([word(0), word(1), word(2)]).expect("an answer's words")
+/// The answers whose words these are.
+pub fn answers_of(written: &[u8]) -> Vec<Answer> {
+    let (answers, _) = written.as_chunks::<4>().0.as_chunks::<3>();
+    let answer = |words: &[[u8; 4]; 3]| Answer::try_from(words.map(u32::from_le_bytes));
+    answers.iter().map(|words| answer(words).expect("an answer's words")).collect()
 }
 
 /// Shows the length and the first bytes of a region or of records.

@@ -105,17 +105,17 @@ fn layout(length: usize, shape: Shape) -> u32 {
 }
 
 #[test]
-fn case_a_needs_348_bytes() {
-    assert_eq!(layout(348, SMALL), 0);
-    assert_eq!(layout(344, SMALL), 2);
+fn case_a_needs_384_bytes() {
+    assert_eq!(layout(384, SMALL), 0);
+    assert_eq!(layout(380, SMALL), 2);
 }
 
 #[test]
 fn case_b_has_at_most_two_cells_at_depth_2_and_no_depth_13() {
-    assert_eq!(layout(348, Shape { cells: 2, ..SMALL }), 0);
-    assert_eq!(layout(348, Shape { cells: 3, ..SMALL }), 1);
-    assert_eq!(layout(360, Shape { cells: 3, ..SMALL }), 1);
-    assert_eq!(layout(348, Shape { depth: 13, ..SMALL }), 1);
+    assert_eq!(layout(384, Shape { cells: 2, ..SMALL }), 0);
+    assert_eq!(layout(384, Shape { cells: 3, ..SMALL }), 1);
+    assert_eq!(layout(396, Shape { cells: 3, ..SMALL }), 1);
+    assert_eq!(layout(384, Shape { depth: 13, ..SMALL }), 1);
 }
 
 #[test]
@@ -139,15 +139,15 @@ fn cases_e_f_and_g_a_put_and_two_takes() {
     let mut case = Case::fresh();
     assert_eq!(case.put(1, 5), 0);
     assert_eq!(case.turns(&[1; 4]), [Moved, Moved, Moved, Inserted]);
-    assert_eq!(case.queue.node(1), [1, 0, 1]);
+    assert_eq!(case.queue.node(1), [1, 0, 1, 0]);
     assert_eq!(case.queue.cell(1), [5, 0, 0]);
     assert_eq!(case.queue.word(FIRST_FREE_CELL), 2);
 
     assert_eq!(case.take(1), 0);
     assert_eq!(case.turns(&[1; 5]), [Moved, Moved, Moved, Moved, TOOK_5]);
     // An update each by I6, E2 and M6, and the cell is as it was laid out.
-    assert_eq!(case.queue.node(1), [0, 0, 3]);
-    case.queue.set_words(case.queue.node_at(1), [0, 0, 0]);
+    assert_eq!(case.queue.node(1), [0, 0, 3, 0]);
+    case.queue.set_words(case.queue.node_at(1), [0, 0, 0, 0]);
     assert!(case.queue == Case::fresh().queue);
 
     assert_eq!(case.take(1), 0);
@@ -165,7 +165,7 @@ fn case_h_a_put_that_grows_the_tree() {
         assert_eq!(answers[..8], [Moved; 8]);
         assert_eq!(answers[8], Inserted);
         assert_eq!(case.queue.word(PRESENT_DEPTH), 2);
-        assert_eq!(case.queue.node(2 + choice % 2), [2, 0, 1]);
+        assert_eq!(case.queue.node(2 + choice % 2), [2, 0, 1, 0]);
     }
 }
 

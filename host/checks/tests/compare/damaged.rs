@@ -102,14 +102,14 @@ fn each_word_of_the_shape() {
     }
 }
 
-/// A thread is as long as eleven cells and as eleven nodes, so shapes can share a length.
+/// A thread is as long as twelve cells and as nine nodes, so shapes can share a length.
 #[test]
 fn another_shape_of_the_same_length() {
     let pairs = [
-        (Shape { depth: 5, cells: 1, threads: 3, threshold: 4 }, [5, 12, 2]),
-        (Shape { depth: 5, cells: 16, threads: 2, threshold: 4 }, [5, 5, 3]),
-        (Shape { depth: 5, cells: 3, threads: 7, threshold: 1 }, [6, 4, 4]),
-        (Shape { depth: 6, cells: 32, threads: 1, threshold: 16 }, [5, 64, 1]),
+        (Shape { depth: 5, cells: 1, threads: 3, threshold: 4 }, [5, 13, 2]),
+        (Shape { depth: 5, cells: 16, threads: 2, threshold: 4 }, [5, 4, 3]),
+        (Shape { depth: 4, cells: 5, threads: 7, threshold: 1 }, [6, 1, 2]),
+        (Shape { depth: 6, cells: 32, threads: 1, threshold: 16 }, [4, 96, 1]),
     ];
     let random = &mut Random::new(34);
     for (shape, other) in pairs {

@@ -2,46 +2,28 @@
 
 use std::ops::RangeInclusive;
 
-use checks::fields::Words;
+use checks::fields::{Field, Words};
 use checks::queue::Queue;
 use checks::random::Random;
 use mound::Shape;
 
-use crate::any_call::{self, BEGINNINGS, PERMITS};
+use crate::any_call::{self, usual_outcomes, BEGINNINGS, PERMITS};
 use crate::any_region::any_region;
 use crate::both;
 use crate::damaged::telling_values;
 use crate::tally::Outcome::{self, Check, Layout, List, Permit, Put, RefusedTurn, Run, Take, Turn};
 use crate::tally::Tally;
 
-/// What comes up beside beginnings in regions that were laid out.
-const CALLS_AND_TURNS: [Outcome; 13] = [
-    Layout(1),
-    Layout(2),
-    Check(0),
-    Run(0),
-    Run(5),
-    Run(6),
-    Turn(0),
-    Turn(1),
-    Turn(2),
-    Turn(3),
-    Turn(4),
-    Turn(6),
-    RefusedTurn(3),
-];
-
-/// Just beginnings, permits, the other calls and turns, and these came up, each so often at least.
+/// Just layouts, the usual outcomes and these came up, each so often at least.
 fn has_just_these_beside_the_usual(tally: &Tally, others: &[Outcome], least: u32) {
-    tally.has_just(&[&BEGINNINGS[..], &PERMITS, &CALLS_AND_TURNS, others].concat(), least);
+    let layouts = [Layout(1), Layout(2)];
+    tally.has_just(&[&layouts, &usual_outcomes()[..], others].concat(), least);
 }
 
 /// An empty queue of a few threads, most of which may put and take.
 pub fn laid_out(random: &mut Random) -> Queue {
     let shape = random.crowded_shape(1..=8);
-    let permissions: Vec<u8> =
-        (0..shape.threads).map(|_| random.one_of(&[0, 1, 2, 3, 3, 3, 3, 3])).collect();
-    Queue::laid_out(shape, &permissions)
+    Queue::laid_out(shape, &random.generous_permissions(shape))
 }
 
 fn make_calls(random: &mut Random, queue: &mut Queue, calls: u32, tally: &mut Tally) {
@@ -52,9 +34,9 @@ fn make_calls(random: &mut Random, queue: &mut Queue, calls: u32, tally: &mut Ta
 }
 
 /// Sets each node's counter to one of these.
-fn set_counters(random: &mut Random, queue: &mut Queue, counters: RangeInclusive<u32>) {
+fn set_counters(random: &mut Random, queue: &mut Queue, counters: RangeInclusive<u64>) {
     for node in 1..1 << queue.shape().depth {
-        queue.set_word(queue.node_at(node) + 2, random.among(counters.clone()));
+        queue.set_counter(queue.node_at(node), random.wide_among(counters.clone()));
     }
 }
 
@@ -75,10 +57,24 @@ fn of_regions_whose_counters_are_nearly_spent() {
     let mut tally = Tally::default();
     for _ in 0..2000 {
         let mut queue = laid_out(random);
-        set_counters(random, &mut queue, u32::MAX - 10..=u32::MAX);
+        set_counters(random, &mut queue, u64::MAX - 10..=u64::MAX);
         make_calls(random, &mut queue, 100, &mut tally);
     }
     has_just_these_beside_the_usual(&tally, &[RefusedTurn(11)], 500);
+}
+
+/// The low words come to their ends, and the high words grow.
+#[test]
+fn of_regions_whose_counters_leave_32_bits() {
+    let random = &mut Random::new(105);
+    let mut tally = Tally::default();
+    let last_of_32_bits = u64::from(u32::MAX);
+    for _ in 0..2000 {
+        let mut queue = laid_out(random);
+        set_counters(random, &mut queue, last_of_32_bits - 10..=last_of_32_bits);
+        make_calls(random, &mut queue, 100, &mut tally);
+    }
+    has_just_these_beside_the_usual(&tally, &[], 500);
 }
 
 #[test]
@@ -107,7 +103,12 @@ fn of_damaged_regions() {
             for _ in 0..random.among(1..=3) {
                 let region = Words::of(&queue.bytes);
                 let at = random.index(4..region.words.len());
-                queue.set_word(at, random.one_of(&telling_values(&region, at)));
+                let value = random.one_of(&telling_values(&region, at));
+                queue.set_word(at, value);
+                // Both words of a counter have to be at their ends for it to be spent.
+                if region.field(at) == Field::CounterLow {
+                    queue.set_word(at + 1, value);
+                }
             }
             if !both::is_readable(&queue.bytes) {
                 make_calls(random, &mut queue, 3, &mut tally);
@@ -132,7 +133,7 @@ fn of_the_largest_shape() {
         let mut queue = Queue::open_to_all(Shape { threshold: 2, ..Shape::LARGEST });
         for run in 0..40 {
             if run == 30 {
-                set_counters(random, &mut queue, u32::MAX - 10..=u32::MAX);
+                set_counters(random, &mut queue, u64::MAX - 10..=u64::MAX);
             }
             for _ in 0..2 * threads {
                 tally.add(any_call::begin(random, &mut queue.bytes, threads));

@@ -112,7 +112,7 @@ fn with_greatest_at(child: u32) -> Queue {
     let mut queue = Queue::open_to_all(SMALL);
     queue.set_word(PRESENT_DEPTH, 2);
     queue.set_word(FIRST_FREE_CELL, 2);
-    queue.set_words(queue.node_at(child), [1, 0, 0]);
+    queue.set_words(queue.node_at(child), [1, 0, 0, 0]);
     queue.set_words(queue.cell_at(1), [GREATEST.0, GREATEST.1, 0]);
     queue
 }
@@ -122,7 +122,7 @@ fn with_greatest_at(child: u32) -> Queue {
 fn an_empty_root_over_the_greatest_item() {
     for child in [2, 3] {
         let mut queue = with_greatest_at(child);
-        queue.set_words(queue.node_at(1), [0, 1, 0]);
+        queue.set_words(queue.node_at(1), [0, 1, 0, 0]);
         let mut case = Case::of(queue);
         // E1, M1 to M5; M1, M2, M6 of the child; E1, E2; M1 to M4, M6 of the root, empty again.
         assert_eq!(take(&mut case, 16), took(GREATEST));
@@ -136,7 +136,7 @@ fn an_empty_rest_over_the_greatest_item() {
     for child in [2, 3] {
         let mut queue = with_greatest_at(child);
         queue.set_word(FIRST_FREE_CELL, 0);
-        queue.set_words(queue.node_at(1), [2, 0, 0]);
+        queue.set_words(queue.node_at(1), [2, 0, 0, 0]);
         queue.set_words(queue.cell_at(2), [5, 2, 0]);
         assert_eq!(take_alone(Case::of(queue)), (10, 10, took(TAG_2)));
     }

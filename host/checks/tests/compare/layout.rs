@@ -22,19 +22,19 @@ fn length_of(shape: Shape) -> usize {
 /// The length that follows from the numbers of any shape if sums and shifts wrap, cut to what a
 /// test can lend.
 fn wrapped_length_of(shape: Shape) -> usize {
-    let words = (1u32.wrapping_shl(shape.depth).wrapping_sub(1).wrapping_mul(3))
+    let words = (1u32.wrapping_shl(shape.depth).wrapping_sub(1).wrapping_mul(4))
         .wrapping_add(shape.cells.wrapping_mul(3))
-        .wrapping_add(shape.threads.wrapping_mul(33))
+        .wrapping_add(shape.threads.wrapping_mul(36))
         .wrapping_add(6);
     words.wrapping_mul(4).min(100_000) as usize
 }
 
 #[test]
 fn a_region_of_one_cell_and_one_thread_word_by_word() {
-    let mut expected = [0u32; 45];
+    let mut expected = [0u32; 49];
     expected[..6].copy_from_slice(&[1, 1, 1, 9, 1, 1]);
-    expected[12] = 2;
-    let mut region = [0xa5; 180];
+    expected[13] = 2;
+    let mut region = [0xa5; 196];
     assert_eq!(calls::layout(&mut region, 1, 1, 1, 9, &[2]), 0);
     let words = region.chunks_exact(4).map(|word| u32::from_le_bytes(word.try_into().unwrap()));
     assert!(words.eq(expected));
@@ -153,7 +153,7 @@ fn slices_of_another_length() {
         let permissions = random.permissions(shape);
         let exact = length_of(shape);
         let around = (exact - 9..=exact + 9).filter(|&length| length != exact);
-        for length in around.chain([0, 1, 4, 24, exact - 132, exact + 132, 2 * exact]) {
+        for length in around.chain([0, 1, 4, 24, exact - 144, exact + 144, 2 * exact]) {
             assert_eq!(lay_out(random, length, shape, &permissions), 2);
         }
     }

@@ -317,7 +317,7 @@ fn a_walk_that_never_ends() {
         queue.set_word(PRESENT_DEPTH, depth);
         let leaves = 1 << (depth - 1);
         for leaf in leaves..2 * leaves {
-            queue.set_words(queue.node_at(leaf), [1, 0, 0]);
+            queue.set_words(queue.node_at(leaf), [1, 0, 0, 0]);
         }
         for (field, value) in [(PLACE, I1), (KEY, 7)] {
             queue.set_field(2, field, value);

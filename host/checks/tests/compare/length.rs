@@ -31,7 +31,7 @@ fn bytes_after_the_end() {
     for _ in 0..40 {
         let shape = random.shape(6);
         let bytes = Words::any_readable(random, shape).bytes();
-        for more in 1..=140 {
+        for more in 1..=150 {
             assert!(!both::is_readable(&[bytes.clone(), vec![0; more]].concat()), "{more} zeros");
             assert!(!both::is_readable(&[bytes.clone(), random.bytes(more)].concat()), "{more}");
         }
@@ -44,7 +44,7 @@ fn large_regions_cut_short() {
     for _ in 0..100 {
         let shape = random.shape(12);
         let bytes = Words::any_readable(random, shape).bytes();
-        for less in [1, 2, 3, 4, 8, 12, 24, 131, 132, 133] {
+        for less in [1, 2, 3, 4, 8, 12, 24, 143, 144, 145] {
             assert!(!both::is_readable(&bytes[..bytes.len() - less]), "{shape:?} less {less}");
         }
     }
@@ -63,7 +63,7 @@ fn headings_alone_with_huge_numbers() {
                 for length in 0..=heading.len() {
                     assert!(!both::is_readable(&heading[..length]), "{length} bytes of {words:?}");
                 }
-                both::is_readable(&[heading, vec![0; 156]].concat());
+                both::is_readable(&[heading, vec![0; 172]].concat());
             }
         }
     }

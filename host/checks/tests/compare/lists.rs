@@ -37,10 +37,10 @@ fn two_items_in_their_order() {
     let mut case = with_both_in_the_root();
     assert_eq!(case.list(1), 0);
     assert_eq!(case.turns(&[1; 2]), [Moved; 2]);
-    assert_eq!(case.queue.node(1), [0, 1, 3]);
+    assert_eq!(case.queue.node(1), [0, 1, 3, 0]);
     assert_eq!(case.turns(&[1; 6]), mended_and_handed_out([TAG_2, TAG_9]));
     // Updates by two I6, 18 and M6; cell 2 was freed first.
-    assert_eq!(case.queue.node(1), [0, 0, 4]);
+    assert_eq!(case.queue.node(1), [0, 0, 4, 0]);
     assert!(case.queue.free().eq([1, 2]));
     assert_eq!([case.queue.cell(1), case.queue.cell(2)], [[0, 0, 2], [0, 0, 0]]);
     assert_eq!(case.list(1), 0);
@@ -70,7 +70,7 @@ fn an_18_that_fails_because_of_the_counter() {
     assert_eq!(answered(&mut case, 2, 5), took(TAG_9));
     assert_eq!(case.put_item(2, TAG_9), 0);
     assert_eq!(answered(&mut case, 2, 4), Inserted);
-    assert_eq!(case.queue.node(1), [1, 0, 4]);
+    assert_eq!(case.queue.node(1), [1, 0, 4, 0]);
     assert_eq!(case.turns(&[1]), [Moved]);
     assert_eq!(case.queue.place(1), P17);
 }
@@ -157,9 +157,9 @@ fn a_list_that_leaves_a_lesser_item_than_its_last() {
 /// spent, and a 19 with nothing in hand.
 #[test]
 fn what_is_not_there_is_refused_7() {
-    for counter in [0, u32::MAX] {
+    for counter in [0, u64::MAX] {
         let mut queue = Queue::with_thread_at(P18, &[], [None; 3]);
-        queue.set_word(queue.node_at(1) + 2, counter);
+        queue.set_counter(queue.node_at(1), counter);
         queue.match_copies(1);
         assert_eq!(Case::of(queue).turns(&[1]), [Refused(Refusal::Unreadable)]);
     }
@@ -170,7 +170,7 @@ fn what_is_not_there_is_refused_7() {
 #[test]
 fn an_18_at_a_spent_counter_is_refused_11() {
     let mut queue = Queue::with_thread_at(P18, &[], [Some(TAG_2), None, None]);
-    queue.set_word(queue.node_at(1) + 2, u32::MAX);
+    queue.set_counter(queue.node_at(1), u64::MAX);
     // The comparison fails, and nothing is refused.
     let mut case = Case::of(queue.clone());
     assert_eq!(case.turns(&[1]), [Moved]);

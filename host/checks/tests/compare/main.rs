@@ -13,6 +13,7 @@ mod tally;
 mod any_region;
 mod beginnings;
 mod cases;
+mod conversions;
 mod damaged;
 mod dependent;
 mod histories;

@@ -285,7 +285,7 @@ fn turns_at_every_place_with_every_permission() {
     let random = &mut Random::new(131);
     let mut came_up = BTreeMap::<(u32, Ending), u32>::new();
     for place in IDLE..=GREATEST {
-        for _ in 0..3000 {
+        for _ in 0..4000 {
             let mut queue = with_thread_at(random, place);
             let permission = random.among(0..=3);
             assert_eq!(both::permit(random, &mut queue.bytes, 1, permission), 0);

@@ -46,7 +46,7 @@ fn at_every_alignment() {
 #[test]
 fn random_bytes() {
     let random = &mut Random::new(23);
-    for length in (0..600).chain([1000, 4096, 82_188]) {
+    for length in (0..600).chain([1000, 4096, 99_336]) {
         for _ in 0..10 {
             both::is_readable(&random.bytes(length));
         }

@@ -95,7 +95,7 @@ fn served_by(answers: &[Answer], limit: u32) -> Served {
 fn the_region_comes_before_the_schedule_and_that_before_the_answers() {
     let mut unreadable = busy();
     unreadable.set_field(2, PLACE, 20);
-    let cut_short = Queue { bytes: busy().bytes[..344].to_vec() };
+    let cut_short = Queue { bytes: busy().bytes[..380].to_vec() };
     for queue in [unreadable, cut_short, Queue { bytes: vec![] }] {
         for (length, room) in [(0, 0), (8, 12), (8, 0), (7, 12), (7, 0), (32_776, 0)] {
             assert_eq!(run_of(&queue, length, room), Err(Refusal::Unreadable));

@@ -138,7 +138,7 @@ fn with_rest_and_children(values: [Value; 3]) -> Queue {
     let mut queue = Queue::with_thread_at(place::IDLE, &[(OWN_CELL, 0)], values);
     let [rest, ..] = queue.node(1);
     queue.set_word(PRESENT_DEPTH, 2);
-    queue.set_words(queue.node_at(1), [4, 0, 9]);
+    queue.set_words(queue.node_at(1), [4, 0, 9, 0]);
     queue.set_words(queue.cell_at(4), [0, 0, rest]);
     queue
 }

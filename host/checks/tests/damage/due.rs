@@ -2,7 +2,9 @@
 
 use std::ops::RangeInclusive;
 
-use checks::fields::{Field, Words, COPIES, HEADING, RECORD, THREAD};
+use checks::fields::{
+    Field, Words, CELL_RECORD, COPIES, COPY_RECORD, HEADING, NODE_RECORD, THREAD,
+};
 use mound::{calls, Damage, Part, Region, Shape};
 
 /// Words of the shape.
@@ -11,10 +13,10 @@ pub const SHAPE: usize = 4;
 /// The fields by their names in document 01.
 const HEADING_NAMES: [&str; HEADING] =
     ["greatest depth", "cells", "threads", "threshold", "present depth", "first free cell"];
-const NODE_NAMES: [&str; RECORD] = ["first cell", "dirty mark", "counter"];
-const CELL_NAMES: [&str; RECORD] = ["key", "tag", "next cell"];
-const COPY_NAMES: [&str; 6] =
-    ["first cell", "dirty mark", "counter", "head's key", "head's tag", "head's next"];
+const NODE_NAMES: [&str; NODE_RECORD] = ["first cell", "dirty mark", "counter", "counter"];
+const CELL_NAMES: [&str; CELL_RECORD] = ["key", "tag", "next cell"];
+const COPY_NAMES: [&str; COPY_RECORD] =
+    ["first cell", "dirty mark", "counter", "counter", "head's key", "head's tag", "head's next"];
 const THREAD_NAMES: [&str; 15] = [
     "permission",
     "place",
@@ -78,7 +80,7 @@ pub fn look_at_bytes(bytes: &[u8], region: &Words) -> Option<(Wrong, When)> {
 fn first_wrong(length: usize, region: &Words) -> Option<(Wrong, When)> {
     let behind_the_shape = (SHAPE, true, 0);
     if region.words.len() < SHAPE {
-        return Some((Wrong::Length(180..=82_188), behind_the_shape));
+        return Some((Wrong::Length(196..=99_336), behind_the_shape));
     }
     let is_wrong = |&at: &usize| !range(region, at).contains(&region.words[at]);
     if let Some(at) = (0..SHAPE).find(is_wrong) {
@@ -120,12 +122,12 @@ fn name(region: &Words, at: usize) -> (Part, &'static str) {
     let word = |first: usize, size: usize| (at - first) % size;
     let [cells, threads] = [region.cell(1), region.thread(1)];
     if at < cells {
-        (Part::Node(record(HEADING, RECORD)), NODE_NAMES[word(HEADING, RECORD)])
+        (Part::Node(record(HEADING, NODE_RECORD)), NODE_NAMES[word(HEADING, NODE_RECORD)])
     } else if at < threads {
-        (Part::Cell(record(cells, RECORD)), CELL_NAMES[word(cells, RECORD)])
+        (Part::Cell(record(cells, CELL_RECORD)), CELL_NAMES[word(cells, CELL_RECORD)])
     } else {
         let (thread, word) = (record(threads, THREAD), word(threads, THREAD));
-        match (1..).zip(COPIES).find(|&(_, start)| (start..start + 6).contains(&word)) {
+        match (1..).zip(COPIES).find(|&(_, start)| (start..start + COPY_RECORD).contains(&word)) {
             Some((copy, start)) => (Part::NodeCopy { thread, copy }, COPY_NAMES[word - start]),
             None => (Part::Thread(thread), THREAD_NAMES[word]),
         }

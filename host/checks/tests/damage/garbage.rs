@@ -9,7 +9,7 @@ use crate::due::{look_at, look_at_bytes, range, Wrong};
 #[test]
 fn random_bytes() {
     let random = &mut Random::new(70);
-    for length in (0..600).chain([1000, 4096, 82_188]) {
+    for length in (0..600).chain([1000, 4096, 99_336]) {
         for _ in 0..10 {
             let bytes = random.bytes(length);
             look_at_bytes(&bytes, &Words::of(&bytes));

@@ -22,7 +22,7 @@ fn pictured_queue() -> Vec<u8> {
     bytes
 }
 
-/// In the picture `word 27   5 9 0` says what word 27 and the words behind it are.
+/// In the picture `word 34   5 9 0` says what word 34 and the words behind it are.
 #[test]
 fn the_picture_of_a_queue_has_its_words() {
     let bytes = pictured_queue();
@@ -39,7 +39,7 @@ fn the_picture_of_a_queue_has_its_words() {
             compared += 1;
         }
     }
-    assert_eq!((bytes.len(), compared), (288, 27));
+    assert_eq!((bytes.len(), compared), (328, 30));
 }
 
 /// Two scripts of the script program, one of the report, which ends in an empty line, and one that

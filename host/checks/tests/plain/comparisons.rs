@@ -3,7 +3,7 @@
 use std::cmp::Ordering;
 
 use checks::fields::place::{I1, I2, I3, I4, I5, I6, I7, I8, M1, M6};
-use checks::fields::{COPIES, D, HI, KEY, LEAF, LO, NODE, PLACE, TRIES};
+use checks::fields::{COPIES, COUNTER_LOW, D, HI, KEY, LEAF, LO, NODE, PLACE, TRIES};
 use checks::leaves;
 use checks::queue::{Item, Queue};
 use checks::values::{items, rank, triples, Value, RISING};
@@ -40,7 +40,7 @@ fn i2_goes_by_a_leaf_word_of_the_greatest_depth() {
             assert_eq!(queue.turn(1, choice), Answer::Moved);
             assert_eq!([queue.place(1), queue.field(1, LEAF)], [I3, leaf]);
 
-            occupied.set_words(occupied.node_at(leaf), [1, 0, 9]);
+            occupied.set_words(occupied.node_at(leaf), [1, 0, 9, 0]);
             occupied.set_words(occupied.cell_at(1), [5, 0, 0]);
             assert_eq!(occupied.turn(1, choice), Answer::Moved);
             assert_eq!([occupied.place(1), occupied.field(1, LEAF)], [I1, leaves::next(leaf)]);
@@ -95,9 +95,9 @@ fn i5_starts_again_at_a_value_below_the_item() {
 fn i7_starts_again_at_a_parent_above_the_item() {
     for (value, item, order) in values_beside_items() {
         let queue = Queue::with_put_at(I7, item, &[(NODE, 3)], [value, None, None]);
-        let counter = queue.node(1)[2];
+        let counter = queue.node(1)[COUNTER_LOW];
         let place = if order.is_gt() { I1 } else { I8 };
-        let read = queue.moved([PLACE, COPIES[1] + 2]);
+        let read = queue.moved([PLACE, COPIES[1] + COUNTER_LOW]);
         assert_eq!(read, [place, counter], "{item:?} below {value:?}");
     }
 }

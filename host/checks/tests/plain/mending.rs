@@ -3,14 +3,11 @@
 
 use checks::fields::place::{E1, E2, IDLE, M1, M2, M3, M4, M5, M6, P17, P18, P19};
 use checks::fields::{
-    AFTER, COPIES, D, FIRST_FREE_CELL, NODE, OWN_CELL, PERMISSION, PLACE, PRESENT_DEPTH,
-    RESULT_KEY, RESULT_TAG, WAITING,
+    AFTER, COPIES, COUNTER_LOW, D, DIRTY, FIRST_FREE_CELL, NODE, OWN_CELL, PERMISSION, PLACE,
+    PRESENT_DEPTH, RESULT_KEY, RESULT_TAG, WAITING,
 };
 use checks::queue::Queue;
 use mound::Answer;
-
-/// The word of a node, or of a node copy, that tells whether it is dirty.
-const DIRTY: usize = 1;
 
 fn at(place: u32, fields: &[(usize, u32)]) -> Queue {
     Queue::with_thread_at(place, fields, [5, 6, 7].map(|key| Some((key, 0))))
@@ -63,7 +60,7 @@ fn p18_takes_the_whole_list_in_hand() {
     let before = queue.clone();
     assert_eq!(queue.clone().moved(OF_18), [M1, 1, 3, 1, 8, 9]);
     queue.turn(1, 0);
-    assert_eq!(queue.node(1), [0, 1, 10]);
+    assert_eq!(queue.node(1), [0, 1, 10, 0]);
     assert_eq!([1, 2, 3, 4].map(|cell| queue.cell(cell)), [1, 2, 3, 4].map(|c| before.cell(c)));
     assert_eq!(queue.word(FIRST_FREE_CELL), 0);
 }
@@ -126,7 +123,7 @@ fn m4_mends_a_dirty_child_first() {
 
 #[test]
 fn a_failed_m5_or_m6_starts_again_at_its_node() {
-    let waits = [(NODE, 3), (WAITING, 1), (COPIES[0] + 2, 8)];
+    let waits = [(NODE, 3), (WAITING, 1), (COPIES[0] + COUNTER_LOW, 8)];
     for place in [M5, M6] {
         assert_eq!(at(place, &waits).moved([PLACE, NODE, WAITING]), [M1, 3, 1]);
     }

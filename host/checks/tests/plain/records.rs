@@ -17,8 +17,8 @@ fn put_words(queue: &Queue, thread: u32) -> [u32; 10] {
 #[test]
 fn a_put_turn_by_turn() {
     use place::{I1, I2, I3, I4, I5, I7, I8};
-    let root = [1, 0, 1, 5, 6, 0];
-    let none = [0; 6];
+    let root = [1, 0, 1, 0, 5, 6, 0];
+    let none = [0; 7];
     let mut queue = Queue::open_to_all(SMALL).holding(&[(5, 6)]);
     assert_eq!(queue.put(2, 7, 8), Ok(()));
     assert_eq!(queue.cell(2), [7, 8, 0]);
@@ -42,7 +42,7 @@ fn a_put_turn_by_turn() {
     }
     assert_eq!(queue.turn(2, 5), Inserted);
     assert_eq!(put_words(&queue, 2), [0; 10]);
-    assert_eq!(queue.node(3), [2, 0, 1]);
+    assert_eq!(queue.node(3), [2, 0, 1, 0]);
     assert_eq!(queue.cell(2), [7, 8, 0]);
 }
 
@@ -52,7 +52,7 @@ fn a_put_turn_by_turn() {
 fn two_takes_that_mend_turn_by_turn() {
     use place::{E2, M1, M2, M3, M4, M5, M6};
     let mut queue = Queue::open_to_all(SMALL).holding(&[(5, 6), (7, 8)]);
-    assert_eq!([queue.node(1), queue.node(3)], [[1, 0, 1], [2, 0, 1]]);
+    assert_eq!([queue.node(1), queue.node(3)], [[1, 0, 1, 0], [2, 0, 1, 0]]);
     assert_eq!([queue.take(1), queue.take(2)], [Ok(()); 2]);
 
     let places_of = |queue: &mut Queue, thread: u32, turns: usize| -> Vec<u32> {
@@ -64,23 +64,23 @@ fn two_takes_that_mend_turn_by_turn() {
     };
     assert_eq!(places_of(&mut queue, 1, 7), [E2, M1, M2, M3, M4, M5, M1]);
     // The root got the child's list, clean; the child the root's empty one, dirty.
-    assert_eq!([queue.node(1), queue.node(3)], [[2, 0, 3], [0, 1, 2]]);
+    assert_eq!([queue.node(1), queue.node(3)], [[2, 0, 3, 0], [0, 1, 2, 0]]);
     assert_eq!([queue.field(1, NODE), queue.field(1, AFTER)], [3, 1]);
     assert_eq!((queue.cell(1), queue.word(FIRST_FREE_CELL)), ([0, 0, 0], 1));
 
     assert_eq!(places_of(&mut queue, 2, 6), [E2, M1, M2, M3, M4, M1]);
     assert_eq!([queue.field(2, NODE), queue.field(2, WAITING)], [3, 1]);
-    assert_eq!(queue.copy(2, 0), [0, 1, 4, 0, 0, 0]);
-    assert_eq!(queue.copy(2, 2), [0, 1, 2, 0, 0, 0]);
+    assert_eq!(queue.copy(2, 0), [0, 1, 4, 0, 0, 0, 0]);
+    assert_eq!(queue.copy(2, 2), [0, 1, 2, 0, 0, 0, 0]);
     assert_eq!((queue.cell(2), queue.word(FIRST_FREE_CELL)), ([0, 0, 1], 2));
 
     // Thread 2 cleans the child and comes back to the root, which waits no more.
     assert_eq!(places_of(&mut queue, 2, 3), [M2, M6, M1]);
     assert_eq!([queue.field(2, NODE), queue.field(2, WAITING)], [1, 0]);
-    assert_eq!([queue.node(1), queue.node(3)], [[0, 1, 4], [0, 0, 3]]);
+    assert_eq!([queue.node(1), queue.node(3)], [[0, 1, 4, 0], [0, 0, 3, 0]]);
     assert_eq!(places_of(&mut queue, 2, 4), [M2, M3, M4, M6]);
     assert_eq!(queue.turn(2, 0), Took { key: 7, tag: 8 });
-    assert_eq!(queue.node(1), [0, 0, 5]);
+    assert_eq!(queue.node(1), [0, 0, 5, 0]);
 
     assert_eq!(places_of(&mut queue, 1, 1), [M2]);
     assert_eq!(queue.turn(1, 0), Took { key: 5, tag: 6 });
@@ -133,14 +133,14 @@ fn a_list_turn_by_turn() {
         let fields = [PLACE, OWN_CELL, NODE, AFTER, RESULT_KEY];
         (fields.map(|field| queue.field(1, field)), queue.node(1))
     };
-    assert_eq!(words(&queue), ([P17, 0, 0, 0, 0], [2, 0, 2]));
+    assert_eq!(words(&queue), ([P17, 0, 0, 0, 0], [2, 0, 2, 0]));
 
     let after_each_turn = [
-        ([P18, 0, 0, 0, 0], [2, 0, 2]),
-        ([M1, 2, 1, 3, 0], [0, 1, 3]),
-        ([M2, 2, 1, 3, 0], [0, 1, 3]),
-        ([M6, 2, 1, 3, 0], [0, 1, 3]),
-        ([P19, 2, 1, 3, 0], [0, 0, 4]),
+        ([P18, 0, 0, 0, 0], [2, 0, 2, 0]),
+        ([M1, 2, 1, 3, 0], [0, 1, 3, 0]),
+        ([M2, 2, 1, 3, 0], [0, 1, 3, 0]),
+        ([M6, 2, 1, 3, 0], [0, 1, 3, 0]),
+        ([P19, 2, 1, 3, 0], [0, 0, 4, 0]),
     ];
     for after in after_each_turn {
         assert_eq!(queue.turn(1, 0), Moved);
@@ -148,15 +148,15 @@ fn a_list_turn_by_turn() {
         assert_eq!([queue.cell(1), queue.cell(2)], [[5, 9, 0], [5, 2, 1]]);
         assert_eq!(queue.word(FIRST_FREE_CELL), 0);
     }
-    assert_eq!(queue.copy(1, 0), [0, 1, 3, 0, 0, 0]);
+    assert_eq!(queue.copy(1, 0), [0, 1, 3, 0, 0, 0, 0]);
 
     assert_eq!(queue.turn(1, 0), Took { key: 5, tag: 2 });
-    assert_eq!(words(&queue), ([P19, 1, 1, 3, 0], [0, 0, 4]));
+    assert_eq!(words(&queue), ([P19, 1, 1, 3, 0], [0, 0, 4, 0]));
     assert_eq!([queue.cell(1), queue.cell(2)], [[5, 9, 0], [0, 0, 0]]);
     assert_eq!(queue.word(FIRST_FREE_CELL), 2);
 
     assert_eq!(queue.turn(1, 0), Took { key: 5, tag: 9 });
-    assert_eq!(words(&queue), ([IDLE, 0, 0, 0, 0], [0, 0, 4]));
+    assert_eq!(words(&queue), ([IDLE, 0, 0, 0, 0], [0, 0, 4, 0]));
     assert_eq!([queue.cell(1), queue.cell(2)], [[0, 0, 2], [0, 0, 0]]);
     assert_eq!(queue.word(FIRST_FREE_CELL), 1);
     assert_eq!(queue.turn(1, 0), Idle);

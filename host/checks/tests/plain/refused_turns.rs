@@ -4,7 +4,9 @@
 use checks::fields::place::{
     E1, E2, I1, I2, I3, I4, I5, I6, I7, I8, IDLE, M1, M2, M3, M4, M5, M6, P17, P18, P19,
 };
-use checks::fields::{AFTER, COPIES, D, HI, KEY, LEAF, LO, NODE, OWN_CELL, PLACE, RESULT_KEY};
+use checks::fields::{
+    AFTER, COPIES, D, DIRTY, HI, KEY, LEAF, LO, NODE, OWN_CELL, PLACE, RESULT_KEY,
+};
 use checks::queue::Queue;
 use mound::{Answer, Refusal};
 
@@ -114,9 +116,9 @@ fn a_copied_head_that_does_not_exist() {
     for (place, failed) in [(E2, E1), (P18, P17)] {
         assert_eq!(queue_with_thread_at(place, &[(COPIES[0], 0)]).moved([PLACE]), [failed]);
         // An empty root, copied as empty and equal; 7 comes before 11.
-        for counter in [0, u32::MAX] {
+        for counter in [0, u64::MAX] {
             let mut queue = Queue::with_thread_at(place, &[], [None; 3]);
-            queue.set_word(queue.node_at(1) + 2, counter);
+            queue.set_counter(queue.node_at(1), counter);
             queue.match_copies(1);
             refused_7(&queue);
         }
@@ -131,7 +133,7 @@ fn a_mended_node_that_does_not_exist() {
     };
     assert_eq!(at(&[]).moved([PLACE, D, NODE, RESULT_KEY]), [E1, 3, 0, 8]);
     assert_eq!(at(&[(AFTER, 1)]).turn(1, 0), Answer::Took { key: 8, tag: 0 });
-    refused_7(&at(&[(COPIES[0] + 1, 1)]));
+    refused_7(&at(&[(COPIES[0] + DIRTY, 1)]));
 }
 
 #[test]
@@ -182,24 +184,24 @@ fn updates() -> [(Queue, &'static [u32]); 6] {
 }
 
 /// The queue with that counter at a node and another in the copy that is compared with it.
-fn with_counter(queue: &Queue, node: u32, counter: u32, copied: u32) -> Queue {
+fn with_counter(queue: &Queue, node: u32, counter: u64, copied: u64) -> Queue {
     let mut queue = queue.clone();
     let (copy, _) = *queue.compared(1).iter().find(|compared| compared.1 == node).unwrap();
-    queue.set_word(queue.node_at(node) + 2, counter);
-    queue.set_word(copy + 2, copied);
+    queue.set_counter(queue.node_at(node), counter);
+    queue.set_counter(copy, copied);
     queue
 }
 
 /// The counters of all nodes.
-fn counters(queue: &Queue) -> Vec<u32> {
-    (1..8).map(|node| queue.node(node)[2]).collect()
+fn counters(queue: &Queue) -> Vec<u64> {
+    (1..8).map(|node| queue.counter(node)).collect()
 }
 
 #[test]
 fn a_spent_counter_in_a_node_that_would_change() {
     for (queue, changed) in updates() {
         for &node in changed {
-            let spent = with_counter(&queue, node, u32::MAX, u32::MAX);
+            let spent = with_counter(&queue, node, u64::MAX, u64::MAX);
             assert_eq!(refused(&spent), Refusal::CounterSpent);
             // Without its permission the turn is withdrawn before it; mending needs none.
             if [M5, M6].contains(&queue.place(1)) {
@@ -209,22 +211,27 @@ fn a_spent_counter_in_a_node_that_would_change() {
             } else {
                 withdrawn(&spent);
             }
-            // The last step of a counter is not refused.
-            let mut last = with_counter(&queue, node, u32::MAX - 1, u32::MAX - 1);
-            assert!(last.turn(1, 0).is_access());
-            assert_eq!(last.node(node)[2], u32::MAX);
+            // The last step of a counter is not refused, nor is that from the low word to the high.
+            for counter in [u64::MAX - 1, u64::from(u32::MAX), 9 << 32 | u64::from(u32::MAX)] {
+                let mut stepped = with_counter(&queue, node, counter, counter);
+                assert!(stepped.turn(1, 0).is_access());
+                assert_eq!(stepped.counter(node), counter + 1);
+            }
         }
     }
 }
 
+/// The copied counter differs in its low word or in its high word alone.
 #[test]
 fn a_spent_counter_where_the_comparison_fails() {
     for (queue, _) in updates() {
         for (_, node) in queue.compared(1).into_iter().filter(|compared| compared.1 != 3) {
-            let mut failing = with_counter(&queue, node, u32::MAX, u32::MAX - 1);
-            let before = counters(&failing);
-            assert_eq!(failing.turn(1, 0), Answer::Moved);
-            assert_eq!(counters(&failing), before);
+            for copied in [u64::MAX - 1, u64::MAX >> 1, u64::from(u32::MAX)] {
+                let mut failing = with_counter(&queue, node, u64::MAX, copied);
+                let before = counters(&failing);
+                assert_eq!(failing.turn(1, 0), Answer::Moved);
+                assert_eq!(counters(&failing), before);
+            }
         }
     }
 }
@@ -232,11 +239,11 @@ fn a_spent_counter_where_the_comparison_fails() {
 #[test]
 fn a_spent_counter_in_a_node_that_would_stay() {
     let [_, (push, _), _, (swap, _), ..] = updates();
-    let mut push = with_counter(&push, 1, u32::MAX, u32::MAX);
+    let mut push = with_counter(&push, 1, u64::MAX, u64::MAX);
     assert_eq!(push.turn(1, 0), Answer::Inserted);
-    assert_eq!(push.node(1)[2], u32::MAX);
+    assert_eq!(push.counter(1), u64::MAX);
     // The child that is not chosen is not even compared.
-    let mut swap = with_counter(&swap, 3, u32::MAX, 0);
+    let mut swap = with_counter(&swap, 3, u64::MAX, 0);
     assert_eq!(swap.turn(1, 0), Answer::Moved);
     assert_eq!(swap.field(1, NODE), 2);
 }

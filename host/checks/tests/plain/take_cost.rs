@@ -38,7 +38,7 @@ fn of_a_cell_in_two_lists() {
     queue.set_word(PRESENT_DEPTH, 2);
     queue.set_word(FIRST_FREE_CELL, 0);
     for node in [1, 2] {
-        queue.set_words(queue.node_at(node), [1, 0, 0]);
+        queue.set_words(queue.node_at(node), [1, 0, 0, 0]);
     }
     queue.set_words(queue.cell_at(1), [5, 0, 2]);
     queue.set_words(queue.cell_at(2), [3, 0, 0]);

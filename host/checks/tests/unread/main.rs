@@ -10,7 +10,7 @@ use std::env;
 use std::os::unix::process::ExitStatusExt;
 use std::process::Command;
 
-use checks::fields::Words;
+use checks::fields::{Form, Words};
 use checks::native::{accepted_records, bytes_of, KIND};
 use checks::random::Random;
 use mound::{Refusal, Shape};
@@ -22,13 +22,13 @@ const SHAPE_WORDS: usize = 4;
 
 /// Tries each word after the shape that has a range, all others in theirs, at the value below its
 /// range (below 0 it is the greatest number) and at the one above.
-fn try_each_word(memory: &mut Memory, region: &Words) {
+fn try_each_word(region: &Words, mut call: impl FnMut(&[u8], usize) -> u32) {
     let mut bytes = region.bytes();
     for at in (SHAPE_WORDS..region.words.len()).filter(|&at| region.has_range(at)) {
         for value in [region.least(at).wrapping_sub(1), region.greatest(at) + 1] {
             bytes[4 * at..][..4].copy_from_slice(&value.to_le_bytes());
             let read = 4 * region.words_to_read(at, value);
-            let answer = memory.check(&bytes[..read], bytes.len());
+            let answer = call(&bytes[..read], bytes.len());
             assert_eq!(answer, Refusal::Unreadable.number(), "word {at} set to {value}");
         }
         bytes[4 * at..][..4].copy_from_slice(&region.words[at].to_le_bytes());
@@ -40,16 +40,32 @@ fn each_word_of_small_shapes() {
     let (memory, random) = (&mut Memory::new(), &mut Random::new(40));
     for _ in 0..100 {
         let shape = random.shape(5);
-        try_each_word(memory, &Words::laid_out(shape));
-        try_each_word(memory, &Words::any_readable(random, shape));
+        for region in [Words::laid_out(shape), Words::any_readable(random, shape)] {
+            try_each_word(&region, |first, length| memory.check(first, length));
+        }
     }
 }
 
 #[test]
 fn each_word_of_the_largest_shape() {
     let (memory, random) = (&mut Memory::new(), &mut Random::new(41));
-    try_each_word(memory, &Words::laid_out(Shape::LARGEST));
-    try_each_word(memory, &Words::any_readable(random, Shape::LARGEST));
+    for region in [Words::laid_out(Shape::LARGEST), Words::any_readable(random, Shape::LARGEST)] {
+        try_each_word(&region, |first, length| memory.check(first, length));
+    }
+}
+
+/// A conversion is refused by its check of the old region, which ends where a check does.
+#[test]
+fn each_word_of_regions_of_the_old_form() {
+    let (memory, random) = (&mut Memory::new(), &mut Random::new(43));
+    for _ in 0..100 {
+        let shape = random.shape(5);
+        let mut new = random.bytes(shape.byte_len().expect("a shape in range"));
+        let laid_out = Words::laid_out_in(Form::OLD, shape);
+        for region in [laid_out, Words::any_readable_in(Form::OLD, random, shape)] {
+            try_each_word(&region, |first, length| memory.convert(first, length, &mut new));
+        }
+    }
 }
 
 /// A shape out of range, or of another length, is refused by its own words.

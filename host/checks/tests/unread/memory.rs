@@ -16,6 +16,7 @@ extern "C" {
     fn munmap(address: *mut c_void, length: usize) -> c_int;
 
     fn mound_check(region: *const u8, region_len: usize) -> u32;
+    fn mound_convert(old: *const u8, old_len: usize, new: *mut u8, new_len: usize) -> u32;
     fn mound_records(records: *const u8, records_len: usize) -> u32;
 }
 
@@ -49,28 +50,35 @@ impl Memory {
     /// The library's check of a region of `length` bytes whose first ones are these. They end where
     /// the first half does, so that none of the others can be read.
     pub fn check(&mut self, first: &[u8], length: usize) -> u32 {
-        self.call(mound_check, first, length)
+        let slice = self.with(first, length);
+        // SAFETY: no reference is made to what cannot be read: the library gets a pointer, and ends
+        // this program if it reads there.
+        unsafe { mound_check(slice, length) }
     }
 
     /// The same of records.
     pub fn records(&mut self, first: &[u8], length: usize) -> u32 {
-        self.call(mound_records, first, length)
+        let slice = self.with(first, length);
+        // SAFETY: as in `check`.
+        unsafe { mound_records(slice, length) }
     }
 
-    fn call(
-        &mut self,
-        call: unsafe extern "C" fn(*const u8, usize) -> u32,
-        first: &[u8],
-        length: usize,
-    ) -> u32 {
+    /// The same of a region of the old form that is to be converted.
+    pub fn convert(&mut self, first: &[u8], length: usize, new: &mut [u8]) -> u32 {
+        let slice = self.with(first, length);
+        // SAFETY: as in `check`; the new slice is lent for the call, exclusively.
+        unsafe { mound_convert(slice, length, new.as_mut_ptr(), new.len()) }
+    }
+
+    /// Where a slice of this length starts whose first bytes are these.
+    fn with(&mut self, first: &[u8], length: usize) -> *const u8 {
         assert!(first.len() <= length && length <= HALF);
         // SAFETY: the bytes fit into the first half, which is this value's own, and the whole slice
-        // into both. No reference is made to what cannot be read: the library gets a pointer, and
-        // ends this program if it reads there.
+        // into both.
         unsafe {
             let slice = self.start.add(HALF - first.len());
             slice.copy_from_nonoverlapping(first.as_ptr(), first.len());
-            call(slice, length)
+            slice
         }
     }
 }

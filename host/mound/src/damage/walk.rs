@@ -5,12 +5,9 @@ use core::ops::RangeInclusive;
 
 use super::{Beside, Damage, OutOfRange, Part};
 use crate::records::GREATEST_TAG;
-use crate::shape::most_cells;
+use crate::shape::{most_cells, SHAPE_WORDS};
 use crate::words::{word, WORD};
 use crate::Shape;
-
-/// The words of the shape.
-const SHAPE_WORDS: usize = 4;
 
 /// Put and take.
 const GREATEST_PERMISSION: u32 = 3;
@@ -95,7 +92,8 @@ impl Walk<'_> {
     fn node(&mut self, part: Part, shape: Shape) -> Result<(), Damage> {
         self.word(part, "first cell", 0..=shape.cells)?;
         self.word(part, "dirty mark", 0..=1)?;
-        let _counter = self.free_word();
+        let _low_word_of_the_counter = self.free_word();
+        let _high_word_of_the_counter = self.free_word();
         Ok(())
     }
 

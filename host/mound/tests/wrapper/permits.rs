@@ -102,7 +102,7 @@ fn case_e_refusals_in_their_order() -> Result<(), Refusal> {
     let numbers = refused.map(|(thread, value)| calls::permit(&mut bytes, thread, value));
     assert_eq!(numbers, [1, 1, 3, 3]);
     assert_eq!(bytes, before);
-    let (unreadable, _) = bytes.split_at_mut(344);
+    let (unreadable, _) = bytes.split_at_mut(380);
     assert_eq!(calls::permit(unreadable, 0, 4), 7);
     Ok(())
 }
@@ -117,7 +117,7 @@ fn a_permission_is_one_word() -> Result<(), Refusal> {
     for value in [0_u8, 1, 2, 3] {
         for thread in [1, 2] {
             region.permit(thread, value.try_into()?)?;
-            due[84 + 132 * (thread as usize - 1)..][0] = value;
+            due[96 + 144 * (thread as usize - 1)..][0] = value;
             assert_eq!(region.as_bytes(), due);
         }
     }

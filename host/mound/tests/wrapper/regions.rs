@@ -9,7 +9,7 @@ fn a_region_is_laid_out_given_back_and_opened_again() -> Result<(), Refusal> {
     let mut bytes = vec![0xff; SHAPE.byte_len()?];
     let region = Region::layout(&mut bytes, SHAPE, &BOTH)?;
     assert_eq!(region.check(), Ok(()));
-    assert_eq!(region.as_bytes().len(), 348);
+    assert_eq!(region.as_bytes().len(), 384);
     assert!(format!("{region:?}").contains("depth: 2"));
 
     let lent = region.into_bytes();
@@ -20,7 +20,7 @@ fn a_region_is_laid_out_given_back_and_opened_again() -> Result<(), Refusal> {
 
 #[test]
 fn a_refused_layout_says_why_and_lends_the_bytes_back() {
-    let mut bytes = vec![7; 348];
+    let mut bytes = vec![7; 384];
     let mut refused = |shape, permissions: &[Permission]| {
         Region::layout(&mut bytes, shape, permissions).unwrap_err()
     };
@@ -32,21 +32,21 @@ fn a_refused_layout_says_why_and_lends_the_bytes_back() {
         assert_eq!(refused(Shape { threads: 64, ..SHAPE }, &too_many_or_few), Refusal::Shape);
     }
     assert_eq!(refused(Shape { cells: 1, ..SHAPE }, &BOTH), Refusal::RegionLength);
-    assert_eq!(bytes, vec![7; 348]);
+    assert_eq!(bytes, vec![7; 384]);
 }
 
 #[test]
 fn damaged_bytes_are_not_opened() {
-    let mut bytes = vec![0; 348];
+    let mut bytes = vec![0; 384];
     Region::layout(&mut bytes, SHAPE, &BOTH).expect("a good layout");
-    bytes[347] = 1;
+    bytes[383] = 1;
     let refused = |bytes: &mut [u8]| Region::open(bytes).unwrap_err().to_string();
     assert_eq!(
         refused(&mut bytes),
-        "word 86: the head's next in node copy 3 of thread 2 is 16777216, not 0 to 2"
+        "word 95: the head's next in node copy 3 of thread 2 is 16777216, not 0 to 2"
     );
-    assert_eq!(refused(&mut bytes[..344]), "the length in bytes is 344, not 348");
-    assert_eq!(refused(&mut []), "the length in bytes is 0, not 180 to 82188");
+    assert_eq!(refused(&mut bytes[..380]), "the length in bytes is 380, not 384");
+    assert_eq!(refused(&mut []), "the length in bytes is 0, not 196 to 99336");
 }
 
 /// A thread is idle when its operation has ended: of a list, when the last item has been answered.
@@ -91,14 +91,14 @@ fn each_thread_gets_its_own_permission() -> Result<(), Refusal> {
     let shape = Shape { threads: 4, ..SHAPE };
     let mut bytes = vec![0; shape.byte_len()?];
     let region = Region::layout(&mut bytes, shape, &all)?;
-    let records = region.as_bytes()[84..].chunks_exact(132);
+    let records = region.as_bytes()[96..].chunks_exact(144);
     assert!(records.map(|record| record[0]).eq(0..4));
     Ok(())
 }
 
 #[test]
-fn the_largest_shape_has_82_188_bytes() {
-    assert_eq!(Shape::LARGEST.byte_len(), Ok(82_188));
+fn the_largest_shape_has_99_336_bytes() {
+    assert_eq!(Shape::LARGEST.byte_len(), Ok(99_336));
     assert_eq!(Shape { depth: 13, ..Shape::LARGEST }.byte_len(), Err(Refusal::Shape));
     assert_eq!(Shape { depth: 0, ..SHAPE }.byte_len(), Err(Refusal::Shape));
     assert_eq!(Shape { depth: u32::MAX, ..SHAPE }.byte_len(), Err(Refusal::Shape));
@@ -125,7 +125,7 @@ fn refusals_and_damage_are_errors_that_a_program_can_pass_on() {
     fn take(bytes: &mut [u8], thread: u32) -> Result<(), Refusal> {
         Region::open(bytes)?.take(thread)
     }
-    let mut bytes = [0; 348];
+    let mut bytes = [0; 384];
     assert!(put(&mut bytes, 3).unwrap_err().is::<Damage>());
     assert_eq!(take(&mut bytes, 3), Err(Refusal::Unreadable));
     Region::layout(&mut bytes, SHAPE, &BOTH).expect("a good layout");

@@ -2,7 +2,7 @@
 use borrow.Author.Needs.{needs}
 use Rattle.region.proofs.record.load_node_at.Statement.{statement}
 use mathlib.Core.Path.{ap}
-use Rattle.region.specs.Record.{nodeOf, nodeAt}
+use Rattle.region.specs.Record.{counterSize, nodeOf, nodeAt}
 use Rattle.region.proofs.record.load_node_at.Tie as tie
 
 slice-aggregate-load-words : tie.Need-slice-aggregate-load-words
@@ -20,9 +20,12 @@ array-read-t12 c = search needs
 array-read-t15 : tie.Need-array-read-t15
 array-read-t15 c = search needs
 
+array-read-t18 : tie.Need-array-read-t18
+array-read-t18 c = search needs
+
 returns : tie.Need-returns
 unfolding nodeAt
-returns c = ap (λ ws. nodeOf ws 0) (c .before .load-words .ensures)
+returns c = ap (λ ws. nodeOf counterSize ws 0) (c .before .load-words .ensures)
 
 pub load-node-at-spec : {M : Type 1} → statement M
 load-node-at-spec =
@@ -33,4 +36,5 @@ load-node-at-spec =
     array-read-t9
     array-read-t12
     array-read-t15
+    array-read-t18
     returns)

@@ -2,6 +2,7 @@
 -- Assumes nothing.
 use borrow.Author.Needs.{needs}
 use Rattle.region.proofs.thread.load_thread_at.Statement.{statement}
+use Rattle.region.specs.Inner.{two-words}
 use Rattle.region.proofs.Threads.{thread-loaded}
 use Rattle.region.proofs.thread.load_thread_at.Tie as tie
 
@@ -80,7 +81,7 @@ load-copy-at-requires-3 c κs = search needs
 returns : tie.Need-returns
 returns c =
     let l = c .before .before .before .before .before in
-    thread-loaded _ _ _ _ _ _ _ (l .load-words .ensures) (c .before .before .before .place-of .ensures)
+    thread-loaded two-words _ _ _ _ _ _ _ (l .load-words .ensures) (c .before .before .before .place-of .ensures)
     (c .before .before .load-copy-at .ensures) (c .before .load-copy-at2 .ensures) (c .load-copy-at3 .ensures)
 
 pub load-thread-at-spec : {M : Type 1} → statement M

@@ -51,8 +51,7 @@ impl History {
             threads: random.among_or_extreme(1..=16),
             threshold: random.among_or_extreme(1..=16),
         };
-        let permissions: Vec<u8> =
-            (0..shape.threads).map(|_| random.one_of(&[0, 1, 2, 3, 3, 3, 3, 3])).collect();
+        let permissions = random.generous_permissions(shape);
         History::laid_out(random, shape, &permissions)
     }
 

@@ -146,7 +146,7 @@ impl Machine {
         match self.mistake {
             Some(Mistake::CounterNotCompared) => {
                 for (copy, node) in queue.compared(thread) {
-                    queue.set_word(copy + 2, queue.node(node)[2]);
+                    queue.set_counter(copy, queue.counter(node));
                 }
             }
             Some(Mistake::ParentNotTested) if queue.place(thread) == place::I8 => {

@@ -3,7 +3,8 @@ use native.Mathlib.Omega.{arith}
 use borrow.Author.Needs.{needs}
 use Rattle.region.proofs.frame.Frame.load_node.Statement.{statement}
 use Rattle.region.specs.Shared.{nodeIn}
-use Rattle.region.proofs.Entries.{load-zero, load-past, load-there}
+use Rattle.region.proofs.Entries.{load-zero, load-past}
+use Rattle.region.proofs.Frames.{node-there}
 use Prim.Native.Nat.{_<_, _≤_}
 use Rattle.region.specs.Shape.{nodeCount}
 use Rattle.region.proofs.frame.Frame.load_node.Tie as tie
@@ -41,11 +42,10 @@ load-node-at-requires : tie.Need-load-node-at-requires
 load-node-at-requires c κs = search needs
 
 returns-3 : tie.Need-returns-3
-unfolding nodeIn
 returns-3 c =
     let a = c .before .before .before .before .before .before .before .args in
     let h : a .n ≤ nodeCount (a .self .shape) = omega arith in
-    search load-there
+    search node-there
 
 pub load-node-spec : {M : Type 1} → statement M
 load-node-spec =

@@ -3,7 +3,8 @@ use native.Mathlib.Omega.{arith}
 use borrow.Author.Needs.{needs}
 use Rattle.region.proofs.frame.Frame.load_thread.Statement.{statement}
 use Rattle.region.specs.Shared.{threadIn}
-use Rattle.region.proofs.Entries.{load-zero, load-past, load-there, entry-end}
+use Rattle.region.proofs.Entries.{load-zero, load-past, entry-end}
+use Rattle.region.proofs.Frames.{thread-there}
 use Rattle.region.specs.Frame.{threadsOf}
 use Rattle.region.proofs.frame.Frame.load_thread.Tie as tie
 
@@ -48,8 +49,7 @@ load-thread-at-requires c κs =
     omega (arith, e, o .pre)
 
 returns-3 : tie.Need-returns-3
-unfolding threadIn
-returns-3 c = search load-there
+returns-3 c = search thread-there
 
 pub load-thread-spec : {M : Type 1} → statement M
 load-thread-spec =

@@ -3,7 +3,7 @@ use native.Mathlib.Omega.{arith}
 use borrow.Author.Needs.{needs}
 use Rattle.region.proofs.frame.Frame.of.Statement.{statement}
 use Rattle.region.proofs.Shapes.{sizes}
-use Rattle.region.specs.Frame.{frameOf}
+use Rattle.region.specs.Frame.{frameOfWidth}
 use Rattle.region.proofs.frame.Frame.of.Tie as tie
 
 node-count-requires : tie.Need-node-count-requires
@@ -28,7 +28,7 @@ add-t6 : tie.Need-add-t6
 add-t6 c = omega (arith, sizes (c .before .before .args .shape) (c .before .before .pre .depth-most))
 
 returns : tie.Need-returns
-unfolding frameOf
+unfolding frameOfWidth
 returns c = cc
 
 pub of-spec : {M : Type 1} → statement M

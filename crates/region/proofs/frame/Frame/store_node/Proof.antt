@@ -3,7 +3,8 @@ use native.Mathlib.Omega.{arith}
 use borrow.Author.Needs.{needs}
 use Rattle.region.proofs.frame.Frame.store_node.Statement.{statement}
 use Rattle.region.specs.Shared.{setNodeIn}
-use Rattle.region.proofs.Entries.{store-zero, store-past, store-there}
+use Rattle.region.proofs.Entries.{store-zero, store-past}
+use Rattle.region.proofs.Frames.{node-put}
 use Prim.Native.Nat.{_<_, _≤_}
 use Rattle.region.specs.Shape.{nodeCount}
 use Rattle.region.proofs.frame.Frame.store_node.Tie as tie
@@ -38,11 +39,10 @@ same-length : tie.Need-same-length
 same-length c = search needs
 
 returns-3 : tie.Need-returns-3
-unfolding setNodeIn
 returns-3 c =
     let a = c .before .before .before .before .before .before .before .before .before .before .args in
     let h : a .n ≤ nodeCount (a .self .shape) = omega arith in
-    search store-there
+    search node-put
 
 pub store-node-spec : {M : Type 1} → statement M
 store-node-spec =

@@ -3,7 +3,8 @@ use native.Mathlib.Omega.{arith}
 use borrow.Author.Needs.{needs}
 use Rattle.region.proofs.frame.Frame.store_thread.Statement.{statement}
 use Rattle.region.specs.Shared.{setThreadIn}
-use Rattle.region.proofs.Entries.{store-zero, store-past, store-there, entry-end}
+use Rattle.region.proofs.Entries.{store-zero, store-past, entry-end}
+use Rattle.region.proofs.Frames.{thread-put}
 use Rattle.region.specs.Frame.{threadsOf}
 use Rattle.region.proofs.frame.Frame.store_thread.Tie as tie
 
@@ -46,8 +47,7 @@ same-length : tie.Need-same-length
 same-length c = search needs
 
 returns-3 : tie.Need-returns-3
-unfolding setThreadIn
-returns-3 c = search store-there
+returns-3 c = search thread-put
 
 pub store-thread-spec : {M : Type 1} → statement M
 store-thread-spec =

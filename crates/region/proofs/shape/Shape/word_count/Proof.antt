@@ -3,7 +3,7 @@ use native.Mathlib.Omega.{arith}
 use borrow.Author.Needs.{needs}
 use Rattle.region.proofs.shape.Shape.word_count.Statement.{statement}
 use Rattle.region.proofs.Shapes.{sizes}
-use Rattle.region.specs.Shape.{regionWords}
+use Rattle.region.specs.Shape.{regionWordsOfWidth}
 use Rattle.region.proofs.shape.Shape.word_count.Tie as tie
 
 cast-cells : tie.Need-cast-cells
@@ -34,7 +34,7 @@ add-result-3 : tie.Need-add-result-3
 add-result-3 c = omega (arith, sizes (c .before .before .before .args .self) (c .before .before .before .pre .depth-most))
 
 returns : tie.Need-returns
-unfolding regionWords
+unfolding regionWordsOfWidth
 returns c = cc
 
 pub word-count-spec : {M : Type 1} → statement M

@@ -1,0 +1,53 @@
+-- `convert::old::old_word_count` meets its contract. Assumes nothing.
+use native.Mathlib.Omega.{arith}
+use Rattle.region.proofs.Shapes.{sizes}
+use Rattle.region.specs.Shape.{regionWordsOfWidth}
+use borrow.Author.Needs.{needs}
+use Rattle.convert.proofs.old.old_word_count.Statement.{statement}
+use Rattle.convert.proofs.old.old_word_count.Tie as tie
+
+cast-cells : tie.Need-cast-cells
+cast-cells c = search needs
+
+cast-threads : tie.Need-cast-threads
+cast-threads c = search needs
+
+node-count-requires : tie.Need-node-count-requires
+node-count-requires c κs = search needs
+
+mul-result : tie.Need-mul-result
+mul-result c = omega (arith, sizes (c .before .before .before .args .shape) (c .before .before .before .pre .depth-most))
+
+add-result : tie.Need-add-result
+add-result c = omega (arith, sizes (c .before .before .before .args .shape) (c .before .before .before .pre .depth-most))
+
+mul-result-2 : tie.Need-mul-result-2
+mul-result-2 c = search needs
+
+add-result-2 : tie.Need-add-result-2
+add-result-2 c = omega (arith, sizes (c .before .before .before .args .shape) (c .before .before .before .pre .depth-most))
+
+mul-result-3 : tie.Need-mul-result-3
+mul-result-3 c = search needs
+
+add-result-3 : tie.Need-add-result-3
+add-result-3 c = omega (arith, sizes (c .before .before .before .args .shape) (c .before .before .before .pre .depth-most))
+
+returns : tie.Need-returns
+unfolding regionWordsOfWidth
+returns c = cc
+
+pub old-word-count-spec : {M : Type 1} → statement M
+old-word-count-spec =
+    tie.close
+    (tie.spec
+    cast-cells
+    cast-threads
+    node-count-requires
+    mul-result
+    add-result
+    mul-result-2
+    add-result-2
+    mul-result-3
+    add-result-3
+    returns)

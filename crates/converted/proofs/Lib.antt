@@ -1,0 +1,5 @@
+-- A converted region answers as the old one.
+mod Alike
+mod Calls
+pub mod Proved
+pub mod Worked

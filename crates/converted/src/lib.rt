@@ -1,0 +1,1 @@
+// Definitions for what a converted region answers; this crate has no code.
