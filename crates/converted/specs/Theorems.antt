@@ -28,11 +28,6 @@ AnswersAsBefore =
     (old new : List ℕ) → convertRefusal old (length new) ≡ done → (calls : List QueueCall)
     → AlikeUntilSpent (allReplies oldForm old calls) (allReplies newForm (convertedBytes old new) calls)
 
--- an event of a history, if it is a served turn, before the replies behind it
-abbrev pub seen : Event → List Reply → List Reply
-seen (called c r) rest = rest
-seen (servedTurn x) rest = turned (x .answer) ∷ rest
-
 -- the calls of the new form are those of histories, and so the exported ones (`CallsAreExported` in crates/bag/specs)
 abbrev pub callOf : QueueCall → Call
 callOf (put t i) = putCall t i
@@ -42,12 +37,18 @@ callOf (permit t p) = permitCall t p
 callOf (run schedule limit a) = runCall schedule limit a
 callOf check = checkCall
 
+-- an event of a history, if it is a served turn, before the replies behind it
+abbrev pub seen : Event → List Reply → List Reply
+seen (called c r) rest = rest
+seen (servedTurn x) rest = turned (x .answer) ∷ rest
+
 -- the replies of the turns among these moments
 abbrev pub turnsSeen : List Moment → List Reply
 turnsSeen [] = []
 turnsSeen (m ∷ ms) = seen (m .event) (turnsSeen ms)
 
 pub record NewFormIsExported : Type 0 where
+  -- what each call answers and leaves, and what a run serves
   pub answers : (b : List ℕ) (c : QueueCall) → refusalBy newForm b c ≡ refusalOf b (callOf c)
   pub regions : (b : List ℕ) (c : QueueCall) → afterBy newForm b c ≡ after b (callOf c)
   pub runs : (b schedule : List ℕ) (limit : ℕ) (a : List ℕ) → servedBy newForm b schedule limit a ≡ runResult b schedule limit a
