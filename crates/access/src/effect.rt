@@ -7,7 +7,7 @@ ghost use Rattle.access.specs.Inner.{cleaning, detaching, exchanging, freeing, g
 use region::{Cell, Frame, Item, Node};
 
 // Each node value is complete: its counter was counted up where refusal 11 was tested.
-#[derive(Drop)]
+#[derive(Clone, Copy)]
 pub enum Effect {
     Nothing,
     // the present depth grows to this

@@ -6,7 +6,7 @@ use crate::effect::Effect;
 use region::{Answer, Place, Thread};
 
 // The effect on shared memory, the thread's record afterwards, and the answer.
-#[derive(Drop)]
+#[derive(Clone, Copy)]
 pub struct Plan {
     pub effect: Effect,
     pub thread: Thread,

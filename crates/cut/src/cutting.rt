@@ -16,7 +16,7 @@ use script::{Opening, Setup, write_text};
 const LINES_MOST: usize = 6000;
 
 // The refusal or 0, and how many bytes were written.
-#[derive(Drop)]
+#[derive(Clone, Copy)]
 pub struct Cut {
     pub refusal: u32,
     pub length: usize,

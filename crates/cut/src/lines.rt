@@ -16,21 +16,21 @@ pub const TABLE_ROOM: usize = 36000;
 pub const TURN: u32 = 4;
 
 // A line's call, and whose it is.
-#[derive(Drop)]
+#[derive(Clone, Copy)]
 pub struct Call {
     pub what: What,
     pub thread: u32,
 }
 
 // Where a line's bytes start and end in the script.
-#[derive(Drop)]
+#[derive(Clone, Copy)]
 pub struct Span {
     pub start: usize,
     pub end: usize,
 }
 
 // What a row says of the call: its kind, a and b.
-#[derive(Drop)]
+#[derive(Clone, Copy)]
 pub struct Fields {
     pub kind: u32,
     pub a: u32,
@@ -38,7 +38,7 @@ pub struct Fields {
 }
 
 // How many lines were read, or that one cannot be.
-#[derive(Drop)]
+#[derive(Clone, Copy)]
 pub enum Lines {
     Read(usize),
     Unreadable,

@@ -10,7 +10,7 @@ use region::Frame;
 use script::{REGION_ROOM, Setup};
 
 // What all trials share: the number, where the parts of the region lie, and the region's size in bytes.
-#[derive(Drop)]
+#[derive(Clone, Copy)]
 pub struct Trial {
     pub number: u32,
     pub frame: Frame,

@@ -16,7 +16,7 @@ use script::{Opening, REGION_ROOM, Setup, write_text};
 pub const REPORT_ROOM: usize = 676087;
 
 // The positions after what was read and after what was printed.
-#[derive(Drop)]
+#[derive(Clone, Copy)]
 pub struct Progress {
     pub next: usize,
     pub printed: usize,

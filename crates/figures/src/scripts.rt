@@ -12,7 +12,7 @@ pub const INPUT_MOST: usize = 60000;
 const SCRIPTS_MOST: usize = 64;
 
 // The position after what was read, or that it cannot be read.
-#[derive(Drop)]
+#[derive(Clone, Copy)]
 pub enum End {
     At(usize),
     Unreadable,

@@ -10,7 +10,7 @@ pub const RECORD_BYTES: usize = 28;
 
 // What a record says of an operation: its kind (put 1, take 2, empty 3), its thread, when it began and was answered, the
 // position that it claims among all, and its item.
-#[derive(Drop)]
+#[derive(Clone, Copy)]
 pub struct Recorded {
     pub kind: u32,
     pub thread: u32,

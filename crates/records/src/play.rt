@@ -24,7 +24,7 @@ fn pack(i: Item) -> u64
 }
 
 // Whether the bag gave the answer, and how many items it has then.
-#[derive(Drop)]
+#[derive(Clone, Copy)]
 struct Played {
     given: bool,
     size: usize,

@@ -35,7 +35,7 @@ pub const NOT_SHOWN: u32 = 16;
 
 // "An answer is one of moved 0, idle 1, inserted 2, took 3 with key and tag, empty 4, refused 5 with its number as key."; and
 // withdrawn 6 (request 5).
-#[derive(Drop)]
+#[derive(Clone, Copy)]
 pub enum Answer {
     Moved,
     Idle,

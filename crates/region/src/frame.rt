@@ -14,7 +14,7 @@ use crate::shape::{HEAD_SIZE, Shape};
 use crate::thread::{THREAD_SIZE, Thread, load_thread_at, store_thread_at};
 
 // Word offsets of the parts, the stride of a thread's record in words, and the words of a counter.
-#[derive(Drop)]
+#[derive(Clone, Copy)]
 pub struct Frame {
     pub shape: Shape,
     pub depth: usize,

@@ -4,7 +4,7 @@ ghost use Rattle.region.specs.Place.{place_of, place_number, waiting_levels};
 
 // "A thread stands idle or at one of sixteen places" (document 01, whose label stands beside each), or at one of request 1's
 // three. The mending places carry the levels whose nodes wait to be mended: bit j - 1 for level j.
-#[derive(Drop)]
+#[derive(Clone, Copy)]
 pub enum Place {
     Idle,
     // I1 to I8: put

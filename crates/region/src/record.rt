@@ -11,14 +11,14 @@ pub const CELL_SIZE: usize = 3;
 pub const COUNTER_SIZE: usize = 2;
 
 // A key with a tag.
-#[derive(Drop)]
+#[derive(Clone, Copy)]
 pub struct Item {
     pub key: u32,
     pub tag: u32,
 }
 
 // A node of the tree: the first cell of its list (0 for none), dirty (0 or 1), and the counter of its updates, in two words.
-#[derive(Drop)]
+#[derive(Clone, Copy)]
 pub struct Node {
     pub first: u32,
     pub dirty: u32,
@@ -27,14 +27,14 @@ pub struct Node {
 }
 
 // A cell of a list: its item, and the next cell (0 ends the list).
-#[derive(Drop)]
+#[derive(Clone, Copy)]
 pub struct Cell {
     pub item: Item,
     pub next: u32,
 }
 
 // What a READ of a node copies: the node, and its head cell (zero if the list is empty).
-#[derive(Drop)]
+#[derive(Clone, Copy)]
 pub struct NodeCopy {
     pub node: Node,
     pub head: Cell,

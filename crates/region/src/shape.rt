@@ -9,7 +9,7 @@ use crate::thread::THREAD_SIZE;
 // The words before the nodes.
 pub const HEAD_SIZE: usize = 6;
 
-#[derive(Drop)]
+#[derive(Clone, Copy)]
 pub struct Shape {
     // D, the greatest depth
     pub depth: u32,

@@ -16,7 +16,7 @@ const THIRD_COPY: usize = 29;
 pub const THREAD_SIZE: usize = 36;
 
 // What a put's search for its node keeps: the leaf, the tries so far, and the levels between which it looks.
-#[derive(Drop)]
+#[derive(Clone, Copy)]
 pub struct Search {
     pub leaf: u32,
     pub tries: u32,
@@ -25,14 +25,14 @@ pub struct Search {
 }
 
 // "The second copy takes parent and left child, the third the right child, the first every other node read."
-#[derive(Drop)]
+#[derive(Clone, Copy)]
 pub struct Copies {
     pub first: NodeCopy,
     pub second: NodeCopy,
     pub third: NodeCopy,
 }
 
-#[derive(Drop)]
+#[derive(Clone, Copy)]
 pub struct Thread {
     // bit 0 put, bit 1 take
     pub permission: u32,

@@ -10,14 +10,14 @@ ghost use Rattle.run.specs.Inner.{Ran, RanIn, RunWithin, TurnWithin, refused};
 use region::{Answer, BAD_SCHEDULE, DONE, Frame, SHORT_ANSWERS, UNREADABLE};
 
 // The turns served and the accesses made.
-#[derive(Drop)]
+#[derive(Clone, Copy)]
 pub struct Counts {
     pub turns: u32,
     pub accesses: u32,
 }
 
 // What a run answers: done or its refusal, and the counts, 0 where it is refused.
-#[derive(Drop)]
+#[derive(Clone, Copy)]
 pub struct Outcome {
     pub refusal: u32,
     pub counts: Counts,

@@ -6,7 +6,7 @@ ghost use Rattle.script.specs.Reading.{digits_then, number_then};
 ghost use Rattle.script.specs.Printing.{number_text};
 
 // What reading a field finds: its value and the position after it.
-#[derive(Drop)]
+#[derive(Clone, Copy)]
 pub enum Number {
     Read(u32, usize),
     Unreadable,

@@ -8,7 +8,7 @@ use crate::text::write_text;
 use region::Answer;
 
 // What came of a script line.
-#[derive(Drop)]
+#[derive(Clone, Copy)]
 pub enum Outcome {
     Begun,
     Set,

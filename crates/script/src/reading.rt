@@ -11,7 +11,7 @@ use region::{Item, Shape};
 pub const SCRIPT_MOST: usize = 60000;
 
 // The fields behind a line's first word: thread, a, b, and the position after the line.
-#[derive(Drop)]
+#[derive(Clone, Copy)]
 pub enum Fields {
     Read(u32, u32, u32, usize),
     Unreadable,
@@ -19,7 +19,7 @@ pub enum Fields {
 
 // The call that a line makes: a put of its item, a take of one item or of the root's list, the thread's permission, a turn with
 // its choice.
-#[derive(Drop)]
+#[derive(Clone, Copy)]
 pub enum What {
     Put(Item),
     Take,
@@ -28,7 +28,7 @@ pub enum What {
     Turn(u32),
 }
 
-#[derive(Drop)]
+#[derive(Clone, Copy)]
 pub struct ScriptLine {
     pub what: What,
     pub thread: u32,
@@ -36,21 +36,21 @@ pub struct ScriptLine {
     pub next: usize,
 }
 
-#[derive(Drop)]
+#[derive(Clone, Copy)]
 pub enum Line {
     Read(ScriptLine),
     Unreadable,
 }
 
 // What the script's opening says: the shape, the permission of every thread, and where the lines start.
-#[derive(Drop)]
+#[derive(Clone, Copy)]
 pub struct Setup {
     pub shape: Shape,
     pub permission: u32,
     pub next: usize,
 }
 
-#[derive(Drop)]
+#[derive(Clone, Copy)]
 pub enum Opening {
     Read(Setup),
     Unreadable,
