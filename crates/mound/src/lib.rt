@@ -15,8 +15,7 @@ ghost use Rattle.mound.specs.Inner.{CutPackable, Packable};
 use region::{Item, Shape};
 
 // Lays out a region: D, C, T, H, and a permission for each thread. Refusals 1, 2.
-#[unsafe(no_mangle)]
-pub extern "C" fn mound_layout(
+pub fn mound_layout(
     region: &mut [u8],
     depth: u32,
     cells: u32,
@@ -39,16 +38,14 @@ pub extern "C" fn mound_layout(
 }
 
 // Begins a put of an item, a key with a tag, by a thread: 0 if begun. Refusals 7, 3, 4, 8, 9, 10.
-#[unsafe(no_mangle)]
-pub extern "C" fn mound_put(region: &mut [u8], thread: u32, key: u32, tag: u32) -> u32
+pub fn mound_put(region: &mut [u8], thread: u32, key: u32, tag: u32) -> u32
     ensures { PutBegun region.old region.new thread (item_given key tag) result }
 {
     begin::begin_put(region, thread, Item { key, tag })
 }
 
 // Begins a take of the least item by a thread: 0 if begun. Refusals 7, 3, 8, 9.
-#[unsafe(no_mangle)]
-pub extern "C" fn mound_take(region: &mut [u8], thread: u32) -> u32
+pub fn mound_take(region: &mut [u8], thread: u32) -> u32
     ensures { TakeBegun region.old region.new thread ReadRoot result }
 {
     begin::begin_take(region, thread)
@@ -56,16 +53,14 @@ pub extern "C" fn mound_take(region: &mut [u8], thread: u32) -> u32
 
 // Begins a take of all items at the root by a thread: 0 if begun. Its turns hand them out one by one, the least first. Refusals
 // 7, 3, 8, 9.
-#[unsafe(no_mangle)]
-pub extern "C" fn mound_list(region: &mut [u8], thread: u32) -> u32
+pub fn mound_list(region: &mut [u8], thread: u32) -> u32
     ensures { TakeBegun region.old region.new thread ListReadRoot result }
 {
     begin::begin_list(region, thread)
 }
 
 // Sets a thread's permission (bit 0 put, bit 1 take), be the thread busy or idle: 0 if set. Refusals 7, 3, 1.
-#[unsafe(no_mangle)]
-pub extern "C" fn mound_permit(region: &mut [u8], thread: u32, permission: u32) -> u32
+pub fn mound_permit(region: &mut [u8], thread: u32, permission: u32) -> u32
     ensures { PermitSet region.old region.new thread permission result }
 {
     permission::permit(region, thread, permission)
@@ -82,8 +77,7 @@ fn pack(refusal: u32, turns: u32, accesses: u32) -> u64
 // Runs a schedule, turns of two words (thread, choice), up to a limit on accesses; each served turn's answer is three words
 // (code, key, tag) of answers. Bits 0 to 15 are the refusal or 0, bits 16 to 31 the turns served, bits 32 to 63 the accesses
 // made. Refusals 7, 6, 5.
-#[unsafe(no_mangle)]
-pub extern "C" fn mound_run(
+pub fn mound_run(
     region: &mut [u8],
     schedule: &[u8],
     limit: u32,
@@ -97,8 +91,7 @@ pub extern "C" fn mound_run(
 }
 
 // Whether the region is readable: 0 for yes, else 7.
-#[unsafe(no_mangle)]
-pub extern "C" fn mound_check(region: &[u8]) -> u32
+pub fn mound_check(region: &[u8]) -> u32
     ensures { result ≡ check_answer region.now }
 {
     readable::check_region(region)
@@ -106,8 +99,7 @@ pub extern "C" fn mound_check(region: &[u8]) -> u32
 
 // Carries a region of the form before request 7, whose counters have one word, over to a slice for the present form: 0 if done. Refusals 7 for the
 // old region, 2 for the new slice.
-#[unsafe(no_mangle)]
-pub extern "C" fn mound_convert(old: &[u8], new: &mut [u8]) -> u32
+pub fn mound_convert(old: &[u8], new: &mut [u8]) -> u32
     ensures { Converted old.now new.old new.new result }
 {
     convert::convert(old, new)
@@ -115,8 +107,7 @@ pub extern "C" fn mound_convert(old: &[u8], new: &mut [u8]) -> u32
 
 // Whether the records of a native build are accepted, seven words for each operation (kind, thread, begin, answer, position,
 // key, tag): 0 for yes, 255 for no. Refusal 12.
-#[unsafe(no_mangle)]
-pub extern "C" fn mound_records(records: &[u8]) -> u32
+pub fn mound_records(records: &[u8]) -> u32
     ensures { result ≡ records_answer records.now }
 {
     records::check_records(records)
@@ -132,8 +123,7 @@ fn pack_cut(refusal: u32, length: usize) -> u64
 
 // Cuts a script down to lines each of which is needed for its output to show a refusal with this number, and leaves what remains of the script
 // at the start of out. Bits 0 to 31 are the refusal or 0, bits 32 to 63 how many bytes it has. Refusals 2, 16.
-#[unsafe(no_mangle)]
-pub extern "C" fn mound_cut(script: &[u8], number: u32, out: &mut [u8]) -> u64
+pub fn mound_cut(script: &[u8], number: u32, out: &mut [u8]) -> u64
     ensures { CutDone script.now number out.old out.new result }
 {
     let outcome = cut::cut_script(script, number, out);
