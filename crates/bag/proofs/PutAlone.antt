@@ -168,20 +168,20 @@ module _ (f : Frame) (t : ℕ) (t_least : 1 ≤ t) (t_most : t ≤ f.shape.threa
     record Searches (u : Thread) : Type 0 where
       item : u.item ≡ v
       cell : 1 ≤ u.own
-      leaf_word : u.search.leaf ≡ leaf
-      least : 1 ≤ u.search.lo
-      up : u.search.lo ≤ u.search.hi
-      most : u.search.hi ≤ D
-      room : Room (ancestor leaf u.search.hi)
-      above : 2 ≤ u.search.lo → NoRoom (ancestor leaf (u.search.lo - 1))
+      leaf_word : u.search_state.leaf ≡ leaf
+      least : 1 ≤ u.search_state.lo
+      up : u.search_state.lo ≤ u.search_state.hi
+      most : u.search_state.hi ≤ D
+      room : Room (ancestor leaf u.search_state.hi)
+      above : 2 ≤ u.search_state.lo → NoRoom (ancestor leaf (u.search_state.lo - 1))
 
     -- it is done: on to I5
-    found : (spent : ℕ) (u : Thread) → Searches u → u.search.hi ≤ u.search.lo → spent + 3 ≤ end → GoesTo spent (search_on u)
+    found : (spent : ℕ) (u : Thread) → Searches u → u.search_state.hi ≤ u.search_state.lo → spent + 3 ≤ end → GoesTo spent (search_on u)
     unfolding search_on on_to pick with_node at_place
     found spent u x done few =
         record {
           thread = w;
-          goes = rw (le-ltb lo hi done, is_between 1 hi (level u.search.leaf) some (omega (arith, ap level x.leaf_word, has))) refl;
+          goes = rw (le-ltb lo hi done, is_between 1 hi (level u.search_state.leaf) some (omega (arith, ap level x.leaf_word, has))) refl;
           on =
               target_ends spent w (record { place = refl; item = x.item; cell = x.cell })
               (omega (arith, same, ancestor_least leaf hi few_nodes some has, pow_pos (hi - 1)))
@@ -191,10 +191,10 @@ module _ (f : Frame) (t : ℕ) (t_least : 1 ≤ t) (t_most : t ≤ f.shape.threa
         }
       where
         lo : ℕ
-        lo = u.search.lo
+        lo = u.search_state.lo
 
         hi : ℕ
-        hi = u.search.hi
+        hi = u.search_state.hi
 
         some : 1 ≤ hi
         some = omega (arith, x.least, x.up)
@@ -203,13 +203,13 @@ module _ (f : Frame) (t : ℕ) (t_least : 1 ≤ t) (t_most : t ≤ f.shape.threa
         has = omega (arith, leaf_level, x.most)
 
         w : Thread
-        w = at_place (with_node u (ancestor u.search.leaf hi)) ReadTarget
+        w = at_place (with_node u (ancestor u.search_state.leaf hi)) ReadTarget
 
-        same : ancestor u.search.leaf hi ≡ ancestor leaf hi
+        same : ancestor u.search_state.leaf hi ≡ ancestor leaf hi
         same = ap (λ y. ancestor y hi) x.leaf_word
 
         -- only the root has level 1
-        deep : 2 ≤ ancestor u.search.leaf hi → 2 ≤ hi
+        deep : 2 ≤ ancestor u.search_state.leaf hi → 2 ≤ hi
         deep inner = go (dec_lt 1 hi)
           where
             go : Dec (1 < hi) → 2 ≤ hi
@@ -218,24 +218,24 @@ module _ (f : Frame) (t : ℕ) (t_least : 1 ≤ t) (t_most : t ≤ f.shape.threa
                 let e : hi ≡ 1 = omega (arith, some) in
                 absurd (omega (arith, same, ancestor_most leaf hi few_nodes some has, ap (λ j. 2 ^ j) e, inner))
 
-        parent : 2 ≤ ancestor u.search.leaf hi → ancestor u.search.leaf hi / 2 ≡ ancestor leaf (lo - 1)
+        parent : 2 ≤ ancestor u.search_state.leaf hi → ancestor u.search_state.leaf hi / 2 ≡ ancestor leaf (lo - 1)
         parent inner =
             let e : hi ≡ lo - 1 + 1 = omega (arith, x.up, deep inner) in
             ap (λ y. y / 2) (same ∙ ap (ancestor leaf) e) ∙ ancestor_parent leaf (lo - 1) (omega (arith, has, e))
 
     -- I3, with the search known to go on once the levels are halved
-    module _ (k : ℕ) (goes : (spent : ℕ) (u : Thread) → Searches u → u.search.hi < u.search.lo + 2 ^ k → spent + k + 3 ≤ end
+    module _ (k : ℕ) (goes : (spent : ℕ) (u : Thread) → Searches u → u.search_state.hi < u.search_state.lo + 2 ^ k → spent + k + 3 ≤ end
         → GoesTo spent (search_on u)) where
-      ancestor_ends : (spent : ℕ) (u : Thread) → u.place ≡ ReadAncestor → Searches u → u.search.lo < u.search.hi
-          → u.search.hi < u.search.lo + 2 ^ suc k → spent + k + 4 ≤ end → From spent u
+      ancestor_ends : (spent : ℕ) (u : Thread) → u.place ≡ ReadAncestor → Searches u → u.search_state.lo < u.search_state.hi
+          → u.search_state.hi < u.search_state.lo + 2 ^ suc k → spent + k + 4 ≤ end → From spent u
       unfolding between is_put_place read_ancestor after_ancestor_read has_middle middle_level pick with_permission with_first with_copies with_search
       ancestor_ends spent u place x more near few = go (item_le v (val m (ancestor leaf mid))) refl
         where
           lo : ℕ
-          lo = u.search.lo
+          lo = u.search_state.lo
 
           hi : ℕ
-          hi = u.search.hi
+          hi = u.search_state.hi
 
           mid : ℕ
           mid = (lo + hi) / 2
@@ -243,14 +243,14 @@ module _ (f : Frame) (t : ℕ) (t_least : 1 ≤ t) (t_most : t ≤ f.shape.threa
           -- the record with the levels between which the search goes on
           after : ℕ → ℕ → ℕ → Thread
           after n lo hi =
-              with_first (with_search (with_permission u n) (searching u.search.leaf u.search.tries lo hi))
-              (read_node m (ancestor u.search.leaf mid))
+              with_first (with_search (with_permission u n) (searching u.search_state.leaf u.search_state.tries lo hi))
+              (read_node m (ancestor u.search_state.leaf mid))
 
-          has_middle_lem : between 1 mid (level u.search.leaf) ≡ true
+          has_middle_lem : between 1 mid (level u.search_state.leaf) ≡ true
           has_middle_lem =
-              is_between 1 mid (level u.search.leaf) (omega (arith, x.least)) (omega (arith, ap level x.leaf_word, leaf_level, x.most))
+              is_between 1 mid (level u.search_state.leaf) (omega (arith, x.least)) (omega (arith, ap level x.leaf_word, leaf_level, x.most))
 
-          test : (q : Bool) → item_le v (val m (ancestor leaf mid)) ≡ q → item_le u.item (val m (ancestor u.search.leaf mid)) ≡ q
+          test : (q : Bool) → item_le v (val m (ancestor leaf mid)) ≡ q → item_le u.item (val m (ancestor u.search_state.leaf mid)) ≡ q
           test q e = (λ i. item_le (x.item i) (val m (ancestor (x.leaf_word i) mid))) ∙ e
 
           go : (q : Bool) → item_le v (val m (ancestor leaf mid)) ≡ q → From spent u
@@ -292,16 +292,16 @@ module _ (f : Frame) (t : ℕ) (t_least : 1 ≤ t) (t_most : t ≤ f.shape.threa
               (λ may c. at_put s m (with_permission u n) c place refl may ∙ rw (lt-ltb lo hi more, has_middle_lem, test false e) g.goes)
               g.on
 
-      search_more : (spent : ℕ) (u : Thread) → Searches u → u.search.hi < u.search.lo + 2 ^ suc k → spent + k + 4 ≤ end
+      search_more : (spent : ℕ) (u : Thread) → Searches u → u.search_state.hi < u.search_state.lo + 2 ^ suc k → spent + k + 4 ≤ end
           → GoesTo spent (search_on u)
       unfolding search_on on_to pick at_place
-      search_more spent u x near few = go (dec_lt u.search.lo u.search.hi)
+      search_more spent u x near few = go (dec_lt u.search_state.lo u.search_state.hi)
         where
-          go : Dec (u.search.lo < u.search.hi) → GoesTo spent (search_on u)
+          go : Dec (u.search_state.lo < u.search_state.hi) → GoesTo spent (search_on u)
           go (yes h) =
               record {
                 thread = at_place u ReadAncestor;
-                goes = rw (lt-ltb u.search.lo u.search.hi h) refl;
+                goes = rw (lt-ltb u.search_state.lo u.search_state.hi h) refl;
                 on =
                     ancestor_ends spent (at_place u ReadAncestor) refl
                     (record {
@@ -319,7 +319,7 @@ module _ (f : Frame) (t : ℕ) (t_least : 1 ≤ t) (t_most : t ≤ f.shape.threa
           go (no h) = found spent u x (omega arith) (omega arith)
 
     -- by the halvings left
-    search_goes : (k spent : ℕ) (u : Thread) → Searches u → u.search.hi < u.search.lo + 2 ^ k → spent + k + 3 ≤ end
+    search_goes : (k spent : ℕ) (u : Thread) → Searches u → u.search_state.hi < u.search_state.lo + 2 ^ k → spent + k + 3 ≤ end
         → GoesTo spent (search_on u)
     search_goes zero spent u x near few = found spent u x (omega arith) (omega arith)
     search_goes (suc k) spent u x near few = search_more k (search_goes k) spent u x near (omega arith)
@@ -331,7 +331,7 @@ module _ (f : Frame) (t : ℕ) (t_least : 1 ≤ t) (t_most : t ≤ f.shape.threa
 
   -- I1: the leaf word stays
   after_depth : Thread → Thread
-  after_depth u = at_place (with_search (with_depth u m.depth) (searching u.search.leaf 0 u.search.lo u.search.hi)) ReadLeaf
+  after_depth u = at_place (with_search (with_depth u m.depth) (searching u.search_state.leaf 0 u.search_state.lo u.search_state.hi)) ReadLeaf
 
   depth_ends : (spent : ℕ) (u : Thread) → u.place ≡ ReadDepth → ((n : ℕ) → From (spent + 1) (after_depth (with_permission u n)))
       → spent + 1 ≤ end → From spent u
@@ -356,7 +356,7 @@ module _ (f : Frame) (t : ℕ) (t_least : 1 ≤ t) (t_most : t ≤ f.shape.threa
     leaf_fits : Room leaf → spent + 8 ≤ end → GoesTo (spent + 1) (after_leaf_read s u leaf (read_node m leaf))
     unfolding after_leaf_read pick with_first with_copies with_search
     leaf_fits room few =
-        let w = with_first (with_search u (searching leaf u.search.tries 1 u.depth)) (read_node m leaf) in
+        let w = with_first (with_search u (searching leaf u.search_state.tries 1 u.depth)) (read_node m leaf) in
         let itself : leaf ≡ ancestor leaf u.depth = ancestor_itself leaf u.depth D (sym (leaf_level leaf at_depth)) (omega arith) in
         goes_as (rw (ap (λ x. item_le x (val m leaf)) h.item ∙ room) refl)
         (search_goes leaf at_depth 4 (spent + 1) w
@@ -374,11 +374,11 @@ module _ (f : Frame) (t : ℕ) (t_least : 1 ≤ t) (t_most : t ≤ f.shape.threa
 
     -- it has none: the next leaf is tried, at once or by way of I1
     module _ (k : ℕ) (reach : Reaches k (next_leaf D leaf)) (again : EndsWithin k) where
-      reads_next : (w : Thread) → w.depth ≡ D → w.search.leaf ≡ next_leaf D leaf → (c : ℕ) → Reaches k (leaf_to_read s w c)
+      reads_next : (w : Thread) → w.depth ≡ D → w.search_state.leaf ≡ next_leaf D leaf → (c : ℕ) → Reaches k (leaf_to_read s w c)
       reads_next w ed el c =
-          let next : LeafOf D w.search.leaf = subst (LeafOf D) (sym el) (next_leaf_lem D r.depth_least leaf at_depth) in
+          let next : LeafOf D w.search_state.leaf = subst (LeafOf D) (sym el) (next_leaf_lem D r.depth_least leaf at_depth) in
           subst (Reaches k)
-          (sym (tried_leaf s w (omega (arith, r.depth_least)) ed (subst (λ d. LeafOf d w.search.leaf) (sym ed) next) c ∙ el)) reach
+          (sym (tried_leaf s w (omega (arith, r.depth_least)) ed (subst (λ d. LeafOf d w.search_state.leaf) (sym ed) next) c ∙ el)) reach
 
       next_word : leaf_after_failed_try s u leaf ≡ next_leaf D leaf
       unfolding leaf_after_failed_try pick
@@ -387,7 +387,7 @@ module _ (f : Frame) (t : ℕ) (t_least : 1 ≤ t) (t_most : t ≤ f.shape.threa
       after : Place → Thread
       after p =
           at_place
-          (with_first (with_search u (searching (leaf_after_failed_try s u leaf) (next_tries s u) u.search.lo u.search.hi)) (read_node m leaf))
+          (with_first (with_search u (searching (leaf_after_failed_try s u leaf) (next_tries s u) u.search_state.lo u.search_state.hi)) (read_node m leaf))
           p
 
       next_tried : NoRoom leaf → spent + 2 * suc k + 8 ≤ end → GoesTo (spent + 1) (after_leaf_read s u leaf (read_node m leaf))

@@ -175,7 +175,7 @@ module _ (f : Frame) (all : ℕ) (b : List ℕ) (l : Ledger) (g : Region f all b
 
   -- A beginning of thread u's operation, with the leaf word that an idle thread has.
   begun_remembers : (b' : List ℕ) (u : ℕ) (v : Thread) → (shared_in f b').depth ≡ m.depth → thread_in f b' ≡ upd th u v → is_idle v ≡ false
-      → v.search.leaf ≡ (th u).search.leaf → is_idle (th u) ≡ true → (t : ℕ) (q : Bool) → RemembersIn f b t q
+      → v.search_state.leaf ≡ (th u).search_state.leaf → is_idle (th u) ≡ true → (t : ℕ) (q : Bool) → RemembersIn f b t q
       → RemembersIn f b' t (pick (eqb t u) false (q || false))
   unfolding pick
   begun_remembers b' u v same threads busy leaf idle t q h = go (ℕ_discrete t u)
@@ -186,7 +186,7 @@ module _ (f : Frame) (all : ℕ) (b : List ℕ) (l : Ledger) (g : Region f all b
       go : Dec (t ≡ u) → RemembersIn f b' t (pick (eqb t u) false (q || false))
       go (yes k) =
           let here : thread_in f b' t ≡ v = ap (λ y. y t) threads ∙ ap (upd th u v) k ∙ upd_same th u v in
-          let none = subst (λ y. is_idle (th y) ≡ true → (th y).search.leaf ≡ 0) k h.idle idle in
+          let none = subst (λ y. is_idle (th y) ≡ true → (th y).search_state.leaf ≡ 0) k h.idle idle in
           subst so (sym (eq-eqb t u k))
           (subst (λ y. Remembers s (shared_in f b').depth y false) (sym here) (begins_untried s (shared_in f b').depth v busy (leaf ∙ none)))
       go (no n) =
@@ -264,7 +264,7 @@ word_tells s b t q same some h place deep = go q refl
     r = subst (λ x. Remembers x (shared_in (frame_in b) b).depth (thread_on b t) q) same h
 
     leaf : ℕ
-    leaf = (thread_on b t).search.leaf
+    leaf = (thread_on b t).search_state.leaf
 
     put : is_put_place (thread_on b t).place ≡ true
     put = ap is_put_place place

@@ -39,4 +39,4 @@ WordTells s b t tried =
 
 -- a thread that is idle has leaf word 0, and so has a put when it begins
 abbrev pub NoLeafIdle : List ℕ → Type 0
-NoLeafIdle b = (t : ℕ) → is_idle (thread_on b t) ≡ true → (thread_on b t).search.leaf ≡ 0
+NoLeafIdle b = (t : ℕ) → is_idle (thread_on b t) ≡ true → (thread_on b t).search_state.leaf ≡ 0

@@ -72,7 +72,7 @@ module _ (s : Shape) (t : Thread) (some : 1 ≤ t.depth) where
   unfolding leaf_to_read has_tried_deepest
   read_leaf_lem choice =
       pick_good (LeafOf t.depth) (has_tried_deepest s t)
-      (λ e. tested_leaf t.depth some t.search.leaf (and_right (eqb t.depth s.depth) _ e))
+      (λ e. tested_leaf t.depth some t.search_state.leaf (and_right (eqb t.depth s.depth) _ e))
       (λ e. chosen_leaf t.depth some choice)
 
   pub left_leaf : (leaf : ℕ) → LeafOf t.depth leaf → LeafOf t.depth (leaf_after_failed_try s t leaf)
@@ -81,11 +81,11 @@ module _ (s : Shape) (t : Thread) (some : 1 ≤ t.depth) where
       pick_good (LeafOf t.depth) (eqb t.depth s.depth) (λ e. next_leaf_lem t.depth some leaf h) (λ e. h)
 
 -- with d at D and a leaf of level D in the leaf word, that is the leaf to read
-pub tried_leaf : (s : Shape) (t : Thread) → 1 ≤ t.depth → t.depth ≡ s.depth → LeafOf t.depth t.search.leaf → (choice : ℕ)
-    → leaf_to_read s t choice ≡ t.search.leaf
+pub tried_leaf : (s : Shape) (t : Thread) → 1 ≤ t.depth → t.depth ≡ s.depth → LeafOf t.depth t.search_state.leaf → (choice : ℕ)
+    → leaf_to_read s t choice ≡ t.search_state.leaf
 unfolding leaf_to_read has_tried_deepest pick
 tried_leaf s t some deepest h choice =
-    rw (eq-eqb t.depth s.depth deepest, leaf_tests t.depth some t.search.leaf h) refl
+    rw (eq-eqb t.depth s.depth deepest, leaf_tests t.depth some t.search_state.leaf h) refl
 
 -- I8: the node and its parent are as in their copies.
 module _ (m : Shared) (t : Thread) (e : node_and_parent_same m t ≡ true) where

@@ -37,31 +37,31 @@ use Rattle.insert.proofs.Laws.{LeafOf, chosen_itself, leaf_tests, next_chosen, r
 
 -- I1, and the search.
 pub depth_read : (f : Frame) (b : List ℕ) (t t₁ t₂ : Thread) (d : ℕ) (r : Plan) → d ≡ word b f.depth → t₁ ≡ with_depth t d
-    → t₂ ≡ with_search t₁ (searching t.search.leaf 0 t.search.lo t.search.hi) → r ≡ on_to t₂ ReadLeaf
+    → t₂ ≡ with_search t₁ (searching t.search_state.leaf 0 t.search_state.lo t.search_state.hi) → r ≡ on_to t₂ ReadLeaf
     → r ≡ read_depth (shared_in f b) t
 unfolding read_depth shared_in
 depth_read f b t t₁ t₂ d r ed e₁ e₂ e = cc
 
 module _ (t : Thread) (r : Plan) where
-  pub searches_on : t.search.lo < t.search.hi → r ≡ on_to t ReadAncestor → r ≡ search_on t
+  pub searches_on : t.search_state.lo < t.search_state.hi → r ≡ on_to t ReadAncestor → r ≡ search_on t
   unfolding search_on pick
-  searches_on h e = rw (lt-ltb t.search.lo t.search.hi h) e
+  searches_on h e = rw (lt-ltb t.search_state.lo t.search_state.hi h) e
 
-  module _ (h : t.search.hi ≤ t.search.lo) (l : ℕ) (el : l ≡ level t.search.leaf) (q : Bool)
-      (eq : q ≡ between 1 t.search.hi l) where
-    level_test : q ≡ between 1 t.search.hi (level t.search.leaf)
-    level_test = eq ∙ ap (between 1 t.search.hi) el
+  module _ (h : t.search_state.hi ≤ t.search_state.lo) (l : ℕ) (el : l ≡ level t.search_state.leaf) (q : Bool)
+      (eq : q ≡ between 1 t.search_state.hi l) where
+    level_test : q ≡ between 1 t.search_state.hi (level t.search_state.leaf)
+    level_test = eq ∙ ap (between 1 t.search_state.hi) el
 
     pub no_level : not q ≡ true → r ≡ refused t unreadable → r ≡ search_on t
     unfolding search_on pick
-    no_level n e = rw (le-ltb t.search.lo t.search.hi h, ← level_test, not-true q n) e
+    no_level n e = rw (le-ltb t.search_state.lo t.search_state.hi h, ← level_test, not-true q n) e
 
-    pub point_found : not q ≡ false → (a : ℕ) (t₁ : Thread) → a ≡ ancestor t.search.leaf t.search.hi → t₁ ≡ with_node t a
+    pub point_found : not q ≡ false → (a : ℕ) (t₁ : Thread) → a ≡ ancestor t.search_state.leaf t.search_state.hi → t₁ ≡ with_node t a
         → r ≡ on_to t₁ ReadTarget → r ≡ search_on t
     unfolding search_on pick
     point_found n a t₁ ea e₁ e =
         rw
-        (le-ltb t.search.lo t.search.hi h, ← level_test, not-false q n)
+        (le-ltb t.search_state.lo t.search_state.hi h, ← level_test, not-false q n)
         (e ∙ ap (λ x. on_to x ReadTarget) (e₁ ∙ ap (with_node t) ea))
 
 pub some_level : (x l : ℕ) (q : Bool) → q ≡ between 1 x l → not q ≡ false → 1 ≤ x
@@ -110,16 +110,16 @@ module _ (s : Shape) (t : Thread) where
   unfolding has_tried_deepest
   not_deepest n = rw (ne_eqb t.depth s.depth n) refl
 
-  pub deepest_tested : t.depth ≡ s.depth → (q : Bool) → q ≡ is_leaf_of t.depth t.search.leaf → q ≡ has_tried_deepest s t
+  pub deepest_tested : t.depth ≡ s.depth → (q : Bool) → q ≡ is_leaf_of t.depth t.search_state.leaf → q ≡ has_tried_deepest s t
   unfolding has_tried_deepest
   deepest_tested h q e = rw (eq-eqb t.depth s.depth h) e
 
   module _ (choice : ℕ) (q : Bool) (eq : q ≡ has_tried_deepest s t) where
-    pub leaf_word_counts : q ≡ true → 1 ≤ t.depth → (leaf : ℕ) → leaf ≡ leaf_of t.depth t.search.leaf → leaf ≡ leaf_to_read s t choice
+    pub leaf_word_counts : q ≡ true → 1 ≤ t.depth → (leaf : ℕ) → leaf ≡ leaf_of t.depth t.search_state.leaf → leaf ≡ leaf_to_read s t choice
     unfolding leaf_to_read has_tried_deepest pick
     leaf_word_counts h some leaf e =
-        let tested : is_leaf_of t.depth t.search.leaf ≡ true = and_right (eqb t.depth s.depth) _ (sym eq ∙ h) in
-        rw (← eq, h) (e ∙ chosen_itself t.depth some t.search.leaf (tested_leaf t.depth some t.search.leaf tested))
+        let tested : is_leaf_of t.depth t.search_state.leaf ≡ true = and_right (eqb t.depth s.depth) _ (sym eq ∙ h) in
+        rw (← eq, h) (e ∙ chosen_itself t.depth some t.search_state.leaf (tested_leaf t.depth some t.search_state.leaf tested))
 
     pub choice_counts : q ≡ false → (leaf : ℕ) → leaf ≡ leaf_of t.depth choice → leaf ≡ leaf_to_read s t choice
     unfolding leaf_to_read pick
@@ -141,11 +141,11 @@ module _ (s : Shape) (t : Thread) where
           rw (eq-eqb t.depth s.depth h) (e ∙ next_chosen t.depth some leaf (tested_leaf t.depth some leaf tested))
 
 module _ (s : Shape) (t : Thread) where
-  pub tries_more : t.search.tries < s.threshold → t.search.tries + 1 ≡ next_tries s t
+  pub tries_more : t.search_state.tries < s.threshold → t.search_state.tries + 1 ≡ next_tries s t
   unfolding next_tries
   tries_more h = omega arith
 
-  pub tries_full : s.threshold ≤ t.search.tries → s.threshold ≡ next_tries s t
+  pub tries_full : s.threshold ≤ t.search_state.tries → s.threshold ≡ next_tries s t
   unfolding next_tries
   tries_full h = omega arith
 
@@ -164,7 +164,7 @@ module _ (s : Shape) (t : Thread) where
 
   module _ (leaf : ℕ) (q : NodeCopy) (r : Plan) where
     pub try_failed : (next n : ℕ) (t₁ t₂ : Thread) (p : Place) → next ≡ leaf_after_failed_try s t leaf → n ≡ next_tries s t
-        → t₁ ≡ with_search t (searching next n t.search.lo t.search.hi) → t₂ ≡ with_first t₁ q → p ≡ failed_place s t
+        → t₁ ≡ with_search t (searching next n t.search_state.lo t.search_state.hi) → t₂ ≡ with_first t₁ q → p ≡ failed_place s t
         → r ≡ on_to t₂ p → r ≡ after_failed_try s t leaf q
     unfolding after_failed_try
     try_failed next n t₁ t₂ p el en e₁ e₂ ep e = cc
@@ -177,7 +177,7 @@ module _ (s : Shape) (t : Thread) where
       unfolding after_leaf_read pick
       leaf_below n e = rw (← leaf_test, not-true b n) e
 
-      pub search_begins : not b ≡ false → (t₁ t₂ : Thread) → t₁ ≡ with_search t (searching leaf t.search.tries 1 t.depth)
+      pub search_begins : not b ≡ false → (t₁ t₂ : Thread) → t₁ ≡ with_search t (searching leaf t.search_state.tries 1 t.depth)
           → t₂ ≡ with_first t₁ q → r ≡ search_on t₂ → r ≡ after_leaf_read s t leaf q
       unfolding after_leaf_read pick
       search_begins n t₁ t₂ e₁ e₂ e =
@@ -218,30 +218,30 @@ module _ (t : Thread) (middle : ℕ) (q : NodeCopy) (r : Plan) (v : Item) (ev : 
   ancestor_test : b ≡ item_le t.item (value_of q)
   ancestor_test = eb ∙ ap (item_le t.item) ev
 
-  pub hi_moves : b ≡ true → t₁ ≡ with_search t (searching t.search.leaf t.search.tries t.search.lo middle)
+  pub hi_moves : b ≡ true → t₁ ≡ with_search t (searching t.search_state.leaf t.search_state.tries t.search_state.lo middle)
       → r ≡ after_ancestor_read t middle q
   unfolding after_ancestor_read pick
   hi_moves g e₁ = rw (← ancestor_test, g) (e ∙ ap search_on (e₂ ∙ ap (λ x. with_first x q) e₁))
 
-  pub lo_moves : b ≡ false → t₁ ≡ with_search t (searching t.search.leaf t.search.tries (middle + 1) t.search.hi)
+  pub lo_moves : b ≡ false → t₁ ≡ with_search t (searching t.search_state.leaf t.search_state.tries (middle + 1) t.search_state.hi)
       → r ≡ after_ancestor_read t middle q
   unfolding after_ancestor_read pick
   lo_moves g e₁ = rw (← ancestor_test, g) (e ∙ ap search_on (e₂ ∙ ap (λ x. with_first x q) e₁))
 
-pub middle_halves : (t : Thread) → (t.search.lo + t.search.hi) / 2 ≡ middle_level t
+pub middle_halves : (t : Thread) → (t.search_state.lo + t.search_state.hi) / 2 ≡ middle_level t
 unfolding middle_level
 middle_halves t = refl
 
 module _ (t : Thread) where
-  pub search_ended : t.search.hi ≤ t.search.lo → false ≡ has_middle t
+  pub search_ended : t.search_state.hi ≤ t.search_state.lo → false ≡ has_middle t
   unfolding has_middle
-  search_ended h = rw (le-ltb t.search.lo t.search.hi h) refl
+  search_ended h = rw (le-ltb t.search_state.lo t.search_state.hi h) refl
 
-  pub middle_tested : t.search.lo < t.search.hi → (k l : ℕ) (q : Bool) → k ≡ middle_level t → l ≡ level t.search.leaf
+  pub middle_tested : t.search_state.lo < t.search_state.hi → (k l : ℕ) (q : Bool) → k ≡ middle_level t → l ≡ level t.search_state.leaf
       → q ≡ between 1 k l → q ≡ has_middle t
   unfolding has_middle
   middle_tested h k l q ek el eq =
-      rw (lt-ltb t.search.lo t.search.hi h) (eq ∙ (λ i. between 1 (ek i) (el i)))
+      rw (lt-ltb t.search_state.lo t.search_state.hi h) (eq ∙ (λ i. between 1 (ek i) (el i)))
 
 module _ (t : Thread) (h : Bool) (eh : h ≡ has_middle t) where
   pub no_middle : (m : Shared) (r : Plan) → not h ≡ true → r ≡ refused t unreadable → r ≡ read_ancestor m t
@@ -249,20 +249,20 @@ module _ (t : Thread) (h : Bool) (eh : h ≡ has_middle t) where
   no_middle m r n e = rw (← eh, not-true h n) e
 
   module _ (n : not h ≡ false) (k : ℕ) (ek : k ≡ middle_level t) where
-    middle_between : between 1 k (level t.search.leaf) ≡ true
+    middle_between : between 1 k (level t.search_state.leaf) ≡ true
     unfolding has_middle
     middle_between =
-        ap (λ x. between 1 x (level t.search.leaf)) ek
-        ∙ and_right (ltb t.search.lo t.search.hi) _ (sym eh ∙ not-false h n)
+        ap (λ x. between 1 x (level t.search_state.leaf)) ek
+        ∙ and_right (ltb t.search_state.lo t.search_state.hi) _ (sym eh ∙ not-false h n)
 
     pub middle_some : 1 ≤ k
-    middle_some = between_least 1 k (level t.search.leaf) middle_between
+    middle_some = between_least 1 k (level t.search_state.leaf) middle_between
 
     pub middle_most : k ≤ 32
     middle_most =
-        omega (arith, between_most 1 k (level t.search.leaf) middle_between, level_most t.search.leaf)
+        omega (arith, between_most 1 k (level t.search_state.leaf) middle_between, level_most t.search_state.leaf)
 
-    pub middle_read : (m : Shared) (r : Plan) (a : ℕ) (q : NodeCopy) → a ≡ ancestor t.search.leaf k → q ≡ read_node m a
+    pub middle_read : (m : Shared) (r : Plan) (a : ℕ) (q : NodeCopy) → a ≡ ancestor t.search_state.leaf k → q ≡ read_node m a
         → r ≡ after_ancestor_read t k q → r ≡ read_ancestor m t
     unfolding read_ancestor pick
     middle_read m r a q ea eq e =

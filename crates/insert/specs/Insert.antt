@@ -26,18 +26,18 @@ searching leaf tries lo hi = record { leaf = leaf; tries = tries; lo = lo; hi = 
 -- I1 "READ depth into d, tries 0; to I2." (line 15)
 unfoldable pub read_depth : Shared → Thread → Plan
 read_depth m t =
-    on_to (with_search (with_depth t m.depth) (searching t.search.leaf 0 t.search.lo t.search.hi)) ReadLeaf
+    on_to (with_search (with_depth t m.depth) (searching t.search_state.leaf 0 t.search_state.lo t.search_state.hi)) ReadLeaf
 
 -- "Search: while lo < hi, I3 .. Then node = ancestor at hi; to I5." t has its new lo and hi; a level that the leaf does not have is
 -- refused 7 (line 18)
 unfoldable pub search_on : Thread → Plan
 search_on t =
     pick
-    (ltb t.search.lo t.search.hi)
+    (ltb t.search_state.lo t.search_state.hi)
     (on_to t ReadAncestor)
     (pick
-    (between 1 t.search.hi (level t.search.leaf))
-    (on_to (with_node t (ancestor t.search.leaf t.search.hi)) ReadTarget)
+    (between 1 t.search_state.hi (level t.search_state.leaf))
+    (on_to (with_node t (ancestor t.search_state.leaf t.search_state.hi)) ReadTarget)
     (refused t unreadable))
 
 -- "leaf = 2^(d−1) + (choice mod 2^(d−1))" (lines 17 and 20)
@@ -51,12 +51,12 @@ is_leaf_of d leaf = between (2 ^ (d - 1)) leaf (2 ^ d - 1)
 -- "The leaf word already tells whether there was such a try" (request 8), one with d at D: it then is a leaf of level D
 unfoldable pub has_tried_deepest : Shape → Thread → Bool
 unfolding is_leaf_of
-has_tried_deepest s t = eqb t.depth s.depth && is_leaf_of t.depth t.search.leaf
+has_tried_deepest s t = eqb t.depth s.depth && is_leaf_of t.depth t.search_state.leaf
 
 -- "the choice counts only at the first try since the put began at which d was D" (request 8); with d below D it always counts
 unfoldable pub leaf_to_read : Shape → Thread → ℕ → ℕ
 unfolding leaf_of has_tried_deepest
-leaf_to_read s t choice = pick (has_tried_deepest s t) t.search.leaf (leaf_of t.depth choice)
+leaf_to_read s t choice = pick (has_tried_deepest s t) t.search_state.leaf (leaf_of t.depth choice)
 
 -- "the next leaf (after the last, the first)" of level d
 unfoldable pub next_leaf : ℕ → ℕ → ℕ
@@ -69,7 +69,7 @@ leaf_after_failed_try s t leaf = pick (eqb t.depth s.depth) (next_leaf t.depth l
 
 -- "tries + 1", which at I2 is at most H
 unfoldable pub next_tries : Shape → Thread → ℕ
-next_tries s t = min (t.search.tries + 1) s.threshold
+next_tries s t = min (t.search_state.tries + 1) s.threshold
 
 -- "Else tries + 1; at H go to I4 if d < D, else I1; below H stay." (lines 16 and 19)
 unfoldable pub failed_place : Shape → Thread → Place
@@ -80,7 +80,7 @@ unfoldable pub after_failed_try : Shape → Thread → ℕ → NodeCopy → Plan
 unfolding leaf_after_failed_try next_tries failed_place
 after_failed_try s t leaf q =
     on_to
-    (with_first (with_search t (searching (leaf_after_failed_try s t leaf) (next_tries s t) t.search.lo t.search.hi)) q)
+    (with_first (with_search t (searching (leaf_after_failed_try s t leaf) (next_tries s t) t.search_state.lo t.search_state.hi)) q)
     (failed_place s t)
 
 -- "If val ≥ v: lo 1, hi d, search."
@@ -89,7 +89,7 @@ unfolding search_on after_failed_try
 after_leaf_read s t leaf q =
     pick
     (item_le t.item (value_of q))
-    (search_on (with_first (with_search t (searching leaf t.search.tries 1 t.depth)) q))
+    (search_on (with_first (with_search t (searching leaf t.search_state.tries 1 t.depth)) q))
     (after_failed_try s t leaf q)
 
 -- I2 (lines 16 to 20); d outside 1..D is refused 7
@@ -110,18 +110,18 @@ after_ancestor_read t middle q =
     (with_search t
     (pick
     (item_le t.item (value_of q))
-    (searching t.search.leaf t.search.tries t.search.lo middle)
-    (searching t.search.leaf t.search.tries (middle + 1) t.search.hi)))
+    (searching t.search_state.leaf t.search_state.tries t.search_state.lo middle)
+    (searching t.search_state.leaf t.search_state.tries (middle + 1) t.search_state.hi)))
     q)
 
 -- "level floor((lo+hi)/2)"
 unfoldable pub middle_level : Thread → ℕ
-middle_level t = (t.search.lo + t.search.hi) / 2
+middle_level t = (t.search_state.lo + t.search_state.hi) / 2
 
 -- lo is below hi, and the level halfway is one that the leaf has, 1 to its own level; leaf 0 has none
 unfoldable pub has_middle : Thread → Bool
 unfolding middle_level
-has_middle t = ltb t.search.lo t.search.hi && between 1 (middle_level t) (level t.search.leaf)
+has_middle t = ltb t.search_state.lo t.search_state.hi && between 1 (middle_level t) (level t.search_state.leaf)
 
 -- I3 "READs the leaf's ancestor at level floor((lo+hi)/2)" (line 18); lo not below hi, no leaf, or no such level is refused 7
 unfoldable pub read_ancestor : Shared → Thread → Plan
@@ -129,7 +129,7 @@ unfolding middle_level has_middle after_ancestor_read
 read_ancestor m t =
     pick
     (has_middle t)
-    (after_ancestor_read t (middle_level t) (read_node m (ancestor t.search.leaf (middle_level t))))
+    (after_ancestor_read t (middle_level t) (read_node m (ancestor t.search_state.leaf (middle_level t))))
     (refused t unreadable)
 
 -- I4 "CAS depth from d to d + 1; to I1 either way." (line 19); refused 7 where d or d + 1 is no level

@@ -13,7 +13,7 @@ pub fn read_depth(f: Frame, b: &[u8], t: Thread) -> Plan
     ensures { result ≡ read_depth (shared_in f b.now) t }
 {
     let depth = f.load_depth(b);
-    let old = t.search;
+    let old = t.search_state;
     let search = Search { tries: 0, ..old };
     access::on_to(t.with_depth(depth).with_search(search), Place::ReadLeaf)
 }
@@ -22,9 +22,9 @@ pub fn read_depth(f: Frame, b: &[u8], t: Thread) -> Plan
 fn search_on(t: Thread) -> Plan
     ensures { result ≡ search_on t }
 {
-    let leaf = t.search.leaf;
-    let hi = t.search.hi;
-    if t.search.lo < hi {
+    let leaf = t.search_state.leaf;
+    let hi = t.search_state.hi;
+    if t.search_state.lo < hi {
         return access::on_to(t, Place::ReadAncestor);
     }
     if !region::is_between(1, hi, region::level_of(leaf)) {
@@ -61,7 +61,7 @@ fn has_tried_deepest(shape: Shape, t: Thread) -> bool
     if t.depth != shape.depth {
         return false;
     }
-    is_leaf_of(t.depth, t.search.leaf)
+    is_leaf_of(t.depth, t.search_state.leaf)
 }
 
 // The leaf to read: the one in the leaf word, or the one that the choice names. A leaf's own number names that leaf.
@@ -70,7 +70,7 @@ fn leaf_to_read(shape: Shape, t: Thread, choice: u32) -> u32
     ensures { result ≡ leaf_to_read shape t choice }
 {
     if has_tried_deepest(shape, t) {
-        return leaf_of(t.depth, t.search.leaf);
+        return leaf_of(t.depth, t.search_state.leaf);
     }
     leaf_of(t.depth, choice)
 }
@@ -90,7 +90,7 @@ fn leaf_after_failed_try(shape: Shape, t: Thread, leaf: u32) -> u32
 fn next_tries(shape: Shape, t: Thread) -> u32
     ensures { result ≡ next_tries shape t }
 {
-    let tries = t.search.tries;
+    let tries = t.search_state.tries;
     if tries < shape.threshold {
         return tries + 1;
     }
@@ -115,7 +115,7 @@ fn after_failed_try(shape: Shape, t: Thread, leaf: u32, q: NodeCopy) -> Plan
     requires { (1 ≤ t.depth) × (t.depth ≤ 12) × (is_leaf_of t.depth leaf ≡ true) }
     ensures { result ≡ after_failed_try shape t leaf q }
 {
-    let old = t.search;
+    let old = t.search_state;
     let search = Search {
         leaf: leaf_after_failed_try(shape, t, leaf),
         tries: next_tries(shape, t),
@@ -135,7 +135,7 @@ fn after_leaf_read(shape: Shape, t: Thread, leaf: u32, q: NodeCopy) -> Plan
     }
     let search = Search {
         leaf,
-        tries: t.search.tries,
+        tries: t.search_state.tries,
         lo: 1,
         hi: t.depth,
     };
@@ -160,7 +160,7 @@ fn after_ancestor_read(t: Thread, middle: u32, q: NodeCopy) -> Plan
     requires { middle ≤ 32 }
     ensures { result ≡ after_ancestor_read t middle q }
 {
-    let old = t.search;
+    let old = t.search_state;
     if access::item_le(t.item, access::value_of(q)) {
         let search = Search { hi: middle, ..old };
         return search_on(t.with_search(search).with_first(q));
@@ -176,8 +176,8 @@ fn after_ancestor_read(t: Thread, middle: u32, q: NodeCopy) -> Plan
 fn middle_level(t: Thread) -> u32
     ensures { result ≡ middle_level t }
 {
-    let lo = t.search.lo as usize;
-    let hi = t.search.hi as usize;
+    let lo = t.search_state.lo as usize;
+    let hi = t.search_state.hi as usize;
     let middle = (lo + hi) / 2;
     middle as u32
 }
@@ -186,10 +186,10 @@ fn middle_level(t: Thread) -> u32
 fn has_middle(t: Thread) -> bool
     ensures { result ≡ has_middle t }
 {
-    if t.search.hi <= t.search.lo {
+    if t.search_state.hi <= t.search_state.lo {
         return false;
     }
-    region::is_between(1, middle_level(t), region::level_of(t.search.leaf))
+    region::is_between(1, middle_level(t), region::level_of(t.search_state.leaf))
 }
 
 // I3
@@ -201,7 +201,7 @@ pub fn read_ancestor(f: Frame, b: &[u8], t: Thread) -> Plan
         return access::refused(t, UNREADABLE);
     }
     let middle = middle_level(t);
-    let node = region::ancestor_at(t.search.leaf, middle);
+    let node = region::ancestor_at(t.search_state.leaf, middle);
     after_ancestor_read(t, middle, access::read_node(f, b, node))
 }
 

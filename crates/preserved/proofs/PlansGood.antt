@@ -73,7 +73,7 @@ pub record PlanGood (width : ℕ) (s : Shape) (p : Plan) : Type 0 where
   pub thread : ThreadGood width s p.thread
 
 -- what a place requires depends on tries and node alone
-place_same : (s : Shape) (t u : Thread) (p : Place) → t.search.tries ≡ u.search.tries → t.node ≡ u.node → PlaceGood s t p
+place_same : (s : Shape) (t u : Thread) (p : Place) → t.search_state.tries ≡ u.search_state.tries → t.node ≡ u.node → PlaceGood s t p
     → PlaceGood s u p
 place_same s t u AtRest et en h = tt
 place_same s t u ReadDepth et en h = tt
@@ -204,7 +204,7 @@ module _ {width : ℕ} (s : Shape) (r : InRange s) (m : Shared) (sm : SharedGood
     read_depth_good =
         let d = fields_depth s t g m.depth sm.depth_most in
         on_to_good s _
-        (fields_search s (with_depth t m.depth) d (searching t.search.leaf 0 t.search.lo t.search.hi)
+        (fields_search s (with_depth t m.depth) d (searching t.search_state.leaf 0 t.search_state.lo t.search_state.hi)
         g.leaf (omega arith) g.lo g.hi)
         ReadLeaf
         (omega (arith, r.threshold_least))
@@ -215,10 +215,10 @@ module _ {width : ℕ} (s : Shape) (r : InRange s) (m : Shared) (sm : SharedGood
     ancestor_few n j h = omega (arith, h, div-le_self n (2 ^ (level n - j)))
 
     searched_good : (leaf lo hi : ℕ) → leaf ≤ node_count s → lo ≤ s.depth → hi ≤ s.depth → (q : NodeCopy) → CopyGood width s.cells q
-        → ThreadGood width s (with_first (with_search t (searching leaf t.search.tries lo hi)) q)
+        → ThreadGood width s (with_first (with_search t (searching leaf t.search_state.tries lo hi)) q)
     unfolding with_first with_search
     searched_good leaf lo hi hl hlo hhi q hq =
-        let x = searching leaf t.search.tries lo hi in
+        let x = searching leaf t.search_state.tries lo hi in
         let u = with_first (with_search t x) q in
         record {
           fields = fields_first s (with_search t x) (fields_search s t g x hl g.tries hlo hhi) q hq;
@@ -229,9 +229,9 @@ module _ {width : ℕ} (s : Shape) (r : InRange s) (m : Shared) (sm : SharedGood
     unfolding search_on
     search_on_good u gu =
         let f = gu.fields in
-        pick_good (PlanGood width s) (ltb u.search.lo u.search.hi) (λ h. on_to_good s u f ReadAncestor tt)
-        (λ h. pick_good (PlanGood width s) (between 1 u.search.hi (level u.search.leaf))
-        (λ k. on_to_good s _ (fields_node s u f _ (ancestor_few u.search.leaf u.search.hi f.leaf)) ReadTarget tt)
+        pick_good (PlanGood width s) (ltb u.search_state.lo u.search_state.hi) (λ h. on_to_good s u f ReadAncestor tt)
+        (λ h. pick_good (PlanGood width s) (between 1 u.search_state.hi (level u.search_state.leaf))
+        (λ k. on_to_good s _ (fields_node s u f _ (ancestor_few u.search_state.leaf u.search_state.hi f.leaf)) ReadTarget tt)
         (λ k. refused_good s u gu unreadable))
 
     -- I2
@@ -247,7 +247,7 @@ module _ {width : ℕ} (s : Shape) (r : InRange s) (m : Shared) (sm : SharedGood
       unfolding after_failed_try failed_place next_tries with_first with_search
       after_failed_try_good =
           let next = leaf_after_failed_try s t leaf in
-          let x = searching next (next_tries s t) t.search.lo t.search.hi in
+          let x = searching next (next_tries s t) t.search_state.lo t.search_state.hi in
           let u = with_first (with_search t x) q in
           on_to_good s u
           (fields_first s (with_search t x)
@@ -275,7 +275,7 @@ module _ {width : ℕ} (s : Shape) (r : InRange s) (m : Shared) (sm : SharedGood
     middle_few : has_middle t ≡ true → middle_level t + 1 ≤ s.depth
     unfolding has_middle middle_level
     middle_few h =
-        let below = ltb-true t.search.lo t.search.hi (and_left (ltb t.search.lo t.search.hi) _ h) in
+        let below = ltb-true t.search_state.lo t.search_state.hi (and_left (ltb t.search_state.lo t.search_state.hi) _ h) in
         omega (arith, below, g.hi)
 
     pub after_ancestor_read_good : (j : ℕ) → j + 1 ≤ s.depth → (q : NodeCopy) → CopyGood width s.cells q → PlanGood width s (after_ancestor_read t j q)
@@ -283,8 +283,8 @@ module _ {width : ℕ} (s : Shape) (r : InRange s) (m : Shared) (sm : SharedGood
     after_ancestor_read_good j hj q hq =
         search_on_good _
         (pick_good (λ z. ThreadGood width s (with_first (with_search t z) q)) (item_le t.item (value_of q))
-        (λ h. searched_good t.search.leaf t.search.lo j g.leaf g.lo (omega arith) q hq)
-        (λ h. searched_good t.search.leaf (j + 1) t.search.hi g.leaf hj g.hi q hq))
+        (λ h. searched_good t.search_state.leaf t.search_state.lo j g.leaf g.lo (omega arith) q hq)
+        (λ h. searched_good t.search_state.leaf (j + 1) t.search_state.hi g.leaf hj g.hi q hq))
 
     pub read_ancestor_good : PlanGood width s (read_ancestor m t)
     unfolding read_ancestor

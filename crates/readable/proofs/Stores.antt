@@ -65,10 +65,10 @@ pub record FieldsGood (w : ℕ) (s : Shape) (t : Thread) : Type 0 where
   pub item_tag : t.item.tag ≤ greatest_tag
   pub own : t.own ≤ s.cells
   pub depth : t.depth ≤ s.depth
-  pub leaf : t.search.leaf ≤ node_count s
-  pub tries : t.search.tries ≤ s.threshold
-  pub lo : t.search.lo ≤ s.depth
-  pub hi : t.search.hi ≤ s.depth
+  pub leaf : t.search_state.leaf ≤ node_count s
+  pub tries : t.search_state.tries ≤ s.threshold
+  pub lo : t.search_state.lo ≤ s.depth
+  pub hi : t.search_state.hi ≤ s.depth
   pub node : t.node ≤ node_count s
   pub after : t.after ≤ 3
   pub result_key : t.result.key < 2 ^ 32
@@ -95,7 +95,7 @@ WaitsAbove n w = w ≤ 2 ^ (level n - 1) - 1
 abbrev pub PlaceGood : Shape → Thread → Place → Type 0
 PlaceGood s t Idle = Unit
 PlaceGood s t ReadDepth = Unit
-PlaceGood s t ReadLeaf = t.search.tries < s.threshold
+PlaceGood s t ReadLeaf = t.search_state.tries < s.threshold
 PlaceGood s t ReadAncestor = Unit
 PlaceGood s t GrowDepth = Unit
 PlaceGood s t ReadTarget = Unit
@@ -164,8 +164,8 @@ number_most RemoveList = omega arith
 number_most HandOut = omega arith
 
 -- the two rules that depend on the place
-tries_rule : (s : Shape) (t : Thread) (p : Place) → t.search.tries ≤ s.threshold → PlaceGood s t p
-    → t.search.tries ≤ greatest_tries s (place_number p)
+tries_rule : (s : Shape) (t : Thread) (p : Place) → t.search_state.tries ≤ s.threshold → PlaceGood s t p
+    → t.search_state.tries ≤ greatest_tries s (place_number p)
 unfolding greatest_tries pick
 tries_rule s t Idle h g = h
 tries_rule s t ReadDepth h g = h
@@ -434,7 +434,7 @@ make_good {w} f b ew r framed m ts =
     }
 
 -- A thread's record: in range as words, in range as a record.
-place_good : (s : Shape) (t : Thread) → 1 ≤ s.threshold → (p w : ℕ) → p ≤ greatest_place → t.search.tries ≤ greatest_tries s p
+place_good : (s : Shape) (t : Thread) → 1 ≤ s.threshold → (p w : ℕ) → p ≤ greatest_place → t.search_state.tries ≤ greatest_tries s p
     → w ≤ greatest_waiting p t.node → PlaceGood s t (place_of p w)
 unfolding greatest_tries greatest_waiting between pick
 place_good s t h zero w l gt gw = tt

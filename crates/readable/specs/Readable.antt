@@ -45,7 +45,7 @@ greatest_thread s =
       item = greatest_item;  -- any key, "tags in range"
       own = s.cells;  -- "cell 0..C"
       depth = s.depth;  -- "d, lo and hi 0..D"
-      search =
+      search_state =
           record {
             leaf = node_count s;  -- "node or leaf 0..2^D − 1"
             tries = s.threshold;  -- "tries 0..H"

@@ -28,7 +28,7 @@ loaded a p q r s =
       item = item_of a 2;
       own = get_or a 4 0;
       depth = get_or a 5 0;
-      search = search_of a 6 7 8 9;
+      search_state = search_of a 6 7 8 9;
       node = get_or a 10 0;
       after = get_or a 12 0;
       result = item_of a 13;
@@ -162,10 +162,10 @@ stored t n w =
     ∷ t.item.tag
     ∷ t.own
     ∷ t.depth
-    ∷ t.search.leaf
-    ∷ t.search.tries
-    ∷ t.search.lo
-    ∷ t.search.hi
+    ∷ t.search_state.leaf
+    ∷ t.search_state.tries
+    ∷ t.search_state.lo
+    ∷ t.search_state.hi
     ∷ t.node
     ∷ w
     ∷ t.after

@@ -55,7 +55,7 @@ thread_of w ws =
       item = item_of ws 2;
       own = get_or ws 4 0;
       depth = get_or ws 5 0;
-      search = search_of ws 6 tries_word 8 9;
+      search_state = search_of ws 6 tries_word 8 9;
       node = get_or ws node_word 0;
       after = get_or ws 12 0;
       result = item_of ws 13;
@@ -76,10 +76,10 @@ field_words t =
     ∷ t.item.tag
     ∷ t.own
     ∷ t.depth
-    ∷ t.search.leaf
-    ∷ t.search.tries
-    ∷ t.search.lo
-    ∷ t.search.hi
+    ∷ t.search_state.leaf
+    ∷ t.search_state.tries
+    ∷ t.search_state.lo
+    ∷ t.search_state.hi
     ∷ t.node
     ∷ waiting_levels t.place
     ∷ t.after
@@ -112,7 +112,7 @@ thread_with p x i o d s n a r c =
       item = i;
       own = o;
       depth = d;
-      search = s;
+      search_state = s;
       node = n;
       after = a;
       result = r;
@@ -130,23 +130,23 @@ gone_idle t = idle_thread t.permission
 -- "any other field keeps what was last put in it": the record with another value in one field
 unfoldable pub with_permission : Thread → ℕ → Thread
 with_permission t x =
-    thread_with x t.place t.item t.own t.depth t.search t.node t.after t.result t.copies
+    thread_with x t.place t.item t.own t.depth t.search_state t.node t.after t.result t.copies
 
 unfoldable pub at_place : Thread → Place → Thread
 at_place t x =
-    thread_with t.permission x t.item t.own t.depth t.search t.node t.after t.result t.copies
+    thread_with t.permission x t.item t.own t.depth t.search_state t.node t.after t.result t.copies
 
 unfoldable pub with_item : Thread → Item → Thread
 with_item t x =
-    thread_with t.permission t.place x t.own t.depth t.search t.node t.after t.result t.copies
+    thread_with t.permission t.place x t.own t.depth t.search_state t.node t.after t.result t.copies
 
 unfoldable pub with_own : Thread → ℕ → Thread
 with_own t x =
-    thread_with t.permission t.place t.item x t.depth t.search t.node t.after t.result t.copies
+    thread_with t.permission t.place t.item x t.depth t.search_state t.node t.after t.result t.copies
 
 unfoldable pub with_depth : Thread → ℕ → Thread
 with_depth t x =
-    thread_with t.permission t.place t.item t.own x t.search t.node t.after t.result t.copies
+    thread_with t.permission t.place t.item t.own x t.search_state t.node t.after t.result t.copies
 
 unfoldable pub with_search : Thread → Search → Thread
 with_search t x =
@@ -154,19 +154,19 @@ with_search t x =
 
 unfoldable pub with_node : Thread → ℕ → Thread
 with_node t x =
-    thread_with t.permission t.place t.item t.own t.depth t.search x t.after t.result t.copies
+    thread_with t.permission t.place t.item t.own t.depth t.search_state x t.after t.result t.copies
 
 unfoldable pub with_after : Thread → ℕ → Thread
 with_after t x =
-    thread_with t.permission t.place t.item t.own t.depth t.search t.node x t.result t.copies
+    thread_with t.permission t.place t.item t.own t.depth t.search_state t.node x t.result t.copies
 
 unfoldable pub with_result : Thread → Item → Thread
 with_result t x =
-    thread_with t.permission t.place t.item t.own t.depth t.search t.node t.after x t.copies
+    thread_with t.permission t.place t.item t.own t.depth t.search_state t.node t.after x t.copies
 
 unfoldable pub with_copies : Thread → Copies → Thread
 with_copies t x =
-    thread_with t.permission t.place t.item t.own t.depth t.search t.node t.after t.result x
+    thread_with t.permission t.place t.item t.own t.depth t.search_state t.node t.after t.result x
 
 -- the record with another first, second or third node copy
 unfoldable pub with_first : Thread → NodeCopy → Thread

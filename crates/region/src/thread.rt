@@ -42,7 +42,7 @@ pub struct Thread {
     pub own: u32,
     // d of document 01: the tree's depth as last read
     pub depth: u32,
-    pub search: Search,
+    pub search_state: Search,
     // the node that a put changes or a mending mends
     pub node: u32,
     // where a mending returns to: 0 back to E1, 1 answer, 2 back to 17, 3 on to 19
@@ -67,7 +67,7 @@ pub fn load_thread_at(b: &[u8], at: usize) -> Thread
         },
         own: a[4],
         depth: a[5],
-        search: Search {
+        search_state: Search {
             leaf: a[6],
             tries: a[7],
             lo: a[8],
@@ -100,10 +100,10 @@ pub fn store_thread_at(b: &mut [u8], at: usize, t: Thread)
         t.item.tag,
         t.own,
         t.depth,
-        t.search.leaf,
-        t.search.tries,
-        t.search.lo,
-        t.search.hi,
+        t.search_state.leaf,
+        t.search_state.tries,
+        t.search_state.lo,
+        t.search_state.hi,
         t.node,
         place.waiting(),
         t.after,
@@ -128,7 +128,7 @@ impl Thread {
             item: Item { key: 0, tag: 0 },
             own: 0,
             depth: 0,
-            search: Search {
+            search_state: Search {
                 leaf: 0,
                 tries: 0,
                 lo: 0,
@@ -209,7 +209,7 @@ impl Thread {
     pub fn with_search(self, search: Search) -> Thread
         ensures { result ≡ with_search self search }
     {
-        Thread { search, ..self }
+        Thread { search_state: search, ..self }
     }
 
     pub fn with_node(self, node: u32) -> Thread

@@ -149,7 +149,7 @@ abbrev pub At : Shape → Shared → Thread → Operation → Place → Type 0
 At s m t op Idle = (op ≡ none) × HasItems m.cell t.own []
 At s m t op ReadDepth = Puts m t op
 At s m t op ReadLeaf = Puts m t op × LevelRead m t.depth
-At s m t op ReadAncestor = Puts m t op × Searching m t.search
+At s m t op ReadAncestor = Puts m t op × Searching m t.search_state
 At s m t op GrowDepth = Puts m t op × LevelRead m t.depth × (t.depth < s.depth)
 At s m t op ReadTarget = Puts m t op × InTree m t.node
 At s m t op InsertAtRoot = Puts m t op × Target m 1 t.item t.copies.first
@@ -386,7 +386,7 @@ module _ (m m' : Shared) (r : Rely m m') where
     stays s ReadLeaf h = (puts_stay h.0, level_stays t.depth h.1)
     stays s ReadAncestor h = (
       puts_stay h.0,
-      record { lo = h.1.lo; below = h.1.below; hi = h.1.hi; leaf = in_tree_stays t.search.leaf h.1.leaf },
+      record { lo = h.1.lo; below = h.1.below; hi = h.1.hi; leaf = in_tree_stays t.search_state.leaf h.1.leaf },
     )
     stays s GrowDepth h = (puts_stay h.0, level_stays t.depth h.1, h.2)
     stays s ReadTarget h = (puts_stay h.0, in_tree_stays t.node h.1)

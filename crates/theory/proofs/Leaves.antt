@@ -57,13 +57,13 @@ never_less_deep s m own t (Free c) al = omega arith
 pub record Tried (s : Shape) (depth : ℕ) (t : Thread) : Type 0 where
   pub full : depth ≡ s.depth
   pub at_full : t.depth ≡ s.depth
-  pub leaf : LeafOf s.depth t.search.leaf
+  pub leaf : LeafOf s.depth t.search_state.leaf
 
 -- the leaf word where `tried` says whether the thread's put has
 pub record Remembers (s : Shape) (depth : ℕ) (t : Thread) (tried : Bool) : Type 0 where
-  pub idle : is_idle t ≡ true → t.search.leaf ≡ 0
+  pub idle : is_idle t ≡ true → t.search_state.leaf ≡ 0
   pub has : is_put_place t.place ≡ true → tried ≡ true → Tried s depth t
-  pub has_not : is_put_place t.place ≡ true → tried ≡ false → is_leaf_of s.depth t.search.leaf ≡ false
+  pub has_not : is_put_place t.place ≡ true → tried ≡ false → is_leaf_of s.depth t.search_state.leaf ≡ false
 
 -- a leaf of a lesser level is none of level D, and so is 0
 no_leaf : (s : Shape) (leaf : ℕ) → leaf ≤ 2 ^ (s.depth - 1) - 1 → is_leaf_of s.depth leaf ≡ false
@@ -102,7 +102,7 @@ module _ (s : Shape) where
       (λ e. away_remembers refl refl)
 
   -- a put that begins
-  pub begins_untried : (depth : ℕ) (t : Thread) → is_idle t ≡ false → t.search.leaf ≡ 0 → Remembers s depth t false
+  pub begins_untried : (depth : ℕ) (t : Thread) → is_idle t ≡ false → t.search_state.leaf ≡ 0 → Remembers s depth t false
   begins_untried depth t a e =
       record {
         idle = λ i. absurd (true≢false (sym i ∙ a));
@@ -158,7 +158,7 @@ module _ (s : Shape) (m : Shared) (most : m.depth ≤ s.depth) (t : Thread) (q :
   away busy other = record { remembers = λ k. away_remembers s busy other }
 
   -- the put goes on with the leaf word as it is; I1 reads the depth again
-  keeps : {e : Effect} {u : Thread} {a : Answer} → is_put_place t.place ≡ true → is_idle u ≡ false → u.search.leaf ≡ t.search.leaf
+  keeps : {e : Effect} {u : Thread} {a : Answer} → is_put_place t.place ≡ true → is_idle u ≡ false → u.search_state.leaf ≡ t.search_state.leaf
       → (m.depth ≡ s.depth → t.depth ≡ s.depth → u.depth ≡ s.depth) → After false (record { effect = e; thread = u; answer = a })
   keeps {u = u} put busy same d =
       record {
@@ -173,27 +173,27 @@ module _ (s : Shape) (m : Shared) (most : m.depth ≤ s.depth) (t : Thread) (q :
             });
       }
 
-  goes_on : {e : Effect} {u : Thread} {a : Answer} → is_put_place t.place ≡ true → is_idle u ≡ false → u.search.leaf ≡ t.search.leaf
+  goes_on : {e : Effect} {u : Thread} {a : Answer} → is_put_place t.place ≡ true → is_idle u ≡ false → u.search_state.leaf ≡ t.search_state.leaf
       → u.depth ≡ t.depth → After false (record { effect = e; thread = u; answer = a })
   goes_on put busy same d = keeps put busy same (λ a b. d ∙ b)
 
-  search_keeps : (u : Thread) → is_put_place t.place ≡ true → u.search.leaf ≡ t.search.leaf → u.depth ≡ t.depth → After false (search_on u)
+  search_keeps : (u : Thread) → is_put_place t.place ≡ true → u.search_state.leaf ≡ t.search_state.leaf → u.depth ≡ t.depth → After false (search_on u)
   unfolding search_on on_to moved refused plan at_place with_node is_idle
   search_keeps u put same d =
-      or (ltb u.search.lo u.search.hi) (goes_on put refl same d) (or _ (goes_on put refl same d) (stops refl))
+      or (ltb u.search_state.lo u.search_state.hi) (goes_on put refl same d) (or _ (goes_on put refl same d) (stops refl))
 
   ancestor_keeps : (middle : ℕ) (qn : NodeCopy) → is_put_place t.place ≡ true → After false (after_ancestor_read t middle qn)
   unfolding after_ancestor_read with_first with_copies with_search pick
   ancestor_keeps middle qn put =
       let with : Search → Thread = λ x. with_first (with_search t x) qn in
-      let down : ℕ → ℕ → Search = searching t.search.leaf t.search.tries in
+      let down : ℕ → ℕ → Search = searching t.search_state.leaf t.search_state.tries in
       pick_good (λ x. After false (search_on (with x))) (item_le t.item (value_of qn))
-      (λ e. search_keeps (with (down t.search.lo middle)) put refl refl)
-      (λ e. search_keeps (with (down (middle + 1) t.search.hi)) put refl refl)
+      (λ e. search_keeps (with (down t.search_state.lo middle)) put refl refl)
+      (λ e. search_keeps (with (down (middle + 1) t.search_state.hi)) put refl refl)
 
   -- I2: it leaves a leaf of level d
   module _ (put : is_put_place t.place ≡ true) (least : 1 ≤ t.depth) (up_to_lem : t.depth ≤ m.depth) where
-    leaf_left : (u : Thread) → is_idle u ≡ false → u.depth ≡ t.depth → LeafOf t.depth u.search.leaf
+    leaf_left : (u : Thread) → is_idle u ≡ false → u.depth ≡ t.depth → LeafOf t.depth u.search_state.leaf
         → Remembers s m.depth u (q || eqb t.depth s.depth)
     leaf_left u busy same leaf = go (ℕ_discrete t.depth s.depth)
       where
@@ -202,7 +202,7 @@ module _ (s : Shape) (m : Shared) (most : m.depth ≤ s.depth) (t : Thread) (q :
             subst (Remembers s m.depth u) (sym (ap (λ x. q || x) (eq-eqb t.depth s.depth e) ∙ or_one q))
             (record {
               idle = λ i. absurd (true≢false (sym i ∙ busy));
-              has = λ p y. record { full = omega arith; at_full = same ∙ e; leaf = subst (λ d. LeafOf d u.search.leaf) e leaf };
+              has = λ p y. record { full = omega arith; at_full = same ∙ e; leaf = subst (λ d. LeafOf d u.search_state.leaf) e leaf };
               has_not = λ p y. absurd (true≢false y);
             })
         go (no n) =
@@ -211,7 +211,7 @@ module _ (s : Shape) (m : Shared) (most : m.depth ≤ s.depth) (t : Thread) (q :
               idle = λ i. absurd (true≢false (sym i ∙ busy));
               has = λ p y. absurd (n (h.has put y).at_full);
               has_not = λ p y.
-                  no_leaf s u.search.leaf (omega (arith, leaf.most, pow_mono {i = t.depth} {j = s.depth - 1} (omega arith)));
+                  no_leaf s u.search_state.leaf (omega (arith, leaf.most, pow_mono {i = t.depth} {j = s.depth - 1} (omega arith)));
             })
 
     record Tries (p : Plan) : Type 0 where
@@ -221,14 +221,14 @@ module _ (s : Shape) (m : Shared) (most : m.depth ≤ s.depth) (t : Thread) (q :
     no_try : {u : Thread} {n : ℕ} → Tries (record { effect = Nothing; thread = u; answer = Refused n })
     no_try = record { moves = λ k. absurd (true≢false k); remembers = λ k. absurd (true≢false k) }
 
-    one_try : {u : Thread} → is_idle u ≡ false → u.depth ≡ t.depth → LeafOf t.depth u.search.leaf
+    one_try : {u : Thread} → is_idle u ≡ false → u.depth ≡ t.depth → LeafOf t.depth u.search_state.leaf
         → Tries (record { effect = Nothing; thread = u; answer = Moved })
     one_try {u} busy same leaf = record { moves = λ k. refl; remembers = λ k. leaf_left u busy same leaf }
 
-    search_tries : (u : Thread) → u.depth ≡ t.depth → LeafOf t.depth u.search.leaf → Tries (search_on u)
+    search_tries : (u : Thread) → u.depth ≡ t.depth → LeafOf t.depth u.search_state.leaf → Tries (search_on u)
     unfolding search_on on_to moved refused plan at_place with_node is_idle
     search_tries u same leaf =
-        pick_good Tries (ltb u.search.lo u.search.hi) (λ e. one_try refl same leaf)
+        pick_good Tries (ltb u.search_state.lo u.search_state.hi) (λ e. one_try refl same leaf)
         (λ e. pick_good Tries _ (λ k. one_try refl same leaf) (λ k. no_try))
 
     fails_busy : (u : Thread) → is_idle (at_place u (failed_place s t)) ≡ false
@@ -242,10 +242,10 @@ module _ (s : Shape) (m : Shared) (most : m.depth ≤ s.depth) (t : Thread) (q :
     leaf_tries c =
         let leaf = leaf_to_read s t c in
         let at_depth = read_leaf_lem s t least c in
-        let u = with_first (with_search t (searching (leaf_after_failed_try s t leaf) (next_tries s t) t.search.lo t.search.hi)) (read_node m leaf) in
+        let u = with_first (with_search t (searching (leaf_after_failed_try s t leaf) (next_tries s t) t.search_state.lo t.search_state.hi)) (read_node m leaf) in
         pick_good Tries (is_level s t.depth)
         (λ e. pick_good Tries _
-        (λ k. search_tries (with_first (with_search t (searching leaf t.search.tries 1 t.depth)) (read_node m leaf)) refl at_depth)
+        (λ k. search_tries (with_first (with_search t (searching leaf t.search_state.tries 1 t.depth)) (read_node m leaf)) refl at_depth)
         (λ k. one_try (fails_busy u) refl (left_leaf s t least leaf at_depth)))
         (λ e. no_try)
 

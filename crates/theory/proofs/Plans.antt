@@ -206,21 +206,21 @@ module _ (s : Shape) (r : InRange s) (m : Shared) (own : ℕ → ℕ) {all : ℕ
   depth_planned h = goes_on _ ReadLeaf refl (h, (g.depth_least, omega arith))
 
   -- the search goes on, or its end names the node
-  search_planned : (u : Thread) → u.own ≡ th.own → Puts m u op → 1 ≤ u.search.lo → u.search.lo ≤ u.search.hi
-      → u.search.hi ≤ level u.search.leaf → InTree m u.search.leaf → Fits (search_on u)
+  search_planned : (u : Thread) → u.own ≡ th.own → Puts m u op → 1 ≤ u.search_state.lo → u.search_state.lo ≤ u.search_state.hi
+      → u.search_state.hi ≤ level u.search_state.leaf → InTree m u.search_state.leaf → Fits (search_on u)
   unfolding search_on with_node
   search_planned u e h l o v k =
-      pick_good Fits (ltb u.search.lo u.search.hi)
-      (λ q. goes_on u ReadAncestor e (h, record { lo = l; below = ltb-true u.search.lo u.search.hi q; hi = v; leaf = k }))
-      (λ q. pick_good Fits (between 1 u.search.hi (level u.search.leaf))
-      (λ y. goes_on (with_node u (ancestor u.search.leaf u.search.hi)) ReadTarget e (
+      pick_good Fits (ltb u.search_state.lo u.search_state.hi)
+      (λ q. goes_on u ReadAncestor e (h, record { lo = l; below = ltb-true u.search_state.lo u.search_state.hi q; hi = v; leaf = k }))
+      (λ q. pick_good Fits (between 1 u.search_state.hi (level u.search_state.leaf))
+      (λ y. goes_on (with_node u (ancestor u.search_state.leaf u.search_state.hi)) ReadTarget e (
         h,
         (
-          ancestor_some u.search.leaf u.search.hi k.0 (few_nodes u.search.leaf k.1) (omega arith),
-          omega (arith, ancestor_most u.search.leaf u.search.hi, k.1),
+          ancestor_some u.search_state.leaf u.search_state.hi k.0 (few_nodes u.search_state.leaf k.1) (omega arith),
+          omega (arith, ancestor_most u.search_state.leaf u.search_state.hi, k.1),
         ),
       ))
-      (λ y. absurd (true≢false (sym (is_between 1 u.search.hi (level u.search.leaf) (omega arith) v) ∙ y))))
+      (λ y. absurd (true≢false (sym (is_between 1 u.search_state.hi (level u.search_state.leaf) (omega arith) v) ∙ y))))
 
   -- I2
   module _ (h : Puts m th op) (l : LevelRead m th.depth) where
@@ -250,9 +250,9 @@ module _ (s : Shape) (r : InRange s) (m : Shared) (own : ℕ → ℕ) {all : ℕ
           let q = read_node m leaf in
           pick_good Fits (is_level s th.depth)
           (λ a. pick_good Fits (item_le th.item (value_of q))
-          (λ b. search_planned (with_first (with_search th (searching leaf th.search.tries 1 th.depth)) q) refl h
+          (λ b. search_planned (with_first (with_search th (searching leaf th.search_state.tries 1 th.depth)) q) refl h
           (omega arith) l.0 leaf_level leaf_in_tree)
-          (λ b. let u = with_first (with_search th (searching (leaf_after_failed_try s th leaf) (next_tries s th) th.search.lo th.search.hi)) q in
+          (λ b. let u = with_first (with_search th (searching (leaf_after_failed_try s th leaf) (next_tries s th) th.search_state.lo th.search_state.hi)) q in
           goes_on u (failed_place s th) refl
           (pick_good (At s m u op) (ltb (next_tries s th) s.threshold) (λ k. (h, l))
           (λ k. pick_good (At s m u op) (ltb th.depth s.depth) (λ d. (h, l, ltb-true th.depth s.depth d)) (λ d. h)))))
@@ -269,24 +269,24 @@ module _ (s : Shape) (r : InRange s) (m : Shared) (own : ℕ → ℕ) {all : ℕ
         (λ a. absurd (true≢false (sym (and_both is_level_lem (is_between 1 (th.depth + 1) s.depth (omega arith) (omega arith))) ∙ a)))
 
   -- I3
-  module _ (h : Puts m th op) (x : Searching m th.search) where
+  module _ (h : Puts m th op) (x : Searching m th.search_state) where
     has_middle_lem : has_middle th ≡ true
     unfolding has_middle middle_level
     has_middle_lem =
-        and_both (lt-ltb th.search.lo th.search.hi x.below)
-        (is_between 1 (middle_level th) (level th.search.leaf) (omega (arith, x.lo, x.below)) (omega (arith, x.below, x.hi)))
+        and_both (lt-ltb th.search_state.lo th.search_state.hi x.below)
+        (is_between 1 (middle_level th) (level th.search_state.leaf) (omega (arith, x.lo, x.below)) (omega (arith, x.below, x.hi)))
 
     ancestor_planned : Fits (read_ancestor m th)
     unfolding read_ancestor after_ancestor_read middle_level with_first with_copies with_search
     ancestor_planned =
         pick_good Fits (has_middle th)
-        (λ e. let q = read_node m (ancestor th.search.leaf (middle_level th)) in
-        let leaf = th.search.leaf in
-        let tries = th.search.tries in
+        (λ e. let q = read_node m (ancestor th.search_state.leaf (middle_level th)) in
+        let leaf = th.search_state.leaf in
+        let tries = th.search_state.tries in
         pick_good (λ z. Fits (search_on (with_first (with_search th z) q))) (item_le th.item (value_of q))
-        (λ a. search_planned (with_first (with_search th (searching leaf tries th.search.lo (middle_level th))) q) refl h x.lo
+        (λ a. search_planned (with_first (with_search th (searching leaf tries th.search_state.lo (middle_level th))) q) refl h x.lo
         (omega (arith, x.below)) (omega (arith, x.below, x.hi)) x.leaf)
-        (λ a. search_planned (with_first (with_search th (searching leaf tries (middle_level th + 1) th.search.hi)) q) refl h
+        (λ a. search_planned (with_first (with_search th (searching leaf tries (middle_level th + 1) th.search_state.hi)) q) refl h
         (omega arith)
         (omega (arith, x.below)) x.hi x.leaf))
         (λ e. absurd (true≢false (sym has_middle_lem ∙ e)))
