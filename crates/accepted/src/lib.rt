@@ -1,1 +1,2 @@
 // Definitions for what accepted records mean; this crate has no code.
+#![tactic(auto)]

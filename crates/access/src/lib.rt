@@ -1,4 +1,6 @@
 // What the places share: the order of items, READ, comparison and counter, and the effects and plans that turns decide.
+#![tactic(auto)]
+
 mod effect;
 mod order;
 mod plan;

@@ -1,5 +1,7 @@
 // Beginning a put and both kinds of take: what cannot begin is refused, and then no byte changes. First under a frame, for any region that
 // has a queue in it; then as calls on a whole region that holds one queue.
+#![tactic(auto)]
+
 ghost use Rattle.std.specs.Prelude.{◌≡◌, length};
 ghost use Rattle.region.specs.Answer.{done, thread_busy, no_free_cell, ◌unless◌otherwise◌};
 ghost use Rattle.region.specs.Inner.{Within};

@@ -1,5 +1,7 @@
 // Executes the cases of document 01 that are not starred, L and M, and prints what the calls answer. The starred ones are
 // theorems: crates/cases.
+#![tactic(auto)]
+
 use mound::{mound_layout, mound_put, mound_run};
 
 // Writes what was done and a number.

@@ -1,1 +1,2 @@
 // Definitions for what a converted region answers; this crate has no code.
+#![tactic(auto)]

@@ -1,4 +1,6 @@
 // Cutting a script down to lines each of which a refusal needs: `cut_script`, and `print_cut` for the program.
+#![tactic(auto)]
+
 mod cutting;
 mod lines;
 mod passes;

@@ -1,5 +1,7 @@
 // Reads a number, LF and a script from standard input and writes what is left of the script to standard output, or the line `refused 16`. One
 // byte more than the input may have is read, so that a longer one shows.
+#![tactic(auto)]
+
 use cut::CUT_INPUT_MOST;
 
 fn main() {

@@ -1,5 +1,7 @@
 // The places of both kinds of take: E1 and E2 of a take of one item, 17 to 19 of a take of the root's whole list. Each decides a
 // plan and changes nothing itself.
+#![tactic(auto)]
+
 ghost use Rattle.std.specs.Prelude.{◌≡◌, false, length};
 ghost use Rattle.region.specs.Inner.{Within};
 ghost use Rattle.region.specs.Pick.{pick};

@@ -1,5 +1,7 @@
 // Reads scripts from standard input, each ended by an empty line, and writes the report over them to standard output. One byte more than the
 // input may have is read, so that a longer one shows.
+#![tactic(auto)]
+
 use figures::{INPUT_MOST, REPORT_ROOM};
 
 fn main() {

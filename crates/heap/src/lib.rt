@@ -1,5 +1,7 @@
 // A binary heap of numbers in a lent slice, the least on top: its entries are 1 to its size, entry 0 is not used.
 // Both functions move a hole to where the number to be stored belongs, and store it once.
+#![tactic(auto)]
+
 ghost use Rattle.std.specs.Prelude.{◌+◌, ◌*◌, ◌≤◌, ◌<◌, length};
 ghost use Rattle.heap.specs.Heap.{Pushed, Popped};
 ghost use Rattle.heap.specs.Inner.{LeastChild};

@@ -1,1 +1,2 @@
 // Whole histories, computed from the definitions, in proofs/; this crate has no code.
+#![tactic(auto)]

@@ -1,4 +1,6 @@
 // The eight places of a put, I1 to I8: each decides a plan and changes nothing itself.
+#![tactic(auto)]
+
 ghost use Rattle.std.specs.Prelude.{◌≡◌, ◌≤◌, true, length};
 ghost use Rattle.region.specs.Inner.{Within};
 ghost use Rattle.region.specs.Shared.{shared_in};

@@ -1,4 +1,6 @@
 // What a turn counts as: the kind of its access, whether its update failed, and the plan of a turn that is yet to be made.
+#![tactic(auto)]
+
 ghost use Rattle.std.specs.Prelude.{◌≡◌, length};
 ghost use Rattle.region.specs.Inner.{Within};
 ghost use Rattle.region.specs.Shared.{shared_in};

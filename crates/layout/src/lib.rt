@@ -1,4 +1,6 @@
 // Lays out a region in a lent byte slice, or refuses and changes no byte.
+#![tactic(auto)]
+
 ghost use Rattle.std.specs.Prelude.{◌≡◌, ◌*◌, ◌≤◌, ◌<◌, length};
 ghost use Rattle.words.specs.Word.{set_words};
 ghost use Rattle.region.specs.Record.{counter_size};

@@ -1,4 +1,6 @@
 // One turn of a thread on a region's bytes, made at the place where the thread stands.
+#![tactic(auto)]
+
 ghost use Rattle.std.specs.Prelude.{◌≡◌, length};
 ghost use Rattle.region.specs.Inner.{Within};
 ghost use Rattle.machine.specs.Inner.{Placed, Stands, is_withdrawn};

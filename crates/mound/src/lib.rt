@@ -1,6 +1,8 @@
 // The calls of the queue for a host in another language: numbers and byte slices, a slice as pointer and length. 0 is done
 // or yes, any other answer is the refusal's number; a run answers its counts beside it, a cut its length. No call requires anything of
 // its caller; what it cannot do it refuses.
+#![tactic(auto)]
+
 ghost use Rattle.std.specs.Prelude.{◌≡◌};
 ghost use Rattle.region.specs.declared.place.Place.TheVariants.{ReadRoot, ListReadRoot};
 ghost use Rattle.layout.specs.Layout.{LaidOut};

@@ -1,4 +1,6 @@
 // The six places of mending, M1 to M6: each decides a plan and changes nothing itself. w are the levels that wait.
+#![tactic(auto)]
+
 ghost use Rattle.std.specs.Prelude.{◌≡◌, ◌+◌, ◌*◌, ◌≤◌, length};
 ghost use Rattle.region.specs.Inner.{Within};
 ghost use Rattle.region.specs.Pick.{pick};

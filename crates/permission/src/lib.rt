@@ -1,4 +1,6 @@
 // A thread's permission: what it grants, the call that sets it, and what a turn does whose operation lacks it.
+#![tactic(auto)]
+
 ghost use Rattle.std.specs.Prelude.{◌≡◌, length};
 ghost use Rattle.region.specs.Inner.{Within};
 ghost use Rattle.permission.specs.Grants.{may_put, may_take};

@@ -1,1 +1,2 @@
 // Theorems about turns, beginnings and permissions; this crate has no code.
+#![tactic(auto)]

@@ -1,4 +1,6 @@
 // Tells whether a region is readable, ending at the first field out of range.
+#![tactic(auto)]
+
 ghost use Rattle.std.specs.Prelude.{◌≡◌, ◌+◌, ◌*◌, ◌≤◌, length, true, [], ◌∷◌};
 ghost use Rattle.region.specs.Inner.{InRange};
 ghost use Rattle.region.specs.Record.{counter_size, node_size};

@@ -1,5 +1,7 @@
 // Checks the records that a native build writes of its operations (document 02, request 9), in four walks over them: the first refuses what is
 // out of range, the second puts them in the order of their positions, the third compares the times and the fourth plays the bag, by position.
+#![tactic(auto)]
+
 ghost use Rattle.std.specs.Prelude.{◌≡◌};
 ghost use Rattle.records.specs.Accepts.{accepts, records_answer};
 ghost use Rattle.records.specs.Inner.{WellFormed};

@@ -1,5 +1,7 @@
 // The region's records (node, cell, node copy, thread) by value, the frame that says where they lie, and the loads and
 // stores that carry them between a lent byte slice and values.
+#![tactic(auto)]
+
 mod answer;
 mod frame;
 mod level;

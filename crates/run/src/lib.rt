@@ -1,4 +1,6 @@
 // A run: the turns of a schedule, served in order until it ends or the accesses made equal the limit.
+#![tactic(auto)]
+
 ghost use Rattle.std.specs.Prelude.{◌≡◌, true, ◌+◌, ◌*◌, ◌/◌, ◌≤◌, length};
 ghost use Rattle.words.specs.Word.{set_words};
 ghost use Rattle.region.specs.Answer.{answer_words};

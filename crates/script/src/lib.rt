@@ -1,5 +1,7 @@
 // The script program's work: a script's bytes in, its output's bytes out: `run_script`. And its parts, for those who read and run scripts in
 // another way: the opening, the lines, the layout, a line's call, and numbers and text printed.
+#![tactic(auto)]
+
 mod numbers;
 mod printing;
 mod reader;

@@ -1,5 +1,7 @@
 // Reads a script from standard input and writes what it prints to standard output. One byte more than a script may have is read,
 // so that a longer one shows.
+#![tactic(auto)]
+
 use script::{OUTPUT_ROOM, REGION_ROOM, SCRIPT_MOST};
 
 fn main() {

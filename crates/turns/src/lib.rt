@@ -3,6 +3,8 @@
 // places. Each place has a function of its own, so that its compiled code reads and writes the fields that it needs and no others.
 // A put's or a take's place that lacks its permission answers withdrawn and changes no byte: `withdraw` is then called, at one place for
 // all of them.
+#![tactic(auto)]
+
 ghost use Rattle.std.specs.Prelude.{◌≡◌, length};
 ghost use Rattle.region.specs.Inner.{Within};
 ghost use Rattle.region.specs.Shared.{shared_in, thread_in};

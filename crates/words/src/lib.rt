@@ -1,4 +1,6 @@
 // Little-endian 32-bit words in a lent byte slice, one or several in a row. Offsets count words.
+#![tactic(auto)]
+
 ghost use Rattle.std.specs.Prelude.{◌≡◌, ◌+◌, ◌*◌, ◌≤◌, length};
 ghost use Rattle.words.specs.Word.{word, set_word, words_at, set_words};
 
