@@ -1,0 +1,25 @@
+-- `convert::carry::convert_words` meets its contract: the parts one behind the other. Assumes nothing.
+use native.Mathlib.Omega.{arith}
+use mathlib.Core.Path.{refl}
+use Rattle.convert.proofs.Loops.{all_stored, cells_room, head_room, nodes_room, threads_room}
+use Rattle.convert.proofs.carry.convert_words.Goals as goal
+
+pub convert_head-requires : goal.convert_head-requires
+convert_head-requires c = head_room _ _ _ c.requires
+
+pub convert_nodes-requires : goal.convert_nodes-requires
+convert_nodes-requires c = omega (arith, nodes_room _ _ _ c.requires _ _ c.old_frame-before.ensures c.of-after.ensures _ c.node_count.ensures)
+
+pub copy_words-requires : goal.copy_words-requires
+copy_words-requires c = omega (arith, cells_room _ _ _ c.requires _ _ c.old_frame-before.ensures c.of-after.ensures _ refl)
+
+pub convert_threads-requires : goal.convert_threads-requires
+convert_threads-requires c = omega (arith, threads_room _ _ _ c.requires _ _ c.old_frame-before.ensures c.of-after.ensures _ refl)
+
+pub returns : goal.returns
+returns c =
+    all_stored _ _ _ _ _ _ _ _ _ _ _ _ c.old_frame-before.ensures c.of-after.ensures
+    c.node_count.ensures refl refl
+    c.convert_head.ensures
+    c.convert_nodes.ensures
+    c.copy_words.ensures c.convert_threads.ensures

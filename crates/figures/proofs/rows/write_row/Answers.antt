@@ -1,0 +1,12 @@
+-- `figures::rows::write_row` meets its contract: two numbers, then the figures. Assumes nothing.
+use Rattle.figures.proofs.Printed.{figures_room, row_wrote, thread_room}
+use Rattle.figures.proofs.rows.write_row.Goals as goal
+
+pub write_number-figures_at-requires : goal.write_number-figures_at-requires
+write_number-figures_at-requires c = search thread_room
+
+pub write_figures-requires : goal.write_figures-requires
+write_figures-requires c = figures_room _ _ _ _ c.write_number-figures_at.ensures c.write_number-thread_at.ensures c.requires
+
+pub returns : goal.returns
+returns c = row_wrote _ _ _ c.write_figures.ensures c.write_number-figures_at.ensures c.write_number-thread_at.ensures

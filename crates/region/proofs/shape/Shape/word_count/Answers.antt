@@ -1,0 +1,7 @@
+-- `region::shape::Shape::word_count` meets its contract. Assumes nothing.
+use Rattle.region.specs.Shape.{region_words_of_width}
+use Rattle.region.proofs.shape.Shape.word_count.Goals as goal
+
+pub returns : goal.returns
+unfolding region_words_of_width
+returns c = cc
