@@ -79,12 +79,7 @@ fn pack(refusal: u32, turns: u32, accesses: u32) -> u64
 // Runs a schedule, turns of two words (thread, choice), up to a limit on accesses; each served turn's answer is three words
 // (code, key, tag) of answers. Bits 0 to 15 are the refusal or 0, bits 16 to 31 the turns served, bits 32 to 63 the accesses
 // made. Refusals 7, 6, 5.
-pub fn mound_run(
-    region: &mut [u8],
-    schedule: &[u8],
-    limit: u32,
-    answers: &mut [u8],
-) -> u64
+pub fn mound_run(region: &mut [u8], schedule: &[u8], limit: u32, answers: &mut [u8]) -> u64
     ensures { RunDone region.old region.new schedule.now limit answers.old answers.new result }
 {
     let outcome = run::run(region, schedule, limit, answers);

@@ -209,7 +209,10 @@ impl Thread {
     pub fn with_search(self, search: Search) -> Thread
         ensures { result ≡ with_search self search }
     {
-        Thread { search_state: search, ..self }
+        Thread {
+            search_state: search,
+            ..self
+        }
     }
 
     pub fn with_node(self, node: u32) -> Thread

@@ -23,12 +23,11 @@ pub run_half-requires : goal.run_half-requires
 run_half-requires t c = search half_ready
 
 pub try_rows-requires : goal.try_rows-requires
-try_rows-requires t c =
-    (
-      omega arith,
-      shown_able c.requires c.if-to-from-eq1.false _ refl _ _ c.run_half.ensures
-          c.run_half.auto.states,
-    )
+try_rows-requires t c = (
+  omega arith,
+  shown_able c.requires c.if-to-from-eq1.false _ refl _ _ c.run_half.ensures
+      c.run_half.auto.states,
+)
 
 pub returns-then-run_half : goal.returns-then-run_half
 returns-then-run_half t c = search shown_tried
@@ -40,21 +39,19 @@ pub slice_bounds-try_rows-end-2 : goal.slice_bounds-try_rows-end-2
 slice_bounds-try_rows-end-2 t c = search before_long
 
 pub try_rows-left-requires : goal.try_rows-left-requires
-try_rows-left-requires t c =
-    (
-      omega arith,
-      second_able c.requires c.if-to-from-eq1.false _ refl _ _ c.run_half.ensures
-          c.run_half.auto.states c.if-run_half.false,
-    )
+try_rows-left-requires t c = (
+  omega arith,
+  second_able c.requires c.if-to-from-eq1.false _ refl _ _ c.run_half.ensures
+      c.run_half.auto.states c.if-run_half.false,
+)
 
 pub try_rows-requires-2 : goal.try_rows-requires-2
-try_rows-requires-2 t c =
-    (
-      omega arith,
-      first_half_able c.requires c.if-to-from-eq1.false _ refl _ _ c.run_half.ensures
-          c.run_half.auto.states c.if-run_half.false _ _ c.try_rows-left.ensures c.try_rows-left.auto.rows
-          c.try_rows-left.new.states c.try_rows-left.auto.states,
-    )
+try_rows-requires-2 t c = (
+  omega arith,
+  first_half_able c.requires c.if-to-from-eq1.false _ refl _ _ c.run_half.ensures
+      c.run_half.auto.states c.if-run_half.false _ _ c.try_rows-left.ensures c.try_rows-left.auto.rows
+      c.try_rows-left.new.states c.try_rows-left.auto.states,
+)
 
 pub returns : goal.returns
 returns t c = search halves_tried
