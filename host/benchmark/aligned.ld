@@ -4,6 +4,6 @@
  */
 SECTIONS
 {
-  .text.library : SUBALIGN(64) { *mound.o(.text .text.*) }
+  .text.library : SUBALIGN(64) { *mound_c.o(.text .text.*) }
 }
 INSERT BEFORE .text;

@@ -12,7 +12,9 @@ fn main() {
     let archive = folder.join("libmound.a");
     if !archive.exists() {
         let archive = archive.display();
-        println!("cargo::warning={archive} is missing: `rt staticlib mound` builds it");
+        println!(
+            "cargo::warning={archive} is missing: `./library` at the repository's root builds it"
+        );
     }
     println!("cargo::rerun-if-env-changed={OVERRIDE}");
     println!("cargo::rerun-if-changed={}", archive.display());

@@ -1,7 +1,7 @@
-//! The three programs, each a file that an environment variable names, or else one in `target/bin` at
-//! the repository's root, which `rt check` builds: the script program, `SCRIPT_PROGRAM` or
-//! `script_main`; the figures over many scripts, `FIGURES_PROGRAM` or `figures_main`; and the cut of a
-//! script, `CUT_PROGRAM` or `cut_main`.
+//! The three programs, each a file that an environment variable names, or else the one in its crate's
+//! folder `out`, which `rt ci` and `rt run` build: the script program, `SCRIPT_PROGRAM` or `script_main`;
+//! the figures over many scripts, `FIGURES_PROGRAM` or `figures_main`; and the cut of a script,
+//! `CUT_PROGRAM` or `cut_main`.
 
 use std::env;
 use std::io::{ErrorKind, Write};
@@ -24,7 +24,7 @@ pub fn cut(number_and_script: &[u8]) -> String {
 }
 
 fn output(variable: &str, name: &str, given: &[u8]) -> String {
-    let built = || Path::new("../../target/bin").join(name);
+    let built = || Path::new("../../crates").join(name).join("out").join(name);
     let path = env::var_os(variable).map_or_else(built, PathBuf::from);
     let mut program = Command::new(&path)
         .stdin(Stdio::piped())

@@ -60,7 +60,7 @@
 //! ```
 //!
 //! The static library `libmound.a` is looked for in target/staticlib at the root of the repository
-//! that this crate stands in, where `rt staticlib mound` writes it, or in the folder that the
+//! that this crate stands in, where `./library` writes it, or in the folder that the
 //! environment variable `MOUND_LIBRARY_DIR` names, an absolute path. It is for x86-64. The crate
 //! needs no `std`, and of `alloc` only what a [`Run`] keeps; no call of the library allocates.
 //!
