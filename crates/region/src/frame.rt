@@ -110,6 +110,7 @@ impl Frame {
         store_cell_at(b, self.cells + CELL_SIZE * (k - 1), cell);
     }
 
+    #[inline(always)]
     pub fn load_thread(self, b: &[u8], t: u32) -> Thread
         requires { Within self (length b.now) }
         ensures { result ≡ thread_in self b.now t }

@@ -52,6 +52,7 @@ pub struct Thread {
 }
 
 // The thread's record at word `at`: fifteen words, then three node copies.
+#[inline(always)]
 pub fn load_thread_at(b: &[u8], at: usize) -> Thread
     requires { 4 * (at + thread_size counter_size) ≤ length b.now }
     ensures { result ≡ thread_at counter_size b.now at }
