@@ -4,7 +4,7 @@ use Prim.Native.Nat.{ℕ, suc, ◌+◌, ◌≤◌, ◌<◌}
 use native.Mathlib.Omega.{arith}
 use mathlib.Core.Path.{◌≡◌, refl, sym, ap, subst, ◌∙◌}
 use mathlib.Core.Bool.{Bool, true, false}
-use mathlib.Core.Logic.{◌⊎◌, ⊎_elim}
+use mathlib.Core.Logic.{⊎_elim}
 use mathlib.Core.List.{List, [], ◌∷◌, ◌++◌}
 use Rattle.region.specs.Pick.{pick}
 use Rattle.region.specs.Record.{is_item, same_item, zero_item}
@@ -15,7 +15,7 @@ use Rattle.region.proofs.Shapes.{and_both, and_left}
 use Rattle.theory.specs.Ledger.{Follows, Least, Ledger, empty_decides, ends_withdrawn, list_begins, list_decides, listing, none, one_item, one_less, one_more, owing, put_begins, put_decides, putting, still, take_answers, take_begins, take_decides, taking, whole_list}
 use Rattle.theory.specs.Told.{Told, answers_took, begins_list, decides_empty, decides_put}
 use Rattle.theory.proofs.Facts.{stage}
-use Rattle.records.specs.Play.{bag_after, bag_gives, holds, is_least, none_less, plays, without}
+use Rattle.records.specs.Play.{bag_after, bag_gives, holds, is_least, none_less, plays}
 use Rattle.records.specs.Recorded.{in_range}
 use Rattle.records.specs.declared.form.Recorded.{Recorded}
 use Rattle.bag.specs.Demand3.{AnswerSays}

@@ -21,7 +21,7 @@ use Rattle.theory.proofs.Facts.{stage, undecided_stage}
 use Rattle.records.specs.declared.form.Recorded.{Recorded}
 use Rattle.bag.specs.Demand3.{AnswerSays, Says, empty, idle, inserted, list_removed, moved, refused, removed, took, withdrawn}
 use Rattle.bag.specs.History.{Event, Moment, called, turned}
-use Rattle.bag.specs.Operations.{answered, beginning}
+use Rattle.bag.specs.Operations.{answered}
 use Rattle.bag.specs.Told.{tells}
 use Rattle.bag.proofs.Histories.{called_so}
 use Rattle.accepted.specs.HistoryRecords.{Beginning, begun_after, decided_record, records_at}

@@ -38,7 +38,6 @@ use Rattle.machine.specs.Inner.{is_withdrawn}
 use Rattle.machine.specs.Turn.{carried_out, decide, decide_at, turn_answer, turn_bytes, turn_plan}
 use Rattle.preserved.proofs.Proved.{put_passed, take_passed}
 use Rattle.theory.specs.Ledger.{Ledger}
-use Rattle.theory.specs.Told.{Told}
 use Rattle.theory.specs.Tree.{list_from}
 use Rattle.theory.proofs.Chains.{Chain, ends, first_owned, link}
 use Rattle.theory.proofs.Held.{free_chain, node_chain}

@@ -27,7 +27,7 @@ use Rattle.region.specs.declared.shape.Shape.{Shape}
 use Rattle.region.specs.declared.thread.Thread.{Thread}
 use Rattle.region.proofs.Levels.{level_holds, power_doubles}
 use Rattle.region.proofs.Picks.{upd_same, upd_other}
-use Rattle.region.proofs.Shapes.{above, is_between, sizes}
+use Rattle.region.proofs.Shapes.{is_between, sizes}
 use Rattle.access.specs.Effect.{effect_shared, freed}
 use Rattle.access.specs.Order.{val, value_of}
 use Rattle.access.specs.Plan.{changes_nothing, moved, on_to, plan}

@@ -1,7 +1,7 @@
 -- The took answers of a take are the items that its deciding access removed, one by one in their order, and the thread is idle exactly when all
 -- have come: from the ledger, whose operation is what the thread still owes, and from the invariant, by which a thread is idle exactly
 -- without an operation. That the items rise comes from the lists, which never fall. Assumes nothing.
-use Prim.Native.Nat.{ℕ, ◌+◌, ◌≤◌}
+use Prim.Native.Nat.{ℕ, ◌≤◌}
 use native.Mathlib.Omega.{arith}
 use mathlib.Core.Path.{◌≡◌, refl, sym, ap, ◌∙◌}
 use mathlib.Core.Bool.{Bool, true, false}

@@ -24,7 +24,6 @@ use Rattle.region.specs.declared.thread.Thread.{Thread}
 use Rattle.region.proofs.Picks.{upd_same, upd_other}
 use Rattle.access.specs.Effect.{effect_shared}
 use Rattle.access.specs.Plan.{accesses_of, changes_nothing}
-use Rattle.access.specs.declared.plan.Plan.{Plan}
 use Rattle.insert.specs.Insert.{has_tried_deepest, is_leaf_of}
 use Rattle.insert.proofs.Laws.{leaf_tests}
 use Rattle.permission.specs.Permit.{permit_bytes_in}

@@ -53,6 +53,7 @@ pub fn old_frame(shape: Shape) -> Frame
 }
 
 // The greatest value of each word of a thread's record.
+#[inline(always)]
 fn old_thread_maxima(shape: Shape) -> [u32; 33]
     requires { InRange shape }
     ensures { result ≡ thread_maxima old_counter_size shape }
@@ -156,6 +157,7 @@ fn old_tree_readable(b: &[u8], frame: Frame) -> bool
 }
 
 // The threads' records. From one to the next there are as many words as there are maxima, a number that the compiler knows.
+#[inline(always)]
 fn old_threads_readable(b: &[u8], frame: Frame, maxima: &[u32]) -> bool
     requires { ThreadsWithin frame (length b.now) (length maxima.now) }
     ensures { result ≡ all_records (thread_passes maxima.now frame.shape) frame.stride b.now frame.threads frame.shape.threads }
@@ -175,6 +177,7 @@ fn old_threads_readable(b: &[u8], frame: Frame, maxima: &[u32]) -> bool
 
 // Every field of the frame's parts. The functions of the present form do not serve both: with a second caller they would be called and not
 // copied into the check.
+#[inline(never)]
 fn old_fields_readable(b: &[u8], frame: Frame) -> bool
     requires { OldWithin frame (length b.now) }
     ensures { result ≡ fields_readable frame b.now }

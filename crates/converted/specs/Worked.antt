@@ -2,7 +2,6 @@
 use Rattle.std.specs.Prelude.{ℕ, ◌*◌, ◌≡◌, List, [], ◌∷◌, length, replicate}
 use Rattle.words.specs.Word.{set_words}
 use Rattle.region.specs.Answer.{counter_spent}
-use Rattle.region.specs.declared.answer.Answer.{Answer}
 use Rattle.region.specs.declared.answer.Answer.TheVariants.{Moved, Inserted, Took, Refused}
 use Rattle.cases.specs.Conversions.{put_at_i6, take_at_e2, old_form as one_word}
 use Rattle.cases.specs.Row.{item, schedule}

@@ -1,31 +1,29 @@
 -- A cut from beginning to end: each way out of the functions, over plain variables. Assumes nothing.
-use Prim.Native.Nat.{ℕ, zero, suc, ◌+◌, ◌*◌, ◌^◌, ◌≤◌, ◌<◌}
+use Prim.Native.Nat.{ℕ, zero, suc, ◌+◌, ◌*◌, ◌≤◌, ◌<◌}
 use native.Mathlib.Nat.{zero-add, suc-add, add-suc, add-zero}
 use native.Mathlib.Omega.{arith}
 use mathlib.Core.Path.{◌≡◌, refl, sym, ap, subst, ◌∙◌}
 use mathlib.Core.Bool.{Bool, true, false, not, ◌||◌}
-use mathlib.Core.List.{List, [], ◌∷◌, ◌++◌, append-nil, map, Sublistᴰ}
+use mathlib.Core.List.{List, [], ◌∷◌, ◌++◌, append-nil, Sublistᴰ}
 use mathlib.Core.Option.{Option, none, some}
 use borrow.Author.Tests.{eq-eqb, le-leb, lt-leb, ne_eqb, not-false, not-true}
-use lib.Dec.{eqb, leb}
+use lib.Dec.{eqb}
 use lib.ListN.{length, get_or, take, drop, replicate, length-append, length-map, length-replicate}
 use lib.Seq.{length-take-le, take_at}
-use Rattle.region.specs.Answer.{bad_length, done, not_shown}
+use Rattle.region.specs.Answer.{done}
 use Rattle.region.specs.Pick.{pick}
-use Rattle.region.specs.declared.answer.Answer.TheVariants.{Refused}
 use Rattle.script.specs.Inner.{Wrote}
 use Rattle.script.specs.Reading.{read_opening}
 use Rattle.script.specs.Script.{call_bytes, call_outcome, laid_region, setup_refusal}
-use Rattle.script.specs.declared.printing.Outcome.TheVariants.{Answered}
 use Rattle.script.specs.declared.reading.Opening.{Opening}
 use Rattle.script.specs.declared.reading.Opening.TheVariants.{Read as OpeningRead, Unreadable as NotOpening}
 use Rattle.script.specs.declared.reading.Setup.{Setup}
 use Rattle.script.proofs.Texts.{wrote_length, written}
-use Rattle.cut.specs.Whole.{Entry, Script, entries_from, read_script, script_bytes, texts, with_lines, with_opening}
+use Rattle.cut.specs.Whole.{Entry, Script, entries_from, read_script, script_bytes, texts, with_opening}
 use Rattle.cut.specs.Shown.{any_refusal, is_refusal, lines_printed, printed_by, shows}
 use Rattle.cut.specs.Cut.{cut_lines, cut_of, cut_refusal, cut_script, passes}
 use Rattle.cut.specs.Promises.{CutDown}
-use Rattle.cut.specs.Inner.{Cuttable, CutRoom, IsTrial, Laid, LinesRead, Placed, ReadWhole, RowsCut, RowsIn, TableReady, WriteRoom, call_in, calls_show, chosen, count_of, entry_in, numbers, rows_show}
+use Rattle.cut.specs.Inner.{Cuttable, CutRoom, IsTrial, Laid, LinesRead, ReadWhole, RowsCut, TableReady, WriteRoom, call_in, calls_show, chosen, count_of, entry_in, numbers, rows_show}
 use Rattle.cut.specs.declared.lines.Lines.{Lines}
 use Rattle.cut.specs.declared.lines.Lines.TheVariants.{Read, Unreadable}
 use Rattle.cut.specs.declared.passes.Trial.{Trial}

@@ -1,7 +1,6 @@
 -- Turns served together: entered into a schedule, run, and their answers looked through. What they leave and show is what the lines one by one
 -- do. Assumes nothing.
 use Prim.Native.Nat.{ℕ, zero, suc, ◌+◌, ◌-◌, ◌*◌, ◌/◌, ◌%◌, ◌^◌, ◌≤◌, ◌<◌}
-use native.Mathlib.Nat.{add-zero}
 use native.Mathlib.Numerals.{add-one}
 use native.Mathlib.Omega.{arith}
 use mathlib.Core.Path.{◌≡◌, refl, sym, ap, subst, ◌∙◌}
@@ -28,7 +27,6 @@ use Rattle.run.proofs.Laws.{one_access}
 use Rattle.script.specs.Inner.{CallMade, Ready}
 use Rattle.script.specs.Script.{call_bytes, call_outcome}
 use Rattle.script.specs.declared.printing.Outcome.TheVariants.{Answered}
-use Rattle.script.specs.declared.reading.What.{What}
 use Rattle.script.specs.declared.reading.What.TheVariants.{Permit, Put, Take, TakeList, Turn}
 use Rattle.script.proofs.LineCalls.{turn_made}
 use Rattle.script.proofs.Regions.{still_ready}

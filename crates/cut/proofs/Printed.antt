@@ -1,11 +1,11 @@
 -- What the program prints: the number's line and the script read, and each way out of the functions, over plain variables. Assumes nothing.
-use Prim.Native.Nat.{ℕ, ◌+◌, ◌-◌, ◌≤◌, ◌<◌}
+use Prim.Native.Nat.{ℕ, ◌-◌, ◌≤◌, ◌<◌}
 use native.Mathlib.Nat.{zero-add}
 use native.Mathlib.Omega.{arith}
-use mathlib.Core.Path.{◌≡◌, refl, sym, ap, subst, ◌∙◌}
-use mathlib.Core.List.{List, [], ◌∷◌, ◌++◌, append_assoc}
+use mathlib.Core.Path.{◌≡◌, refl, sym, ap, ◌∙◌}
+use mathlib.Core.List.{List, [], ◌++◌, append_assoc}
 use borrow.Author.Tests.{eq-eqb, le-leb, lt-leb, ne_eqb}
-use lib.ListN.{length, take, drop, length-append, length-drop, length-take, take-append-drop}
+use lib.ListN.{length, take, drop, length-drop, take-append-drop}
 use lib.Seq.{drop-append-le, length-take-le, take_all}
 use Rattle.region.specs.Answer.{done}
 use Rattle.region.specs.Pick.{pick}
@@ -17,7 +17,7 @@ use Rattle.script.proofs.Decimals.{field_next, line_ends}
 use Rattle.script.proofs.Texts.{written}
 use Rattle.cut.specs.Cut.{cut_refusal, cut_script}
 use Rattle.cut.specs.Promises.{CutDown}
-use Rattle.cut.specs.Program.{CutPrinted, cut_or_refused, cut_output, number_and_script, refused_line}
+use Rattle.cut.specs.Program.{CutPrinted, cut_or_refused, cut_output, refused_line}
 use Rattle.cut.specs.Inner.{ScriptPrinted, ScriptRoom}
 use Rattle.cut.proofs.CutIsRight.{cut_is_right}
 use Rattle.cut.proofs.ReadAgain.{number_read}

@@ -1,16 +1,14 @@
 -- Passes on a laid-out region: the region in the last slot of the states, a pass, and the loop over passes. Assumes nothing.
-use Prim.Native.Nat.{ℕ, zero, suc, ◌+◌, ◌-◌, ◌*◌, ◌≤◌, ◌<◌}
+use Prim.Native.Nat.{ℕ, suc, ◌+◌, ◌-◌, ◌≤◌, ◌<◌}
 use native.Mathlib.Omega.{arith}
 use mathlib.Core.Path.{◌≡◌, refl, sym, ap, subst, ◌∙◌}
-use mathlib.Core.Bool.{Bool, true, false}
-use mathlib.Core.List.{List, [], ◌∷◌, ◌++◌, append_assoc}
+use mathlib.Core.Bool.{Bool}
+use mathlib.Core.List.{List, [], ◌++◌, append_assoc}
 use mir.Syntax.{w64}
 use mir.Val.{Fits}
 use borrow.Author.Tests.{ne_eqb}
-use lib.Dec.{eqb}
 use lib.ListN.{length, take, drop, length-append, length-drop, drop_of_length-le}
 use lib.Seq.{drop_at, drop-length, length-take-le, slice, take_at}
-use Rattle.region.specs.Answer.{done}
 use Rattle.region.specs.Pick.{pick}
 use Rattle.script.specs.Inner.{Ready}
 use Rattle.script.specs.Script.{laid_region, region_length, setup_refusal}
@@ -18,7 +16,7 @@ use Rattle.script.specs.declared.reading.Setup.{Setup}
 use Rattle.script.proofs.Regions.{laid_ready}
 use Rattle.script.proofs.Setups.{fine_length, laid_length}
 use Rattle.cut.specs.Cut.{pass, passes}
-use Rattle.cut.specs.Inner.{Cuttable, LastLaid, LastReady, PassReady, RowsCut, RowsIn, RowsRan, RowsTriable, RowsTried, Runnable, StatesRoom, region_in, rows_show, slot_of, tried_on}
+use Rattle.cut.specs.Inner.{Cuttable, LastLaid, LastReady, PassReady, RowsCut, RowsRan, RowsTriable, RowsTried, Runnable, region_in, rows_show, slot_of, tried_on}
 use Rattle.cut.specs.declared.passes.Trial.{Trial}
 use Rattle.cut.proofs.PassesEnd.{passes_end}
 use Rattle.cut.proofs.RowsTrying.{slice_to_end}

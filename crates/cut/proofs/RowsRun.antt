@@ -9,8 +9,8 @@ use borrow.Author.Tests.{eq-eqb, ne_eqb}
 use mir.Syntax.{w64}
 use mir.Val.{Fits}
 use lib.Dec.{eqb}
-use lib.ListN.{length, get_or, set, take, drop, replicate, length-append, length-replicate, length-set, length-take, drop_of_length-le, get_or-append}
-use lib.Seq.{paste, paste-suc, paste-zero, get_or-take, slice, slice-cons}
+use lib.ListN.{length, get_or, take, replicate, length-replicate, length-take, drop_of_length-le}
+use lib.Seq.{slice, slice-cons}
 use Rattle.words.specs.Word.{word}
 use Rattle.region.specs.Answer.{done}
 use Rattle.region.specs.Inner.{Within}

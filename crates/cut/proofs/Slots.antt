@@ -4,7 +4,7 @@ use native.Mathlib.Nat.{add_comm}
 use native.Mathlib.Numerals.{add-one}
 use native.Mathlib.Omega.{arith}
 use mathlib.Core.Path.{◌≡◌, refl, sym, ap, ◌∙◌}
-use mathlib.Core.List.{List, [], ◌∷◌, ◌++◌, append-nil}
+use mathlib.Core.List.{List, [], ◌++◌, append-nil}
 use lib.ListN.{length, get_or, set, take, drop, length-append, length-drop, length-set, drop_of_length-le}
 use lib.Seq.{append_snoc, drop-append-add, drop_at, drop-cons, drop-drop, get_or-append-add, get_or-drop, length-take-le, set_at, take_all, take-append-add, take_at, take-suc, take-take}
 use Rattle.cut.specs.Inner.{copied_down, region_in, slot_of}

@@ -1,17 +1,17 @@
 -- Lines in the rows of a table: a call as the words of a row and back, a row stored and read, and the loop that reads the lines. Assumes
 -- nothing.
-use Prim.Native.Nat.{ℕ, zero, suc, ◌+◌, ◌-◌, ◌*◌, ◌^◌, ◌≤◌, ◌<◌}
+use Prim.Native.Nat.{ℕ, zero, suc, ◌+◌, ◌-◌, ◌*◌, ◌≤◌, ◌<◌}
 use native.Mathlib.Nat.{add-zero, add-suc, suc-add, zero-add}
 use native.Mathlib.Numerals.{add-one, add-two, add-three, add-four, add_five}
 use native.Mathlib.Omega.{arith}
 use mathlib.Core.Path.{◌≡◌, refl, sym, ap, subst, ◌∙◌}
 use mathlib.Core.Bool.{Bool, true, false}
-use mathlib.Core.List.{List, [], ◌∷◌, ◌++◌, append_assoc, append-nil, map}
+use mathlib.Core.List.{List, [], ◌∷◌, ◌++◌, append_assoc, append-nil}
 use mathlib.Core.Option.{Option, none, some}
 use borrow.Author.Tests.{eqb-false, eqb-true, ltb-false, ltb-true, ne_eqb}
 use lib.Dec.{eqb, ltb}
 use lib.ListN.{length, get_or, set, length-map, length-set}
-use lib.Seq.{get_or-set_other, get_or-set_same, sets, length-sets, slice}
+use lib.Seq.{get_or-set_other, get_or-set_same, sets, length-sets}
 use Rattle.region.specs.Pick.{pick}
 use Rattle.script.specs.Reading.{read_line}
 use Rattle.script.specs.declared.reading.Line.{Line}
@@ -22,9 +22,7 @@ use Rattle.script.specs.declared.reading.What.TheVariants.{Put, Take, TakeList, 
 use Rattle.script.proofs.Readings.{line_long}
 use Rattle.cut.specs.Whole.{Entry, entries_from, entry_of, with_first}
 use Rattle.cut.specs.Inner.{LinesRead, Placed, RowRoom, TableReady, call_in, chosen, count_of, entered, entry_in, fields_of, numbers, span_in, what_of}
-use Rattle.cut.specs.declared.lines.Call.{Call}
 use Rattle.cut.specs.declared.lines.Fields.{Fields}
-use Rattle.cut.specs.declared.lines.Lines.{Lines}
 use Rattle.cut.specs.declared.lines.Lines.TheVariants.{Read, Unreadable}
 use Rattle.cut.proofs.Entries.{entries_over, entries_read, entries_unreadable, line_within}
 use Rattle.cut.proofs.NoLineLeftOut.{enough}

@@ -2,19 +2,18 @@
 use Prim.Native.Nat.{ℕ, suc, ◌+◌, ◌*◌, ◌^◌, ◌≤◌, ◌<◌}
 use native.Mathlib.Numerals.{add-one}
 use native.Mathlib.Omega.{arith}
-use mathlib.Core.Path.{◌≡◌, refl, sym, ap, ◌∙◌}
-use mathlib.Core.Bool.{Bool, true, false, not, ◌&&◌}
+use mathlib.Core.Path.{◌≡◌, refl, ap, ◌∙◌}
+use mathlib.Core.Bool.{Bool, true, false, ◌&&◌}
 use mathlib.Core.List.{List, [], ◌∷◌}
 use borrow.Author.Tests.{leb-true}
 use lib.Dec.{eqb, leb}
 use lib.ListN.{length}
 use Rattle.words.specs.Word.{set_word, set_words, word}
 use Rattle.words.proofs.Laws.{length-set_word, word_other, word_same}
-use Rattle.region.specs.Answer.{answer_code, answer_key, answer_words}
+use Rattle.region.specs.Answer.{answer_words}
 use Rattle.region.specs.Pick.{pick}
-use Rattle.region.specs.Shape.{between}
 use Rattle.region.specs.Shared.{Shared, shared_in, thread_in}
-use Rattle.region.specs.Thread.{at_place, gone_idle, with_depth}
+use Rattle.region.specs.Thread.{gone_idle, with_depth}
 use Rattle.region.specs.declared.answer.Answer.{Answer}
 use Rattle.region.specs.declared.answer.Answer.TheVariants.{Moved, Idle as Rests, Inserted, Took, Empty, Refused, Withdrawn}
 use Rattle.region.specs.declared.frame.Frame.{Frame}
@@ -33,7 +32,7 @@ use Rattle.readable.specs.Readable.{frame_in, readable}
 use Rattle.insert.specs.Insert.{after_ancestor_read, grow_depth, insert_at, insert_at_root, insert_below, after_failed_try, after_leaf_read, read_ancestor, read_depth, read_leaf, read_parent, read_target, search_on}
 use Rattle.extract.specs.Extract.{after_list_removal, after_removal, after_root_read, cas_root, hand_out, handed_out, list_read_root, read_root, remove_head, remove_list}
 use Rattle.moundify.specs.Moundify.{after_children_read, clean_at, after_depth_read, exchange_at, exchange_with, mend_clean, mend_swap, mend_read_depth, mend_read_left, mend_read_node, mend_read_right, returning, returned, return_answer}
-use Rattle.permission.specs.Withdraw.{is_put_place, is_unreadable, lacks_permission, permitted, withdrawal}
+use Rattle.permission.specs.Withdraw.{permitted, withdrawal}
 use Rattle.machine.specs.Turn.{decide, decide_at, turn_answer, turn_on_answer, turn_plan}
 use Rattle.script.specs.declared.printing.Outcome.TheVariants.{Answered}
 use Rattle.cut.specs.Shown.{is_refusal}

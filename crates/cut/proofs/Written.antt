@@ -1,21 +1,14 @@
 -- A cut from the script to the slice: lines written one behind the other, and each way out of the functions. Assumes nothing.
 use Prim.Native.Nat.{ℕ, zero, suc, ◌+◌, ◌-◌, ◌*◌, ◌≤◌, ◌<◌}
-use native.Mathlib.Nat.{zero-add}
 use native.Mathlib.Numerals.{add-one}
 use native.Mathlib.Omega.{arith}
-use mathlib.Core.Path.{◌≡◌, refl, sym, ap, subst, ◌∙◌}
-use mathlib.Core.Bool.{Bool, true, false, not}
-use mathlib.Core.List.{List, [], ◌∷◌, ◌++◌, append-nil, map, Sublistᴰ}
-use mathlib.Core.Option.{Option, none, some}
-use borrow.Author.Tests.{eq-eqb, le-leb, lt-leb, ne_eqb, not-false, not-true}
-use lib.Dec.{eqb, leb}
-use lib.ListN.{length, get_or, take, drop, length-append, length-drop, drop_of_length-le}
+use mathlib.Core.Path.{◌≡◌, sym, ap, ◌∙◌}
+use mathlib.Core.List.{List, [], ◌∷◌, ◌++◌}
+use lib.ListN.{length, get_or, take, drop, length-append, drop_of_length-le}
 use lib.Seq.{drop-cons, slice, take-nil}
-use Rattle.region.specs.Answer.{done, not_shown}
-use Rattle.region.specs.Pick.{pick}
 use Rattle.script.specs.Inner.{Wrote}
 use Rattle.script.proofs.Texts.{Printing, print_end, print_more, print_start, wrote_length}
-use Rattle.cut.specs.Whole.{Entry, texts}
+use Rattle.cut.specs.Whole.{texts}
 use Rattle.cut.specs.Inner.{Placed, RowsIn, WriteRoom, chosen, entry_in, span_in}
 use Rattle.cut.specs.declared.lines.Span.{Span}
 

@@ -16,7 +16,7 @@ use Rattle.script.specs.declared.reading.ScriptLine.{ScriptLine}
 use Rattle.script.specs.declared.reading.Setup.{Setup}
 use Rattle.script.specs.declared.reading.What.{What}
 use Rattle.script.specs.declared.reading.What.TheVariants.{Put, Take, TakeList, Permit, Turn}
-use Rattle.cut.specs.Whole.{Entry, Script, entries_from, read_script, texts}
+use Rattle.cut.specs.Whole.{Entry, entries_from, read_script, texts}
 use Rattle.cut.specs.Shown.{is_refusal}
 use Rattle.cut.specs.Cut.{passes}
 use Rattle.cut.specs.Program.{cut_or_refused}

@@ -16,7 +16,7 @@ use Rattle.region.specs.declared.frame.Frame.{Frame}
 use Rattle.region.specs.declared.thread.Thread.{Thread}
 use Rattle.region.proofs.Shapes.{between_least, between_most}
 use Rattle.access.specs.declared.plan.Plan.{Plan}
-use Rattle.readable.specs.Readable.{frame_in, readable}
+use Rattle.readable.specs.Readable.{frame_in}
 use Rattle.readable.proofs.Laws.{readable_within}
 use Rattle.machine.specs.Turn.{turn_plan}
 use Rattle.script.specs.Inner.{CallMade, Ready}

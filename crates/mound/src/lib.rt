@@ -1,4 +1,4 @@
-// The calls of the queue for a host in another language: numbers and byte slices, a slice as pointer and length. 0 is done
+// The calls of the queue, on numbers and byte slices; `mound_c` exports them for a host in another language. 0 is done
 // or yes, any other answer is the refusal's number; a run answers its counts beside it, a cut its length. No call requires anything of
 // its caller; what it cannot do it refuses.
 #![tactic(auto)]

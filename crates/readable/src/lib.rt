@@ -64,6 +64,7 @@ pub fn records_bounded(
 }
 
 // The words from word `at` on, each at most its maximum.
+#[inline(always)]
 fn words_bounded(b: &[u8], at: usize, maxima: &[u32]) -> bool
     requires { 4 * (at + length maxima.now) ≤ length b.now }
     ensures { result ≡ bounded b.now at maxima.now }
@@ -79,6 +80,7 @@ fn words_bounded(b: &[u8], at: usize, maxima: &[u32]) -> bool
 }
 
 // The greatest tries at this place.
+#[inline(always)]
 fn greatest_tries(shape: Shape, place: u32) -> u32
     requires { InRange shape }
     ensures { result ≡ greatest_tries shape place }
@@ -91,6 +93,7 @@ fn greatest_tries(shape: Shape, place: u32) -> u32
 }
 
 // The greatest waiting levels at this place and node.
+#[inline(always)]
 fn greatest_waiting(place: u32, node: u32) -> u32
     ensures { result ≡ greatest_waiting place node }
 {
@@ -105,6 +108,7 @@ fn greatest_waiting(place: u32, node: u32) -> u32
 }
 
 // The thread's record at word `at`, with the maxima of its words.
+#[inline(always)]
 pub fn thread_readable(b: &[u8], at: usize, shape: Shape, maxima: &[u32]) -> bool
     requires { ThreadWithin shape (length b.now) at (length maxima.now) }
     ensures { result ≡ thread_passes maxima.now shape b.now at }
@@ -120,6 +124,7 @@ pub fn thread_readable(b: &[u8], at: usize, shape: Shape, maxima: &[u32]) -> boo
 }
 
 // The threads' records. From one to the next there are as many words as there are maxima, a number that the compiler knows.
+#[inline(always)]
 fn threads_readable(b: &[u8], frame: Frame, maxima: &[u32]) -> bool
     requires { ThreadsWithin frame (length b.now) (length maxima.now) }
     ensures { result ≡ all_records (thread_passes maxima.now frame.shape) frame.stride b.now frame.threads frame.shape.threads }
@@ -138,6 +143,7 @@ fn threads_readable(b: &[u8], frame: Frame, maxima: &[u32]) -> bool
 }
 
 // The greatest value of each word of a thread's record.
+#[inline(always)]
 fn thread_maxima(shape: Shape) -> [u32; 36]
     requires { InRange shape }
     ensures { result ≡ thread_maxima counter_size shape }
@@ -230,6 +236,7 @@ fn tree_readable(b: &[u8], frame: Frame) -> bool
 }
 
 // Every field of the frame's parts.
+#[inline(never)]
 fn fields_readable(b: &[u8], frame: Frame) -> bool
     requires { WideWithin frame (length b.now) }
     ensures { result ≡ fields_readable frame b.now }

@@ -46,6 +46,7 @@ impl Frame {
         }
     }
 
+    #[inline(always)]
     pub fn load_node(self, b: &[u8], n: u32) -> Node
         requires { Within self (length b.now) }
         ensures { result ≡ node_in self b.now n }
@@ -62,6 +63,7 @@ impl Frame {
         load_node_at(b, self.nodes + NODE_SIZE * (k - 1))
     }
 
+    #[inline(always)]
     pub fn store_node(self, b: &mut [u8], n: u32, node: Node)
         requires { Within self (length b.old) }
         ensures { b.new ≡ set_node_in self b.old n node }
@@ -78,6 +80,7 @@ impl Frame {
         store_node_at(b, self.nodes + NODE_SIZE * (k - 1), node);
     }
 
+    #[inline(always)]
     pub fn load_cell(self, b: &[u8], c: u32) -> Cell
         requires { Within self (length b.now) }
         ensures { result ≡ cell_in self b.now c }
@@ -94,6 +97,7 @@ impl Frame {
         load_cell_at(b, self.cells + CELL_SIZE * (k - 1))
     }
 
+    #[inline(always)]
     pub fn store_cell(self, b: &mut [u8], c: u32, cell: Cell)
         requires { Within self (length b.old) }
         ensures { b.new ≡ set_cell_in self b.old c cell }
@@ -127,6 +131,7 @@ impl Frame {
         load_thread_at(b, self.threads + self.stride * (k - 1))
     }
 
+    #[inline(always)]
     pub fn store_thread(self, b: &mut [u8], t: u32, thread: Thread)
         requires { Within self (length b.old) }
         ensures { b.new ≡ set_thread_in self b.old t thread }
@@ -144,6 +149,7 @@ impl Frame {
     }
 
     // Stores a thread's permission, the first word of its record, and no other word.
+    #[inline(always)]
     pub fn store_permission(self, b: &mut [u8], t: u32, permission: u32)
         requires { Within self (length b.old) }
         ensures { b.new ≡ set_permission_in self b.old t permission }
@@ -161,6 +167,7 @@ impl Frame {
     }
 
     // The present depth.
+    #[inline(always)]
     pub fn load_depth(self, b: &[u8]) -> u32
         requires { Within self (length b.now) }
         ensures { result ≡ word b.now self.depth }
@@ -168,6 +175,7 @@ impl Frame {
         words::load_word(b, self.depth)
     }
 
+    #[inline(always)]
     pub fn store_depth(self, b: &mut [u8], depth: u32)
         requires { Within self (length b.old) }
         ensures { b.new ≡ set_word b.old self.depth depth }
@@ -176,6 +184,7 @@ impl Frame {
     }
 
     // The first free cell.
+    #[inline(always)]
     pub fn load_free(self, b: &[u8]) -> u32
         requires { Within self (length b.now) }
         ensures { result ≡ word b.now self.free }
@@ -183,6 +192,7 @@ impl Frame {
         words::load_word(b, self.free)
     }
 
+    #[inline(always)]
     pub fn store_free(self, b: &mut [u8], free: u32)
         requires { Within self (length b.old) }
         ensures { b.new ≡ set_word b.old self.free free }

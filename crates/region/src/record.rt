@@ -105,6 +105,7 @@ impl NodeCopy {
 }
 
 // The node at word `at`.
+#[inline(always)]
 pub fn load_node_at(b: &[u8], at: usize) -> Node
     requires { 4 * (at + node_size counter_size) ≤ length b.now }
     ensures { result ≡ node_at counter_size b.now at }
@@ -119,6 +120,7 @@ pub fn load_node_at(b: &[u8], at: usize) -> Node
     }
 }
 
+#[inline(always)]
 pub fn store_node_at(b: &mut [u8], at: usize, n: Node)
     requires { 4 * (at + node_size counter_size) ≤ length b.old }
     ensures { b.new ≡ set_node_at counter_size b.old at n }
@@ -128,6 +130,7 @@ pub fn store_node_at(b: &mut [u8], at: usize, n: Node)
 }
 
 // The cell at word `at`.
+#[inline(always)]
 pub fn load_cell_at(b: &[u8], at: usize) -> Cell
     requires { 4 * (at + cell_size) ≤ length b.now }
     ensures { result ≡ cell_at b.now at }
@@ -143,6 +146,7 @@ pub fn load_cell_at(b: &[u8], at: usize) -> Cell
     }
 }
 
+#[inline(always)]
 pub fn store_cell_at(b: &mut [u8], at: usize, c: Cell)
     requires { 4 * (at + cell_size) ≤ length b.old }
     ensures { b.new ≡ set_cell_at b.old at c }
@@ -152,6 +156,7 @@ pub fn store_cell_at(b: &mut [u8], at: usize, c: Cell)
 }
 
 // The node copy at word `at`.
+#[inline(always)]
 pub fn load_copy_at(b: &[u8], at: usize) -> NodeCopy
     requires { 4 * (at + copy_size counter_size) ≤ length b.now }
     ensures { result ≡ copy_at counter_size b.now at }
@@ -161,6 +166,7 @@ pub fn load_copy_at(b: &[u8], at: usize) -> NodeCopy
     NodeCopy::of(a[0], a[1], a[2], a[3], a[4], a[5], a[6])
 }
 
+#[inline(always)]
 pub fn store_copy_at(b: &mut [u8], at: usize, q: NodeCopy)
     requires { 4 * (at + copy_size counter_size) ≤ length b.old }
     ensures { b.new ≡ set_copy_at counter_size b.old at q }

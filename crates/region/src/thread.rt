@@ -88,6 +88,7 @@ pub fn load_thread_at(b: &[u8], at: usize) -> Thread
     }
 }
 
+#[inline(always)]
 pub fn store_thread_at(b: &mut [u8], at: usize, t: Thread)
     requires { 4 * (at + thread_size counter_size) ≤ length b.old }
     ensures { b.new ≡ set_thread_at counter_size b.old at t }

@@ -5,12 +5,14 @@ ghost use Rattle.std.specs.Prelude.{◌≡◌, ◌+◌, ◌*◌, ◌≤◌, leng
 ghost use Rattle.words.specs.Word.{word, set_word, words_at, set_words};
 
 // Four bytes, the least first, as one number.
+#[inline(always)]
 fn join(a: u8, b: u8, c: u8, d: u8) -> u32
     ensures { result ≡ a + 256 * b + 65536 * c + 16777216 * d }
 {
     a as u32 + 256 * (b as u32) + 65536 * (c as u32) + 16777216 * (d as u32)
 }
 
+#[inline(always)]
 pub fn load_word(b: &[u8], k: usize) -> u32
     requires { 4 * k + 4 ≤ length b.now }
     ensures { result ≡ word b.now k }
@@ -19,6 +21,7 @@ pub fn load_word(b: &[u8], k: usize) -> u32
     join(b[at], b[at + 1], b[at + 2], b[at + 3])
 }
 
+#[inline(always)]
 pub fn store_word(b: &mut [u8], k: usize, v: u32)
     requires { 4 * k + 4 ≤ length b.old }
     ensures { b.new ≡ set_word b.old k v }
@@ -31,6 +34,7 @@ pub fn store_word(b: &mut [u8], k: usize, v: u32)
 }
 
 // Fills out with the words from word `at` on.
+#[inline(always)]
 pub fn load_words(b: &[u8], at: usize, out: &mut [u32])
     requires { 4 * (at + length out.old) ≤ length b.now }
     ensures { out.new ≡ words_at b.now at (length out.old) }
@@ -43,6 +47,7 @@ pub fn load_words(b: &[u8], at: usize, out: &mut [u32])
 }
 
 // Stores vs as the words from word `at` on.
+#[inline(always)]
 pub fn store_words(b: &mut [u8], at: usize, vs: &[u32])
     requires { 4 * (at + length vs.now) ≤ length b.old }
     ensures { b.new ≡ set_words b.old at vs.now }

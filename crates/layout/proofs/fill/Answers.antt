@@ -1,6 +1,9 @@
 -- `layout::fill` meets its contract: the loop keeps `Filled`. Assumes nothing.
-use Rattle.layout.proofs.Loops.{fill_more, fill_end}
+use Rattle.layout.proofs.Loops.{fill_start, fill_more, fill_end}
 use Rattle.layout.proofs.fill.Goals as goal
+
+pub loop-k-init : goal.loop-k-init
+loop-k-init c = search fill_start
 
 pub loop-k-preserved : goal.loop-k-preserved
 loop-k-preserved c = search fill_more
