@@ -68,6 +68,24 @@ fn exported() -> Vec<String> {
     source.split("pub extern \"C\" fn ").skip(1).map(name).collect()
 }
 
+/// Each public function of a source up to its body, that is comment, head and clauses, without what makes it an export
+/// and without layout.
+fn promises(source: &str) -> Vec<String> {
+    let source = text(source).replace("#[unsafe(no_mangle)]\n", "").replace("extern \"C\" ", "");
+    let items = source.split("\n\n").filter(|item| item.contains("pub fn "));
+    let promise = |item: &str| item.split("\n{\n").next().expect("a part").to_owned();
+    let without_layout =
+        |promise: String| promise.split_whitespace().collect::<String>().replace(",)", ")");
+    items.map(promise).map(without_layout).collect()
+}
+
+#[test]
+fn the_exports_promise_what_the_calls_do() {
+    let exports = promises("crates/mound_c/src/lib.rt");
+    assert_eq!(exports.len(), exported().len());
+    assert_eq!(exports, promises("crates/mound/src/lib.rt"));
+}
+
 #[test]
 fn the_header_has_every_refusal() {
     assert_eq!(header_constant("MOUND_DONE"), Some(0));
