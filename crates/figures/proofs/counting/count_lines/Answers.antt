@@ -1,21 +1,12 @@
 -- `figures::counting::count_lines` meets its contract: the loop keeps `Counting`. Assumes nothing.
-use Rattle.figures.proofs.TurnsCounted.{count_end, count_less, count_more, count_past, count_ready, count_start, count_unread, countable}
+use Rattle.figures.proofs.TurnsCounted.{count_end, count_less, count_more, count_past, count_unread}
 use Rattle.figures.proofs.counting.count_lines.Goals as goal
-
-pub loop-at-init : goal.loop-at-init
-loop-at-init c = search count_start
 
 pub returns-then-input-at-eq10 : goal.returns-then-input-at-eq10
 returns-then-input-at-eq10 c = search count_end
 
 pub returns-in_default : goal.returns-in_default
 returns-in_default c = search (count_unread, c.loop-at.invariant)
-
-pub count_line-requires : goal.count_line-requires
-count_line-requires c = search countable
-
-pub make_call-requires : goal.make_call-requires
-make_call-requires c = search count_ready
 
 pub loop-at-smaller : goal.loop-at-smaller
 loop-at-smaller c = search count_less

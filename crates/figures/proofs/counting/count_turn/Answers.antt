@@ -1,5 +1,5 @@
 -- `figures::counting::count_turn` meets its contract: in the total, and in the row of a thread that has one. Assumes nothing.
-use Rattle.figures.proofs.TurnsCounted.{both_counted, frame_there, row_fits, some_thread, thread_row, total_counted, total_row}
+use Rattle.figures.proofs.TurnsCounted.{both_counted, frame_there, some_thread, thread_row, total_counted}
 use Rattle.figures.proofs.counting.count_turn.Goals as goal
 
 pub load_thread-t-requires : goal.load_thread-t-requires
@@ -8,14 +8,8 @@ load_thread-t-requires c = search frame_there
 pub turn_plan-plan-requires : goal.turn_plan-plan-requires
 turn_plan-plan-requires c = search frame_there
 
-pub add_turn-requires : goal.add_turn-requires
-add_turn-requires c = search total_row
-
 pub overflow_sub-n : goal.overflow_sub-n
 overflow_sub-n c = search some_thread
-
-pub overflow_mul-n : goal.overflow_mul-n
-overflow_mul-n c = search row_fits
 
 pub add_turn-requires-then-is_between : goal.add_turn-requires-then-is_between
 add_turn-requires-then-is_between c = search thread_row

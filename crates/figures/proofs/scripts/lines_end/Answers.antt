@@ -1,9 +1,6 @@
 -- `figures::scripts::lines_end` meets its contract: the loop keeps `Ending`. Assumes nothing.
-use Rattle.figures.proofs.LinesRead.{end_found, end_less, end_more, end_past, end_start, end_unread}
+use Rattle.figures.proofs.LinesRead.{end_found, end_less, end_more, end_past, end_unread}
 use Rattle.figures.proofs.scripts.lines_end.Goals as goal
-
-pub loop-at-init : goal.loop-at-init
-loop-at-init c = search end_start
 
 pub returns-then-s-at-eq10 : goal.returns-then-s-at-eq10
 returns-then-s-at-eq10 c = search end_found

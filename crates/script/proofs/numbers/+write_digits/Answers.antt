@@ -1,13 +1,10 @@
 -- `script::numbers::write_digits` meets its contract: all digits but the last, then the last. Its measure is the number. Assumes nothing.
 use native.Mathlib.Omega.{arith}
-use Rattle.script.proofs.Decimals.{one_digit, digit_room, after_digit, last_digit, fewer_digits, last_room, after_last}
+use Rattle.script.proofs.Decimals.{one_digit, digit_room, last_digit, fewer_digits, last_room}
 use Rattle.script.proofs.numbers.+write_digits.Goals as goal
 
 pub bounds-out-at : goal.bounds-out-at
 bounds-out-at t c = search digit_room
-
-pub overflow_add-result : goal.overflow_add-result
-overflow_add-result t c = search after_digit
 
 pub returns-then-n-lt10 : goal.returns-then-n-lt10
 returns-then-n-lt10 t c = search one_digit
@@ -17,9 +14,6 @@ write_digits-last-requires t c = (omega arith, search fewer_digits)
 
 pub bounds-out-last : goal.bounds-out-last
 bounds-out-last t c = search last_room
-
-pub overflow_add-result-2 : goal.overflow_add-result-2
-overflow_add-result-2 t c = search after_last
 
 pub returns : goal.returns
 returns t c = search last_digit

@@ -1,9 +1,6 @@
 -- `script::numbers::digits_then` meets its contract: the loop keeps `Reading`. Assumes nothing.
-use Rattle.script.proofs.Decimals.{read_start, read_past, read_end, read_other, digit_48, digit_fits, value_fits, read_great, read_more}
+use Rattle.script.proofs.Decimals.{read_past, read_end, read_other, digit_48, read_great, read_more}
 use Rattle.script.proofs.numbers.digits_then.Goals as goal
-
-pub loop-k-init : goal.loop-k-init
-loop-k-init c = search read_start
 
 pub returns-then-c-end : goal.returns-then-c-end
 returns-then-c-end c = search read_end
@@ -13,12 +10,6 @@ returns-then-not-is_digit c = search read_other
 
 pub overflow_sub-v : goal.overflow_sub-v
 overflow_sub-v c = search digit_48
-
-pub overflow_cast-v : goal.overflow_cast-v
-overflow_cast-v c = search digit_fits
-
-pub overflow_add-v : goal.overflow_add-v
-overflow_add-v c = search value_fits
 
 pub returns-then-v-gt4294967295 : goal.returns-then-v-gt4294967295
 returns-then-v-gt4294967295 c = search read_great

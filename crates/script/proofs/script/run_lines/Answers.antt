@@ -1,21 +1,12 @@
 -- `script::script::run_lines` meets its contract: the loop keeps `Running`. Assumes nothing.
-use Rattle.script.proofs.LineCalls.{line_fits, line_room, run_end, run_less, run_more, run_start, run_unreadable}
+use Rattle.script.proofs.LineCalls.{run_end, run_less, run_more, run_start, run_unreadable}
 use Rattle.script.proofs.script.run_lines.Goals as goal
 
 pub loop-at-init : goal.loop-at-init
 loop-at-init c = search run_start
 
-pub write_line-requires : goal.write_line-requires
-write_line-requires c = search line_room
-
 pub returns-in_default : goal.returns-in_default
 returns-in_default c = search run_unreadable
-
-pub write_line-printed-requires : goal.write_line-printed-requires
-write_line-printed-requires c = search line_room
-
-pub overflow_add-line : goal.overflow_add-line
-overflow_add-line c = search line_fits
 
 pub loop-at-smaller : goal.loop-at-smaller
 loop-at-smaller c = search run_less

@@ -1,9 +1,6 @@
 -- `script::text::text_at` meets its contract: the loop keeps `Compared`. Assumes nothing.
-use Rattle.script.proofs.Texts.{compare_start, compare_short, compare_other, compare_more, compare_end}
+use Rattle.script.proofs.Texts.{compare_short, compare_other, compare_more, compare_end}
 use Rattle.script.proofs.text.text_at.Goals as goal
-
-pub loop-i-init : goal.loop-i-init
-loop-i-init c = search compare_start
 
 pub returns-then-s-k : goal.returns-then-s-k
 returns-then-s-k c = search compare_short
