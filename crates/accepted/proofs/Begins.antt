@@ -7,7 +7,8 @@ use mathlib.Core.List.{List, [], ◌∷◌, ◌++◌}
 use borrow.Author.Tests.{eqb-true}
 use lib.Dec.{eqb}
 use lib.ListN.{length}
-use Rattle.region.specs.Answer.{done, unreadable}
+use Rattle.region.specs.Refusal.{Checked, code_of, done, ◌unless◌otherwise◌}
+use Rattle.region.specs.declared.refusal.Refusal.TheVariants.{Unreadable}
 use Rattle.region.specs.Pick.{pick}
 use Rattle.region.specs.Record.{is_item}
 use Rattle.region.specs.Shape.{between}
@@ -17,7 +18,7 @@ use Rattle.region.proofs.Picks.{pick_good}
 use Rattle.region.proofs.Shapes.{between_least, between_most, is_between}
 use Rattle.readable.specs.Readable.{frame_in, readable}
 use Rattle.readable.proofs.Laws.{good}
-use Rattle.begin.specs.Begin.{put_refusal, put_refusal_in, take_refusal, take_refusal_in}
+use Rattle.begin.specs.Begin.{put_check_in, put_refusal, put_refusal_in, take_check_in, take_refusal, take_refusal_in}
 use Rattle.run.specs.Run.{Served, Turn, run_refusal, serve, so_far, turns_from}
 use Rattle.preserved.proofs.Proved.{put_passed, take_passed}
 use Rattle.theory.specs.Told.{Told, nothing, begins_put, begins_take, begins_list, decides_put, decides_take, decides_list, decides_empty, answers_took, withdraws}
@@ -48,7 +49,7 @@ begin_append [] ys a b = b
 begin_append (x ∷ xs) ys a b = (a.0, begin_append xs ys a.1 b)
 
 -- a call that is not refused 7 has the rest of its tests passed
-passed : (q : Bool) (n : ℕ) → pick q n unreadable ≡ done → (q ≡ true) × (n ≡ done)
+passed : (q : Bool) (x : Checked) → code_of (Unreadable unless q otherwise x) ≡ done → (q ≡ true) × (code_of x ≡ done)
 unfolding pick
 passed true n e = (refl, e)
 passed false n e = absurd (omega (arith, e))
@@ -60,16 +61,16 @@ few_threads b e t h =
     (let m = between_most 1 t (frame_in b).shape.threads h in omega (arith, m, r.threads_most))
 
 put_in_range : (b : List ℕ) (t : ℕ) (i : Item) → put_refusal b t i ≡ done → (between 1 t 64 ≡ true) × (is_item i ≡ true)
-unfolding put_refusal
+unfolding put_refusal put_refusal_in
 put_in_range b t i e =
-    let a = passed (readable b) (put_refusal_in (frame_in b) b t i) e in
+    let a = passed (readable b) (put_check_in (frame_in b) b t i) e in
     let p = put_passed (frame_in b) b t i a.1 in
     (few_threads b a.0 t p.thread, p.item)
 
 take_in_range : (b : List ℕ) (t : ℕ) → take_refusal b t ≡ done → between 1 t 64 ≡ true
-unfolding take_refusal
+unfolding take_refusal take_refusal_in
 take_in_range b t e =
-    let a = passed (readable b) (take_refusal_in (frame_in b) b t) e in
+    let a = passed (readable b) (take_check_in (frame_in b) b t) e in
     few_threads b a.0 t (take_passed (frame_in b) b t a.1).thread
 
 call_begins : (b : List ℕ) (c : Call) → BeginsInRange (tells (called c (refusal_of b c)))

@@ -6,10 +6,12 @@ use mathlib.Core.Bool.{Bool, true, false}
 use mathlib.Core.List.{[]}
 use borrow.Author.Tests.{eqb-true, eqb-false}
 use lib.Dec.{eqb}
-use Rattle.region.specs.Answer.{bad_records, done}
+use Rattle.std.specs.Prelude.{Ok}
+use Rattle.region.specs.Refusal.{done, ◌unless◌otherwise◌}
+use Rattle.region.specs.declared.refusal.Refusal.TheVariants.{BadRecords}
 use Rattle.region.specs.Pick.{pick}
 use Rattle.theory.specs.Ledger.{empty_ledger}
-use Rattle.records.specs.Accepts.{accepts, by_position, claimant, records_answer, rejected}
+use Rattle.records.specs.Accepts.{accepts, by_position, claimant, records_answer, rejected, verdict_code}
 use Rattle.records.specs.Recorded.{record_count, recorded_at, well_formed}
 use Rattle.records.specs.declared.form.Recorded.{Recorded}
 use Rattle.records.proofs.Accepted.{Accepted, accepted_all}
@@ -85,7 +87,7 @@ module _ (n : ℕ) (r : ℕ → Recorded) (a : Accepted n r) where
   as_claimed = record { linearization = linearization; claimed = λ i h. let p = a.first i h in omega (arith, p) }
 
 -- an answer of 0 is neither the refusal nor a no
-answered_done : (w a : Bool) → pick w (pick a done rejected) bad_records ≡ done → a ≡ true
+answered_done : (w a : Bool) → verdict_code (BadRecords unless w otherwise Ok a) ≡ done → a ≡ true
 unfolding pick
 answered_done true true e = refl
 answered_done true false e = absurd (omega (arith, e))

@@ -1,7 +1,7 @@
 -- What is proved of records (document 02, request 9; proofs/Theorems.antt).
 use Rattle.std.specs.Prelude.{ℕ, ◌≤◌, ◌≡◌, true, List, [], length}
 use Rattle.words.specs.Inner.{Bytes}
-use Rattle.region.specs.Answer.{done}
+use Rattle.region.specs.Refusal.{done}
 use Rattle.theory.specs.Ledger.{empty_ledger}
 use Rattle.records.specs.Accepts.{records_answer}
 use Rattle.records.specs.Play.{plays}

@@ -4,6 +4,7 @@ use Rattle.region.specs.Thread.{at_place}
 use Rattle.region.specs.declared.answer.Answer.{Answer}
 use Rattle.region.specs.declared.answer.Answer.TheVariants.{Moved, Idle, Inserted, Took, Empty, Refused, Withdrawn}
 use Rattle.region.specs.declared.place.Place.{Place}
+use Rattle.region.specs.declared.refusal.Refusal.{Refusal}
 use Rattle.region.specs.declared.thread.Thread.{Thread}
 use Rattle.access.specs.declared.effect.Effect.{Effect}
 use Rattle.access.specs.declared.effect.Effect.TheVariants.{Nothing}
@@ -23,9 +24,9 @@ unfolding moved
 on_to t p = moved (at_place t p)
 
 -- a refused turn: "the thread keeps its place", since a refused turn stores nothing, whatever record its plan has
-unfoldable pub refused : Thread → ℕ → Plan
+unfoldable pub refused : Thread → Refusal → Plan
 unfolding plan
-refused t n = plan Nothing t (Refused n)
+refused t r = plan Nothing t (Refused r)
 
 -- a turn that changes no byte: idle or refused
 abbrev pub changes_nothing : Answer → Bool

@@ -6,10 +6,7 @@ mod order;
 mod plan;
 mod read;
 
-pub use effect::{
-    Effect, carry_cleaning, carry_detaching, carry_exchange, carry_freeing, carry_growth,
-    carry_pop, carry_push,
-};
+pub use effect::Effect;
 pub use order::{item_le, item_lt, value_of};
 pub use plan::{Plan, accesses_of, moved, on_to, plan_of, refused};
 pub use read::{is_dirty, is_level, is_node, is_spent, read_node, same_node, updated_node};

@@ -3,7 +3,7 @@ ghost use Rattle.std.specs.Prelude.{◌≡◌};
 ghost use Rattle.access.specs.Plan.{accesses_of, moved, on_to, plan, refused};
 
 use crate::effect::Effect;
-use region::{Answer, Place, Thread};
+use region::{Answer, Place, Refusal, Thread};
 
 // The effect on shared memory, the thread's record afterwards, and the answer.
 #[derive(Clone, Copy)]
@@ -13,6 +13,9 @@ pub struct Plan {
     pub answer: Answer,
 }
 
+// A plan from its parts.
+// stays: `plan` of specs/Plan.antt in code; as a struct expression it would take five lines at each of its uses.
+#[tactic(auto, unfolding(crate::specs::Plan::plan))]
 pub fn plan_of(effect: Effect, thread: Thread, answer: Answer) -> Plan
     ensures { result ≡ plan effect thread answer }
 {
@@ -24,6 +27,7 @@ pub fn plan_of(effect: Effect, thread: Thread, answer: Answer) -> Plan
 }
 
 // The thread's record is all that changes.
+#[tactic(auto, unfolding(crate::specs::Plan::moved))]
 pub fn moved(thread: Thread) -> Plan
     ensures { result ≡ moved thread }
 {
@@ -31,6 +35,7 @@ pub fn moved(thread: Thread) -> Plan
 }
 
 // The thread goes on to a place, and nothing else changes.
+#[tactic(auto, unfolding(crate::specs::Plan::on_to))]
 pub fn on_to(thread: Thread, place: Place) -> Plan
     ensures { result ≡ on_to thread place }
 {
@@ -38,10 +43,11 @@ pub fn on_to(thread: Thread, place: Place) -> Plan
 }
 
 // A refused turn.
-pub fn refused(thread: Thread, number: u32) -> Plan
-    ensures { result ≡ refused thread number }
+#[tactic(auto, unfolding(crate::specs::Plan::refused))]
+pub fn refused(thread: Thread, refusal: Refusal) -> Plan
+    ensures { result ≡ refused thread refusal }
 {
-    plan_of(Effect::Nothing, thread, Answer::Refused(number))
+    plan_of(Effect::Nothing, thread, Answer::Refused(refusal))
 }
 
 // The accesses of a turn with this answer.
@@ -49,12 +55,7 @@ pub fn accesses_of(answer: Answer) -> u32
     ensures { result ≡ accesses_of answer }
 {
     match answer {
-        Answer::Moved => 1,
-        Answer::Idle => 0,
-        Answer::Inserted => 1,
-        Answer::Took(_) => 1,
-        Answer::Empty => 1,
-        Answer::Refused(_) => 0,
-        Answer::Withdrawn => 0,
+        Answer::Moved | Answer::Inserted | Answer::Took(_) | Answer::Empty => 1,
+        Answer::Idle | Answer::Refused(_) | Answer::Withdrawn => 0,
     }
 }

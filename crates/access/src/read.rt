@@ -1,40 +1,34 @@
 // READ of a node, the comparison of an update, and the counter.
 ghost use Rattle.std.specs.Prelude.{◌≡◌, false, ◌≤◌, ◌<◌, length};
-ghost use Rattle.region.specs.Inner.{Within};
+ghost use Rattle.region.specs.Held.{viewed};
 ghost use Rattle.region.specs.Shared.{shared_in};
 ghost use Rattle.access.specs.Read.{is_dirty, is_level, is_node, is_spent, read_node, same_node, updated};
 
-use region::{Frame, Node, NodeCopy, Shape};
+use region::{Node, NodeCopy, Shape, View};
 
 // The last value of a word of a counter.
-const LAST: u32 = 4294967295;
+const LAST: u32 = u32::MAX;
 
 // READ of node n, with its head cell.
-pub fn read_node(f: Frame, b: &[u8], n: u32) -> NodeCopy
-    requires { Within f (length b.now) }
-    ensures { result ≡ read_node (shared_in f b.now) n }
+#[tactic(auto, unfolding(crate::specs::Read::read_node, region::specs::Shared::shared_in))]
+#[inline(always)]
+pub fn read_node(view: View, n: u32) -> NodeCopy
+    ensures { result ≡ read_node (viewed view.entry) n }
 {
-    let node = f.load_node(b, n);
-    let head = f.load_cell(b, node.first);
+    let node = view.node(n);
+    let head = view.cell(node.first);
     NodeCopy { node, head }
 }
 
 // Whether first cell, dirty and counter agree.
+#[tactic(auto, unfolding(crate::specs::Read::same_node))]
 pub fn same_node(a: Node, b: Node) -> bool
     ensures { result ≡ same_node a b }
 {
-    if a.first != b.first {
-        return false;
-    }
-    if a.dirty != b.dirty {
-        return false;
-    }
-    if a.low != b.low {
-        return false;
-    }
-    a.high == b.high
+    a == b
 }
 
+#[tactic(auto, unfolding(crate::specs::Read::is_dirty))]
 pub fn is_dirty(n: Node) -> bool
     ensures { result ≡ is_dirty n }
 {
@@ -42,16 +36,15 @@ pub fn is_dirty(n: Node) -> bool
 }
 
 // Whether the counter has its last value.
+#[tactic(auto, using(crate::proofs::Ways::low_decides, crate::proofs::Ways::high_decides))]
 pub fn is_spent(n: Node) -> bool
     ensures { result ≡ is_spent n }
 {
-    if n.low != LAST {
-        return false;
-    }
-    n.high == LAST
+    n.low == LAST && n.high == LAST
 }
 
 // The node with another list and mark, and its counter one more.
+#[tactic(auto, using(crate::proofs::ReadLaws::carry_fits), unfolding(crate::specs::Read::updated))]
 pub fn updated_node(n: Node, first: u32, dirty: u32) -> Node
     requires { is_spent n ≡ false }
     ensures { result ≡ updated n first dirty }
@@ -65,16 +58,15 @@ pub fn updated_node(n: Node, first: u32, dirty: u32) -> Node
     }
 }
 
+#[tactic(auto, unfolding(crate::specs::Read::is_node, region::specs::Shape::between))]
 pub fn is_node(shape: Shape, n: usize) -> bool
     requires { shape.depth ≤ 12 }
     ensures { result ≡ is_node shape n }
 {
-    if n < 1 {
-        return false;
-    }
-    n <= shape.node_count()
+    (1..=shape.node_count()).contains(&n)
 }
 
+#[tactic(auto, unfolding(crate::specs::Read::is_level))]
 pub fn is_level(shape: Shape, j: u32) -> bool
     ensures { result ≡ is_level shape j }
 {

@@ -9,7 +9,8 @@ use mathlib.Core.List.{List}
 use borrow.Author.Tests.{eq-eqb, ne_eqb}
 use lib.Dec.{eqb}
 use Rattle.words.specs.Word.{word}
-use Rattle.region.specs.Answer.{done, no_free_cell}
+use Rattle.region.specs.Refusal.{code_of, done, granted, number_of, ◌unless◌otherwise◌}
+use Rattle.region.specs.declared.refusal.Refusal.TheVariants.{NoFreeCell}
 use Rattle.region.specs.Frame.{frame_of_width}
 use Rattle.region.specs.Pick.{pick}
 use Rattle.region.specs.Shared.{shared_in, thread_in}
@@ -23,9 +24,13 @@ use Rattle.bag.specs.Account.{tree_cells, begun_puts, free_cells, hand_cells, Al
 
 -- where nothing else refuses a put, the first free cell decides
 cell_decides : (b : List ℕ) (t : ℕ) (i : Item) → NothingElseRefuses b t i
-    → put_refusal b t i ≡ pick (not (eqb (word b (frame_in b).free) 0)) done no_free_cell
+    → put_refusal b t i ≡ pick (not (eqb (word b (frame_in b).free) 0)) done (number_of NoFreeCell)
 unfolding put_refusal put_refusal_in has_free_cell frame_of_width pick
-cell_decides b t i a = rw (a.region, a.thread, a.item, a.permitted, a.idle) refl
+cell_decides b t i a = rw (a.region, a.thread, a.item, a.permitted, a.idle) (go (not (eqb (word b (frame_in b).free) 0)))
+  where
+    go : (q : Bool) → code_of (NoFreeCell unless q otherwise granted) ≡ pick q done (number_of NoFreeCell)
+    go true = refl
+    go false = refl
 
 -- Both, of every region of one queue of which the invariant holds.
 module _ (b : List ℕ) (l : Ledger) (here : Invariant (shape_in b) (shared_in (frame_in b) b) (thread_in (frame_in b) b) l (shape_in b).cells) where
@@ -54,8 +59,8 @@ module _ (b : List ℕ) (l : Ledger) (here : Invariant (shape_in b) (shared_in (
       first : ℕ
       first = word b (frame_in b).free
 
-      decided : (q : Bool) → eqb first 0 ≡ q → put_refusal b t i ≡ pick (not q) done no_free_cell
-      decided q e = cell_decides b t i a ∙ ap (λ x. pick (not x) done no_free_cell) e
+      decided : (q : Bool) → eqb first 0 ≡ q → put_refusal b t i ≡ pick (not q) done (number_of NoFreeCell)
+      decided q e = cell_decides b t i a ∙ ap (λ x. pick (not x) done (number_of NoFreeCell)) e
 
       go : Dec (first ≡ 0) → RefusedWhenFull b t i
       go (yes e) =

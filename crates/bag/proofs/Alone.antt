@@ -8,7 +8,7 @@ use mathlib.Core.List.{List, [], ◌∷◌}
 use borrow.Author.Tests.{eqb-false, eqb-true}
 use lib.Dec.{eqb}
 use lib.ListN.{length}
-use Rattle.region.specs.Answer.{counter_spent}
+use Rattle.region.specs.declared.refusal.Refusal.TheVariants.{CounterSpent}
 use Rattle.region.specs.Pick.{pick}
 use Rattle.region.specs.Place.{place_number}
 use Rattle.region.specs.Shape.{between}
@@ -184,23 +184,23 @@ module _ (goal : Goal) where
 
   -- A turn that is refused 11 or has the plan p.
   module _ (spent : ℕ) (m : Shared) (u : Thread) (c : ℕ) (q : Bool) (p : Plan)
-      (decides : goal.may u ≡ true → decide s m u c ≡ pick q (refused u counter_spent) p) where
+      (decides : goal.may u ≡ true → decide s m u c ≡ pick q (refused u CounterSpent) p) where
     module _ (b : List ℕ) (em : shared_in f b ≡ m) (eu : thread_in f b t ≡ u) (may : goal.may u ≡ true)
-        (none : turn_answer f b t c ≡ Refused counter_spent → ⊥) where
-      by_place : turn_plan f b t c ≡ pick q (refused u counter_spent) p
+        (none : turn_answer f b t c ≡ Refused CounterSpent → ⊥) where
+      by_place : turn_plan f b t c ≡ pick q (refused u CounterSpent) p
       by_place = turn_decides f b t c goal.least goal.most ∙ (λ i. decide s (em i) (eu i) c) ∙ decides may
 
       not_spent : q ≡ false
       unfolding turn_answer pick refused plan
       not_spent = go q by_place
         where
-          go : (q : Bool) → turn_plan f b t c ≡ pick q (refused u counter_spent) p → q ≡ false
+          go : (q : Bool) → turn_plan f b t c ≡ pick q (refused u CounterSpent) p → q ≡ false
           go true e = absurd (none (ap (λ x. x.answer) e))
           go false e = refl
 
       planned : turn_plan f b t c ≡ p
       unfolding pick
-      planned = by_place ∙ ap (λ x. pick x (refused u counter_spent) p) not_spent
+      planned = by_place ∙ ap (λ x. pick x (refused u CounterSpent) p) not_spent
 
     -- on to what p leaves
     turn_moves : p.answer ≡ Moved → (next : ℕ) → next ≡ spent + 1 → EndsFrom next (effect_shared m p.effect) p.thread
@@ -230,7 +230,7 @@ module _ (goal : Goal) where
 
   -- the same whatever the choice
   module _ (spent : ℕ) (m : Shared) (u : Thread) (few : spent < goal.end) (q : Bool) (p : Plan)
-      (decides : goal.may u ≡ true → (c : ℕ) → decide s m u c ≡ pick q (refused u counter_spent) p) where
+      (decides : goal.may u ≡ true → (c : ℕ) → decide s m u c ≡ pick q (refused u CounterSpent) p) where
     pub moves : p.answer ≡ Moved → (next : ℕ) → next ≡ spent + 1 → EndsFrom next (effect_shared m p.effect) p.thread → EndsNow spent m u
     moves a next up after =
         record { few = few; on = λ c. turn_moves spent m u c q p (λ may. decides may c) a next up after }

@@ -4,7 +4,8 @@ use mathlib.Core.Path.{◌≡◌, refl, sym, ap, subst, ◌∙◌}
 use mathlib.Core.Bool.{Bool, true, false, not, ◌&&◌, ◌||◌, true≢false}
 use mathlib.Core.List.{List}
 use lib.Dec.{eqb}
-use Rattle.region.specs.Answer.{unreadable}
+use Rattle.region.specs.declared.refusal.Refusal.{Refusal}
+use Rattle.region.specs.declared.refusal.Refusal.TheVariants.{Unreadable}
 use Rattle.region.specs.Pick.{pick}
 use Rattle.region.specs.Shape.{between}
 use Rattle.region.specs.Shared.{Shared, shared_in, thread_in}
@@ -32,7 +33,7 @@ use Rattle.preserved.proofs.PlansGood.{or_left, or_right}
 use Rattle.permission.specs.Withdraw.{is_unreadable, lacks_permission, permitted, withdrawal}
 use Rattle.run.specs.Run.{Turn}
 use Rattle.machine.specs.Inner.{is_withdrawn}
-use Rattle.machine.proofs.PlaceEffects.{plan_fits}
+use Rattle.machine.proofs.PlaceEffects.{plan_ends}
 use Rattle.machine.specs.Turn.{decide, decide_at, turn_answer, turn_plan}
 use Rattle.theory.specs.Told.{nothing, decides_empty, decides_put}
 use Rattle.theory.proofs.Steps.{effect_tells, quiet_tells}
@@ -65,7 +66,7 @@ module _ (i : Item) (is : List Item) (u : ℕ) where
   unfolding plan
   plan_says p e t a k h = record { tells_so = k; says = h }
 
-  refused_says : (p : Place) (t : Thread) (n : ℕ) → Spoken p (refused t n)
+  refused_says : (p : Place) (t : Thread) (n : Refusal) → Spoken p (refused t n)
   unfolding refused
   refused_says p t n = plan_says p Nothing t (Refused n) refl says_refused
 
@@ -186,7 +187,7 @@ module _ (i : Item) (is : List Item) (u : ℕ) where
   withdrawal_says : (p : Place) (t : Thread) → Spoken p (withdrawal t)
   unfolding withdrawal
   withdrawal_says p t =
-      either p _ (either p _ (refused_says p t unreadable) (plan_says p (Free t.own) _ _ refl says_withdrawn))
+      either p _ (either p _ (refused_says p t Unreadable) (plan_says p (Free t.own) _ _ refl says_withdrawn))
       (plan_says p Nothing _ _ refl says_withdrawn)
 
 plan_spoken : (f : Frame) (b : List ℕ) (t c : ℕ) → Spoken (root_item f b) (root_items f b) t (thread_in f b t).place (turn_plan f b t c)
@@ -210,7 +211,7 @@ module _ (f : Frame) (b : List ℕ) (t c : ℕ) where
       let p = decide_at f.shape (shared_in f b) u c u.place in
       pick_good ByWithdrawal (between 1 t f.shape.threads)
       (λ e. pick_good ByWithdrawal (lacks_permission u && not (is_unreadable p.answer)) (λ k h. refl)
-      (λ k h. absurd (true≢false (sym (ap is_withdrawn h) ∙ (plan_fits f.shape (shared_in f b) u c u.place).own_answer))))
+      (λ k h. absurd (true≢false (sym (ap is_withdrawn h) ∙ (plan_ends f.shape (shared_in f b) u c u.place).own_answer))))
       (λ e h. absurd (true≢false (sym (ap is_withdrawn h))))
 
 -- a turn on bytes in range

@@ -4,7 +4,7 @@ use Prim.Native.Nat.{ℕ, ◌≤◌}
 use mathlib.Core.Path.{◌≡◌, refl, ap, ◌∙◌}
 use mathlib.Core.Bool.{Bool, true, false, true≢false}
 use mathlib.Core.List.{List}
-use Rattle.region.specs.Answer.{bad_thread}
+use Rattle.region.specs.declared.refusal.Refusal.TheVariants.{BadThread}
 use Rattle.region.specs.Pick.{pick, upd}
 use Rattle.region.specs.Record.{counter_size}
 use Rattle.region.specs.Shape.{between}
@@ -67,7 +67,7 @@ module _ (f : Frame) (b : List ℕ) (t c : ℕ) where
   thread_exists e = go (between 1 t f.shape.threads) e
     where
       go : (q : Bool)
-          → changes_nothing (pick q (decide f.shape (shared_in f b) (thread_in f b t) c) (refused (idle_thread 0) bad_thread)).answer ≡ false
+          → changes_nothing (pick q (decide f.shape (shared_in f b) (thread_in f b t) c) (refused (idle_thread 0) BadThread)).answer ≡ false
           → q ≡ true
       go true h = refl
       go false h = absurd (true≢false h)

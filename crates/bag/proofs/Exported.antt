@@ -7,7 +7,7 @@ use mathlib.Core.Bool.{Bool, true, false}
 use mathlib.Core.List.{List, [], ◌∷◌}
 use lib.Dec.{eqb}
 use lib.ListN.{length}
-use Rattle.region.specs.Answer.{done}
+use Rattle.region.specs.Refusal.{done}
 use Rattle.region.specs.Pick.{pick}
 use Rattle.region.specs.declared.frame.Frame.{Frame}
 use Rattle.readable.specs.Readable.{frame_in}

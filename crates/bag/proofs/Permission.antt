@@ -7,7 +7,8 @@ use mathlib.Core.Bool.{Bool, true, false, not, ◌||◌, true≢false}
 use mathlib.Core.List.{List}
 use borrow.Author.Tests.{eqb-true, eqb-false, ne_eqb, not-false}
 use lib.Dec.{eqb}
-use Rattle.region.specs.Answer.{bad_thread, done, unreadable}
+use Rattle.region.specs.Refusal.{done}
+use Rattle.region.specs.declared.refusal.Refusal.TheVariants.{BadThread, Unreadable}
 use Rattle.region.specs.Pick.{pick}
 use Rattle.region.specs.Place.{place_number}
 use Rattle.region.specs.Shape.{between}
@@ -132,7 +133,7 @@ not_lacking f b t c = go (between 1 t f.shape.threads) (lacks_permission (thread
     p = decide_at f.shape (shared_in f b) (thread_in f b t) c (thread_in f b t).place
 
     go : (q l : Bool) → lacks_permission (thread_in f b t) ≡ l
-        → undone (pick q (permitted (thread_in f b t) p) (refused (idle_thread 0) bad_thread)).answer ≡ false → l ≡ false
+        → undone (pick q (permitted (thread_in f b t) p) (refused (idle_thread 0) BadThread)).answer ≡ false → l ≡ false
     go q false e h = refl
     go true true e h = absurd (true≢false (sym (lacking_undone (thread_in f b t) p e) ∙ h))
     go false true e h = absurd (true≢false h)
@@ -171,8 +172,8 @@ module _ (t : Thread) where
   withdraws_idle = go (is_put_place t.place) refl (eqb t.own 0) refl
     where
       go : (p : Bool) → is_put_place t.place ≡ p → (q : Bool) → eqb t.own 0 ≡ q
-          → (pick p (pick q (refused t unreadable) (plan (Free t.own) (gone_idle t) Withdrawn)) (plan Nothing (gone_idle t) Withdrawn)).answer ≡ Withdrawn
-          → Withdraws (pick p (pick q (refused t unreadable) (plan (Free t.own) (gone_idle t) Withdrawn)) (plan Nothing (gone_idle t) Withdrawn))
+          → (pick p (pick q (refused t Unreadable) (plan (Free t.own) (gone_idle t) Withdrawn)) (plan Nothing (gone_idle t) Withdrawn)).answer ≡ Withdrawn
+          → Withdraws (pick p (pick q (refused t Unreadable) (plan (Free t.own) (gone_idle t) Withdrawn)) (plan Nothing (gone_idle t) Withdrawn))
       go true e true z h = absurd (true≢false (sym (ap is_withdrawn h)))
       go true e false z h = record { thread = refl; effect = λ k. (refl, eqb-false t.own 0 z) }
       go false e q z h = record { thread = refl; effect = λ k. absurd (true≢false (sym k ∙ e)) }

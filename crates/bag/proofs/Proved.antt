@@ -7,7 +7,7 @@ use mathlib.Core.List.{List, [], ◌∷◌, ◌++◌}
 use borrow.Author.Tests.{eqb-true}
 use lib.Dec.{eqb}
 use lib.ListN.{length}
-use Rattle.region.specs.Answer.{done}
+use Rattle.region.specs.Refusal.{done}
 use Rattle.region.specs.Frame.{frame_of, frame_of_width}
 use Rattle.region.specs.Pick.{pick}
 use Rattle.region.specs.Shape.{region_words}

@@ -7,7 +7,7 @@ use mathlib.Core.Bool.{false, true}
 use mathlib.Core.List.{List}
 use borrow.Author.Tests.{eq-eqb}
 use lib.Pow.{pow_pos}
-use Rattle.region.specs.Answer.{done}
+use Rattle.region.specs.Refusal.{done}
 use Rattle.region.specs.Frame.{frame_of_width}
 use Rattle.region.specs.Pick.{pick}
 use Rattle.region.specs.Shape.{node_count}

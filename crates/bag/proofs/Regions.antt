@@ -6,7 +6,8 @@ use mathlib.Core.Bool.{Bool, true, false}
 use mathlib.Core.List.{List}
 use borrow.Author.Tests.{eqb-true}
 use lib.Dec.{eqb}
-use Rattle.region.specs.Answer.{bad_thread, counter_spent, done}
+use Rattle.region.specs.Refusal.{done}
+use Rattle.region.specs.declared.refusal.Refusal.TheVariants.{BadThread, CounterSpent}
 use Rattle.region.specs.Pick.{pick, upd}
 use Rattle.region.specs.Shape.{between}
 use Rattle.region.specs.Shared.{Shared, thread_in, shared_in}
@@ -115,10 +116,10 @@ module _ (f : Frame) (all : ℕ) (b : List ℕ) (l : Ledger) (g : Region f all b
       there : Planned s m (owns th) t (th t).own (l.operation t) p
           → Follow f all l (effect_tells (root_item f b) (root_items f b) t p.answer p.effect) (turn_bytes f b t c)
       there (rests ee ea) = quiet_turn AnswersIdle refl refl ee ea
-      there (refuses ee ea) = quiet_turn (Refused counter_spent) refl refl ee ea
+      there (refuses ee ea) = quiet_turn (Refused CounterSpent) refl refl ee ea
       there (moves op' al sp ow at) = moving_turn op' al sp ow at
 
-    pub nowhere : between 1 t f.shape.threads ≡ false → turn_plan f b t c ≡ refused (idle_thread 0) bad_thread
+    pub nowhere : between 1 t f.shape.threads ≡ false → turn_plan f b t c ≡ refused (idle_thread 0) BadThread
     unfolding turn_plan pick
     nowhere e = rw e refl
 
@@ -132,7 +133,7 @@ module _ (f : Frame) (all : ℕ) (b : List ℕ) (l : Ledger) (g : Region f all b
             let lt = between_least 1 t s.threads e in
             let ut = between_most 1 t s.threads e in
             there lt ut (plan_fits t c lt ut)
-        go false e = quiet_turn (Refused bad_thread) refl refl (ap (λ x. x.effect) (nowhere e)) (ap (λ x. x.answer) (nowhere e))
+        go false e = quiet_turn (Refused BadThread) refl refl (ap (λ x. x.effect) (nowhere e)) (ap (λ x. x.answer) (nowhere e))
 
   pub turn_next : (x : Turn) → Follow f all l (tells (turned (served_on f b x))) (turn_bytes f b x.thread x.choice)
   unfolding p

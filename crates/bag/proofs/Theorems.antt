@@ -5,7 +5,8 @@ use mathlib.Core.Path.{◌≡◌, refl, sym, ap, subst, ◌∙◌}
 use mathlib.Core.Bool.{Bool, true, false, true≢false}
 use mathlib.Core.List.{List, ◌++◌}
 use lib.ListN.{length}
-use Rattle.region.specs.Answer.{bad_thread, counter_spent, done, unreadable}
+use Rattle.region.specs.Refusal.{done, number_of}
+use Rattle.region.specs.declared.refusal.Refusal.TheVariants.{BadThread, CounterSpent, Unreadable}
 use Rattle.region.specs.Frame.{frame_of, frame_of_width}
 use Rattle.region.specs.Shape.{between}
 use Rattle.region.specs.Shared.{Shared, shared_in, thread_in}
@@ -71,31 +72,31 @@ refusal Idle = 0
 refusal Inserted = 0
 refusal (Took i) = 0
 refusal Empty = 0
-refusal (Refused n) = n
+refusal (Refused r) = number_of r
 refusal Withdrawn = 0
 
 module _ (f : Frame) (all : ℕ) (b : List ℕ) (l : Ledger) (g : Region f all b l) (t c : ℕ) where
   abbrev answer : Answer
   answer = (turn_plan f b t c).answer
 
-  other : (x : Answer) → answer ≡ x → (refusal x ≡ 7 → ⊥) → answer ≡ Refused unreadable → ⊥
+  other : (x : Answer) → answer ≡ x → (refusal x ≡ 7 → ⊥) → answer ≡ Refused Unreadable → ⊥
   unfolding refusal
   other x k n e = n (sym (ap refusal k) ∙ ap refusal e)
 
   planned_answer : {m : Shared} {own : ℕ → ℕ} {o : ℕ} {op : Operation} → Planned f.shape m own t o op (turn_plan f b t c)
-      → answer ≡ Refused unreadable → ⊥
+      → answer ≡ Refused Unreadable → ⊥
   unfolding refusal
   planned_answer (rests x y) = other Idle y (λ z. omega arith)
-  planned_answer (refuses x y) = other (Refused counter_spent) y (λ z. omega arith)
+  planned_answer (refuses x y) = other (Refused CounterSpent) y (λ z. omega arith)
   planned_answer (moves op' al sp ow at) = λ e. true≢false (sym (ap changes_nothing e) ∙ operation_moves sp)
 
-  never_unreadable : turn_answer f b t c ≡ Refused unreadable → ⊥
+  never_unreadable : turn_answer f b t c ≡ Refused Unreadable → ⊥
   unfolding turn_answer refusal refused plan
   never_unreadable = go (between 1 t f.shape.threads) refl
     where
-      go : (q : Bool) → between 1 t f.shape.threads ≡ q → (turn_plan f b t c).answer ≡ Refused unreadable → ⊥
+      go : (q : Bool) → between 1 t f.shape.threads ≡ q → (turn_plan f b t c).answer ≡ Refused Unreadable → ⊥
       go true h = planned_answer (plan_fits f all b l g t c (between_least 1 t f.shape.threads h) (between_most 1 t f.shape.threads h))
-      go false h = other (Refused bad_thread) (ap (λ p. p.answer) (nowhere f all b l g t c h)) (λ z. omega arith)
+      go false h = other (Refused BadThread) (ap (λ p. p.answer) (nowhere f all b l g t c h)) (λ z. omega arith)
 
 pub no_turn_unreadable : NoTurnUnreadable
 no_turn_unreadable s ps b e calls n earlier later split t c =

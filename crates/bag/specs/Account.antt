@@ -2,7 +2,8 @@
 -- "no cell is free exactly when tree, begun puts and items in hand fill all" (request 1), and a put that nothing else refuses is refused 10
 -- exactly then. Proved in proofs/Account.antt.
 use Rattle.std.specs.Prelude.{ℕ, ◌+◌, ◌≡◌, true, List}
-use Rattle.region.specs.Answer.{done, no_free_cell}
+use Rattle.region.specs.Refusal.{done, number_of}
+use Rattle.region.specs.declared.refusal.Refusal.TheVariants.{NoFreeCell}
 use Rattle.region.specs.Record.{is_item}
 use Rattle.region.specs.Shape.{between, node_count}
 use Rattle.region.specs.Shared.{shared_in, thread_in}
@@ -62,8 +63,8 @@ pub record NothingElseRefuses (b : List ℕ) (t : ℕ) (i : Item) : Type 0 where
 
 -- "10: no free cell.": exactly when tree, begun puts and items in hand fill all, and otherwise the put is done
 pub record RefusedWhenFull (b : List ℕ) (t : ℕ) (i : Item) : Type 0 where
-  pub refused_full : put_refusal b t i ≡ no_free_cell → Full b
-  pub full_refused : Full b → put_refusal b t i ≡ no_free_cell
+  pub refused_full : put_refusal b t i ≡ number_of NoFreeCell → Full b
+  pub full_refused : Full b → put_refusal b t i ≡ number_of NoFreeCell
   pub else_done : (Full b → ⊥) → put_refusal b t i ≡ done
 
 abbrev pub PutsRefusedWhenFull : List ℕ → Type 0

@@ -2,7 +2,7 @@
 -- suppose of what comes after its beginning, "no other thread moving and no turn refused 11", and with request 5 "the permission kept"; and
 -- what it is to end in n accesses.
 use Rattle.std.specs.Prelude.{ℕ, suc, ◌≤◌, ◌≡◌, Bool, true, List, [], ◌∷◌, eqb, length}
-use Rattle.region.specs.Answer.{counter_spent}
+use Rattle.region.specs.declared.refusal.Refusal.TheVariants.{CounterSpent}
 use Rattle.region.specs.Pick.{pick}
 use Rattle.region.specs.Shared.{thread_in}
 use Rattle.region.specs.declared.answer.Answer.{Answer}
@@ -61,7 +61,7 @@ PermissionKept may f b t (x ∷ xs) = (may (thread_in f b t) ≡ true) × Permis
 -- "no turn refused 11"
 abbrev pub NoneSpent : List Step → Type 0
 NoneSpent [] = Unit
-NoneSpent (x ∷ rest) = (x.answer ≡ Refused counter_spent → ⊥) × NoneSpent rest
+NoneSpent (x ∷ rest) = (x.answer ≡ Refused CounterSpent → ⊥) × NoneSpent rest
 
 -- thread t, which has just begun on the bytes b, goes on alone and has at least n turns
 pub record Alone (may : Thread → Bool) (f : Frame) (b : List ℕ) (t : ℕ) (xs : List Between) (n : ℕ) : Type 0 where

@@ -2,7 +2,7 @@
 -- and refused layouts, with whatever arguments, refused or not"; request 1's list, request 5's permit, and conversions into the region, of request
 -- 7). That they are the exported functions is Exported.antt.
 use Rattle.std.specs.Prelude.{ℕ, ◌≡◌, List, [], ◌∷◌, length}
-use Rattle.region.specs.Answer.{done}
+use Rattle.region.specs.Refusal.{done}
 use Rattle.region.specs.declared.place.Place.TheVariants.{ReadRoot, ListReadRoot}
 use Rattle.region.specs.declared.record.Item.{Item}
 use Rattle.region.specs.declared.shape.Shape.{Shape}

@@ -5,6 +5,7 @@ use Rattle.region.specs.Shape.{node_count}
 use Rattle.region.specs.Shared.{shared_in}
 use Rattle.region.specs.declared.answer.Answer.{Answer}
 use Rattle.region.specs.declared.answer.Answer.TheVariants.{Moved, Idle, Inserted, Took, Empty, Refused, Withdrawn}
+use Rattle.region.specs.declared.refusal.Refusal.{Refusal}
 use Rattle.region.specs.declared.frame.Frame.{Frame}
 use Rattle.region.specs.declared.record.Item.{Item}
 use Rattle.region.specs.declared.shape.Shape.{Shape}
@@ -43,7 +44,7 @@ pub data Says (t : ℕ) : Answer → Told → Type 0 where
   inserted : Says t Inserted (decides_put t)
   took : {i : Item} → Says t (Took i) (answers_took t i)
   empty : Says t Empty (decides_empty t)
-  refused : {n : ℕ} → Says t (Refused n) nothing
+  refused : {r : Refusal} → Says t (Refused r) nothing
   withdrawn : Says t Withdrawn (withdraws t)
 
 abbrev pub AnswerSays : Event → Type 0

@@ -1,7 +1,7 @@
 -- The history of a list of calls: a moment for each call and for each served turn of a run, with what happened and the region after it.
 -- "The machine of demand 2 gives these from the layout and the calls alone."
 use Rattle.std.specs.Prelude.{ℕ, ◌/◌, List, [], ◌∷◌, ◌++◌, eqb, length}
-use Rattle.region.specs.Answer.{done}
+use Rattle.region.specs.Refusal.{done}
 use Rattle.region.specs.Pick.{pick}
 use Rattle.region.specs.Shared.{shared_in, thread_in}
 use Rattle.region.specs.declared.answer.Answer.{Answer}

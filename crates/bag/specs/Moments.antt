@@ -1,6 +1,6 @@
 -- Every history of a laid-out region, and its parts.
 use Rattle.std.specs.Prelude.{ℕ, ◌≡◌, List, [], ◌∷◌, ◌++◌, length}
-use Rattle.region.specs.Answer.{done}
+use Rattle.region.specs.Refusal.{done}
 use Rattle.region.specs.declared.shape.Shape.{Shape}
 use Rattle.layout.specs.Layout.{layout_refusal, layout_bytes}
 use Rattle.bag.specs.Calls.{Call, NoAcceptedLayout}

@@ -1,7 +1,7 @@
 -- What a put costs at the greatest depth (document 02, request 8): "a put begun at depth D, with nobody else moving, its permission kept and no
 -- turn refused 11, is inserted within 2^D + 7 accesses", whatever the choices and the dirty nodes. Proved in proofs/PutCost.antt.
 use Rattle.std.specs.Prelude.{ℕ, ◌+◌, ◌^◌, ◌≤◌, ◌≡◌, List}
-use Rattle.region.specs.Answer.{done}
+use Rattle.region.specs.Refusal.{done}
 use Rattle.region.specs.Shared.{shared_in}
 use Rattle.region.specs.declared.answer.Answer.TheVariants.{Inserted}
 use Rattle.region.specs.declared.record.Item.{Item}

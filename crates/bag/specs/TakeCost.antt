@@ -2,7 +2,7 @@
 -- its last access leaves the root's list without its head at the level from which the figure is computed. The ceiling of document 01
 -- follows. Proved in proofs/TakeCost.antt.
 use Rattle.std.specs.Prelude.{ℕ, ◌*◌, ◌≤◌, ◌≡◌, List, ◌∷◌}
-use Rattle.region.specs.Answer.{done}
+use Rattle.region.specs.Refusal.{done}
 use Rattle.region.specs.Level.{level}
 use Rattle.region.specs.Shape.{node_count}
 use Rattle.region.specs.Shared.{cell_in, node_in, shared_in, thread_in}

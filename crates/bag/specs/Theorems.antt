@@ -1,7 +1,7 @@
 -- What holds throughout every history of a laid-out region, beside demand 3 itself (Demand3.antt), and of the least item of its bag. Each is
 -- proved under its name in proofs/Theorems.antt.
 use Rattle.std.specs.Prelude.{ℕ, ◌≤◌, ◌<◌, ◌≡◌, false, true, List, ◌++◌}
-use Rattle.region.specs.Answer.{unreadable}
+use Rattle.region.specs.declared.refusal.Refusal.TheVariants.{Unreadable}
 use Rattle.region.specs.declared.answer.Answer.TheVariants.{Refused}
 use Rattle.region.specs.declared.record.Item.{Item}
 use Rattle.readable.specs.Readable.{frame_in, readable, shape_in}
@@ -23,7 +23,7 @@ StaysReadable = Throughout λ s permissions b. (readable b ≡ true) × (shape_i
 
 -- no turn is refused 7
 abbrev pub NoTurnUnreadable : Type 0
-NoTurnUnreadable = Throughout λ s permissions b. (t choice : ℕ) → turn_answer (frame_in b) b t choice ≡ Refused unreadable → ⊥
+NoTurnUnreadable = Throughout λ s permissions b. (t choice : ℕ) → turn_answer (frame_in b) b t choice ≡ Refused Unreadable → ⊥
 
 -- tree, begun puts, items in hand and free chain account for all C cells
 abbrev pub CellsAccounted : Type 0

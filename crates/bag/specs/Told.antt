@@ -1,6 +1,6 @@
 -- What the bag is told of a moment: beginnings from calls, deciding accesses and a take's answers from places and answers.
 use Rattle.std.specs.Prelude.{Bool, ◌||◌, eqb}
-use Rattle.region.specs.Answer.{done}
+use Rattle.region.specs.Refusal.{done}
 use Rattle.region.specs.Pick.{pick}
 use Rattle.region.specs.Place.{place_number}
 use Rattle.region.specs.declared.answer.Answer.{Answer}

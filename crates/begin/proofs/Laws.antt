@@ -5,7 +5,7 @@ use mathlib.Core.Path.{◌≡◌, refl, sym, ap}
 use mathlib.Core.Bool.{true, true≢false}
 use mathlib.Core.List.{List}
 use lib.Dec.{eqb}
-use Rattle.region.specs.Answer.{done}
+use Rattle.region.specs.Refusal.{done}
 use Rattle.region.specs.Pick.{pick}
 use Rattle.region.specs.Place.{place_number}
 use Rattle.region.specs.Thread.{is_idle}
@@ -14,7 +14,7 @@ use Rattle.region.specs.declared.place.Place.TheVariants.{Idle, ReadDepth, ReadL
 use Rattle.region.specs.declared.record.Item.{Item}
 use Rattle.region.specs.declared.thread.Thread.{Thread}
 use Rattle.readable.specs.Readable.{frame_in, readable}
-use Rattle.begin.specs.Begin.{accepted_put, accepted_take, put_bytes, put_bytes_in, put_refusal, put_refusal_in, take_bytes, take_bytes_in, take_refusal, take_refusal_in}
+use Rattle.begin.specs.Begin.{accepted_put, accepted_take, put_bytes, put_bytes_in, put_check, put_check_in, put_refusal, put_refusal_in, take_bytes, take_bytes_in, take_check, take_check_in, take_refusal, take_refusal_in}
 
 idle_place : (x : Place) → eqb (place_number x) 0 ≡ true → x ≡ Idle
 idle_place Idle e = refl
@@ -44,8 +44,16 @@ is_idle_lem x e = idle_place x.place e
 
 -- On a readable region a call is the one under its frame.
 module _ (b : List ℕ) (e : readable b ≡ true) (t : ℕ) where
+  pub put_check_in_lem : (i : Item) → put_check b t i ≡ put_check_in (frame_in b) b t i
+  unfolding pick
+  put_check_in_lem i = rw e refl
+
+  pub take_check_in_lem : take_check b t ≡ take_check_in (frame_in b) b t
+  unfolding pick
+  take_check_in_lem = rw e refl
+
   pub put_refusal_in_lem : (i : Item) → put_refusal b t i ≡ put_refusal_in (frame_in b) b t i
-  unfolding put_refusal pick
+  unfolding put_refusal put_refusal_in pick
   put_refusal_in_lem i = rw e refl
 
   pub put_bytes_in_lem : (i : Item) → put_bytes b t i ≡ put_bytes_in (frame_in b) b t i
@@ -53,7 +61,7 @@ module _ (b : List ℕ) (e : readable b ≡ true) (t : ℕ) where
   put_bytes_in_lem i = ap (λ n. pick (eqb n done) (accepted_put (frame_in b) b t i) b) (put_refusal_in_lem i)
 
   pub take_refusal_in_lem : take_refusal b t ≡ take_refusal_in (frame_in b) b t
-  unfolding take_refusal pick
+  unfolding take_refusal take_refusal_in pick
   take_refusal_in_lem = rw e refl
 
   pub take_bytes_in_lem : (p : Place) → take_bytes b t p ≡ take_bytes_in (frame_in b) b t p

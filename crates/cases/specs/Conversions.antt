@@ -1,8 +1,9 @@
 -- Cases of request 7's converter: the rows, on D 2, C 2, T 2, H 1, permissions 3.
 use Rattle.std.specs.Prelude.{ℕ, List, [], ◌∷◌, ◌++◌, replicate, set, take}
-use Rattle.region.specs.Answer.{done, bad_shape, bad_length, unreadable}
+use Rattle.region.specs.Refusal.{done, number_of}
+use Rattle.region.specs.declared.refusal.Refusal.TheVariants.{BadShape, BadLength, Unreadable}
 use Rattle.region.specs.declared.answer.Answer.TheVariants.{Moved, Idle, Inserted, Took}
-use Rattle.cases.specs.Row.{Does, shows, converts, Says, answered, shown, Row, item, shaped, both, row_of, calls_row, turns_to, inserting, taking}
+use Rattle.cases.specs.Row.{Does, Row, Says, answered, both, calls_row, converts, inserting, item, refused, row_of, shaped, shown, shows, taking, turns_to}
 
 abbrev pub row : List (Does × Says) → Row
 row cs = calls_row both cs 1
@@ -93,7 +94,7 @@ take_at_m5 counter =
 -- 2's level, and M6 makes it clean: took 5. The root's counter has risen by 1, node 2's by 2, and node 3's is as it was.
 abbrev pub converted_in_mending : Row
 converted_in_mending =
-    row_of (shaped 2 2) (4 ∷ 3 ∷ []) 384 bad_shape
+    row_of (shaped 2 2) (4 ∷ 3 ∷ []) 384 (number_of BadShape)
     (converting take_at_m5
     ++ turns_to 1 4 (Took (item 5))
     ++ (shows 6 12, shown (2 ∷ 0 ∷ 4000000013 ∷ 0 ∷ 0 ∷ 0 ∷ 4000000010 ∷ 0 ∷ 0 ∷ 0 ∷ 4000000004 ∷ 0 ∷ []))
@@ -167,20 +168,20 @@ abbrev pub conversion_refused : Row
 conversion_refused =
     row
     (inserting (item 5) 4
-    ++ (converts (set (fresh old_form) 0 13), answered unreadable)
-    ∷ (converts (set (fresh old_form) 22 20), answered unreadable)
-    ∷ (converts (take 86 (fresh old_form)), answered unreadable)
-    ∷ (converts (fresh new_form), answered unreadable)
-    ∷ (converts smallest, answered bad_length)
-    ∷ (converts (set smallest 13 20), answered unreadable)
+    ++ (converts (set (fresh old_form) 0 13), refused Unreadable)
+    ∷ (converts (set (fresh old_form) 22 20), refused Unreadable)
+    ∷ (converts (take 86 (fresh old_form)), refused Unreadable)
+    ∷ (converts (fresh new_form), refused Unreadable)
+    ∷ (converts smallest, refused BadLength)
+    ∷ (converts (set smallest 13 20), refused Unreadable)
     ∷ (shows 0 96, shown (with_five new_form))
     ∷ converting fresh)
 
 -- "380 refused 2": a slice that is a word short is refused by layout, and by the converter for a readable old region. Its 95 words stay 0.
 abbrev pub converted_into_short : Row
 converted_into_short =
-    row_of (shaped 2 2) both 380 bad_length
-    ((converts (fresh old_form), answered bad_length) ∷ (shows 0 95, shown (replicate 95 0)) ∷ [])
+    row_of (shaped 2 2) both 380 (number_of BadLength)
+    ((converts (fresh old_form), refused BadLength) ∷ (shows 0 95, shown (replicate 95 0)) ∷ [])
     0
 
 abbrev pub conversions : List Row

@@ -1,8 +1,9 @@
 -- "Cases (starred ones proved)" of document 01, A to K: the rows.
 use Rattle.std.specs.Prelude.{ℕ, List, [], ◌∷◌, ◌++◌}
-use Rattle.region.specs.Answer.{done, bad_shape, bad_length, bad_item, not_permitted, no_free_cell}
+use Rattle.region.specs.Refusal.{done, number_of}
+use Rattle.region.specs.declared.refusal.Refusal.TheVariants.{BadShape, BadLength, BadItem, NotPermitted, NoFreeCell}
 use Rattle.region.specs.declared.answer.Answer.TheVariants.{Moved, Idle, Inserted, Took, Empty}
-use Rattle.cases.specs.Row.{Does, puts, takes, turns, Says, answered, Row, item, shaped, both, row_of, calls_row, serves, turns_to, inserting, taking}
+use Rattle.cases.specs.Row.{Does, Row, Says, answered, both, calls_row, inserting, item, puts, refused, row_of, serves, shaped, takes, taking, turns, turns_to}
 
 -- "Shape D 2, C 2, T 2, H 1, permissions 3, unless said."
 
@@ -26,17 +27,17 @@ fits =
 -- A* "380 refused 2" (request 7)
 abbrev pub short : Row
 short =
-    layout_row 2 2 380 bad_length 0
+    layout_row 2 2 380 (number_of BadLength) 0
 
 -- B* "C 3 is 1"
 abbrev pub many_cells : Row
 many_cells =
-    layout_row 2 3 396 bad_shape 0
+    layout_row 2 3 396 (number_of BadShape) 0
 
 -- B* "D 13 is 1"
 abbrev pub too_deep : Row
 too_deep =
-    layout_row 13 2 384 bad_shape 0
+    layout_row 13 2 384 (number_of BadShape) 0
 
 -- C* "key 4,294,967,294 begins"
 abbrev pub greatest_key : Row
@@ -46,12 +47,12 @@ greatest_key =
 -- C* "4,294,967,295 is 4"
 abbrev pub no_key : Row
 no_key =
-    row ((puts 1 4294967295, answered bad_item) ∷ []) 1
+    row ((puts 1 4294967295, refused BadItem) ∷ []) 1
 
 -- D* "permission 0: put is 8, its turn idle"
 abbrev pub empty_list : Row
 empty_list =
-    calls_row (0 ∷ 0 ∷ []) ((puts 1 5, answered not_permitted) ∷ turns_to 1 1 Idle) 1
+    calls_row (0 ∷ 0 ∷ []) ((puts 1 5, refused NotPermitted) ∷ turns_to 1 1 Idle) 1
 
 -- E* "put 5 when fresh: inserted at turn 4", F* "then take: took 5 at turn 5", G* "then take: empty at turn 1"
 abbrev pub put_and_takes : Row
@@ -96,11 +97,11 @@ abbrev pub last_cell : Row
 last_cell =
     row_of (shaped 1 1) both 340 done
     ((puts 1 5, answered done)
-    ∷ (puts 2 6, answered no_free_cell)
+    ∷ (puts 2 6, refused NoFreeCell)
     ∷ turns_to 1 4 Inserted
     ++ (takes 1, answered done)
     ∷ turns_to 1 1 Moved
-    ++ (puts 2 6, answered no_free_cell)
+    ++ (puts 2 6, refused NoFreeCell)
     ∷ turns_to 1 1 Moved
     ++ (puts 2 6, answered done)
     ∷ [])

@@ -1,8 +1,9 @@
 -- Cases of request 1, "Take a whole list": the rows, on D 2, C 2, T 2, H 1, permissions 3.
 use Rattle.std.specs.Prelude.{ℕ, List, [], ◌∷◌, ◌++◌, replicate}
-use Rattle.region.specs.Answer.{done, unreadable, no_free_cell}
+use Rattle.region.specs.Refusal.{done}
+use Rattle.region.specs.declared.refusal.Refusal.TheVariants.{Unreadable, NoFreeCell}
 use Rattle.region.specs.declared.answer.Answer.TheVariants.{Moved, Idle, Inserted, Took, Empty}
-use Rattle.cases.specs.Row.{Does, puts, takes, lists, turns, checks, shows, Says, answered, shown, Row, item, both, calls_row, serves, turns_to, inserting}
+use Rattle.cases.specs.Row.{Does, Row, Says, answered, both, calls_row, checks, inserting, item, lists, puts, refused, serves, shown, shows, takes, turns, turns_to}
 use Rattle.cases.specs.Request4.{checks_thread}
 
 abbrev row : List (Does × Says) → Row
@@ -69,7 +70,7 @@ cells_in_hand =
     (three_and_five
     ++ (lists 1, answered done)
     ∷ turns_to 1 2 Moved
-    ++ (puts 2 7, answered no_free_cell)
+    ++ (puts 2 7, refused NoFreeCell)
     ∷ turns_to 1 4 (Took (item 3))
     ++ (puts 2 7, answered done)
     ∷ turns_to 1 1 (Took (item 5)))
@@ -79,10 +80,10 @@ abbrev pub admitted : Row
 admitted =
     row
     ((checks 25 (19 ∷ []), answered done)
-    ∷ (checks 25 (20 ∷ []), answered unreadable)
+    ∷ (checks 25 (20 ∷ []), refused Unreadable)
     ∷ (checks 36 (3 ∷ []), answered done)
-    ∷ (checks 36 (4 ∷ []), answered unreadable)
-    ∷ (checks_thread 17 0 2 1, answered unreadable)
+    ∷ (checks 36 (4 ∷ []), refused Unreadable)
+    ∷ (checks_thread 17 0 2 1, refused Unreadable)
     ∷ [])
 
 abbrev pub cases_of_request1 : List Row

@@ -1,6 +1,6 @@
 -- Cases of request 2, "Equal keys, smaller tag first": the rows.
 use Rattle.std.specs.Prelude.{ℕ, List, [], ◌∷◌, ◌++◌}
-use Rattle.region.specs.Answer.{done}
+use Rattle.region.specs.Refusal.{done}
 use Rattle.region.specs.declared.answer.Answer.TheVariants.{Moved, Took}
 use Rattle.region.specs.declared.record.Item.{Item}
 use Rattle.cases.specs.Row.{Does, takes, turns, costs, writes, Says, answered, Row, tagged, both, calls_row, serves, turns_to, inserting, taking, one_thread}

@@ -1,9 +1,10 @@
 -- Cases of request 5, "Permission at the deciding turn": the rows, on D 2, C 2, T 2, H 1, permissions 3. A permission of 1 grants put alone,
 -- of 2 take alone, of 0 nothing.
 use Rattle.std.specs.Prelude.{ℕ, List, [], ◌∷◌, ◌++◌, replicate}
-use Rattle.region.specs.Answer.{done, bad_shape, bad_thread, unreadable, not_permitted, counter_spent}
+use Rattle.region.specs.Refusal.{done}
+use Rattle.region.specs.declared.refusal.Refusal.TheVariants.{BadShape, BadThread, Unreadable, NotPermitted, CounterSpent}
 use Rattle.region.specs.declared.answer.Answer.TheVariants.{Moved, Idle, Inserted, Took, Refused, Withdrawn}
-use Rattle.cases.specs.Row.{Does, puts, takes, permits, shows, writes, Says, answered, shown, Row, item, both, calls_row, turns_to, inserting}
+use Rattle.cases.specs.Row.{Does, Row, Says, answered, both, calls_row, inserting, item, permits, puts, refused, shown, shows, takes, turns_to, writes}
 
 abbrev row : List (Does × Says) → Row
 row cs = calls_row both cs 1
@@ -49,7 +50,7 @@ take_decided =
     ∷ turns_to 1 2 Moved
     ++ (permits 1 0, answered done)
     ∷ turns_to 1 3 (Took (item 5))
-    ++ (takes 1, answered not_permitted)
+    ++ (takes 1, refused NotPermitted)
     ∷ turns_to 1 1 Idle)
 
 -- only the turn looks at it: a permission that is back before the next turn was never missed
@@ -68,11 +69,11 @@ abbrev pub between_refusals : Row
 between_refusals =
     row
     ((writes 24 (0 ∷ 1 ∷ []), answered done)
-    ∷ turns_to 1 1 (Refused unreadable)
+    ∷ turns_to 1 1 (Refused Unreadable)
     ++ (writes 24 (3 ∷ 0 ∷ []), answered done)
     ∷ (writes 8 (4294967295 ∷ 4294967295 ∷ []), answered done)
     ∷ (puts 1 5, answered done)
-    ∷ turns_to 1 4 (Refused counter_spent)
+    ∷ turns_to 1 4 (Refused CounterSpent)
     ++ (permits 1 2, answered done)
     ∷ turns_to 1 1 Withdrawn)
 
@@ -80,12 +81,12 @@ between_refusals =
 abbrev pub permit_refused : Row
 permit_refused =
     row
-    ((permits 1 4, answered bad_shape)
-    ∷ (permits 0 4, answered bad_thread)
-    ∷ (permits 3 4, answered bad_thread)
+    ((permits 1 4, refused BadShape)
+    ∷ (permits 0 4, refused BadThread)
+    ∷ (permits 3 4, refused BadThread)
     ∷ (shows 24 1, shown (3 ∷ []))
-    ∷ (writes 0 (13 ∷ []), answered unreadable)
-    ∷ (permits 0 4, answered unreadable)
+    ∷ (writes 0 (13 ∷ []), refused Unreadable)
+    ∷ (permits 0 4, refused Unreadable)
     ∷ [])
 
 abbrev pub cases_of_request5 : List Row

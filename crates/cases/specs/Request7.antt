@@ -2,7 +2,8 @@
 -- "low first". A put at depth 1 whose item goes to the root has four accesses: I1 reads the depth, I2 and I5 read the root, I6 changes it. The
 -- converter's rows are in Conversions.antt.
 use Rattle.std.specs.Prelude.{ℕ, List, [], ◌∷◌, ◌++◌, replicate}
-use Rattle.region.specs.Answer.{done, counter_spent}
+use Rattle.region.specs.Refusal.{done}
+use Rattle.region.specs.declared.refusal.Refusal.TheVariants.{CounterSpent}
 use Rattle.region.specs.declared.answer.Answer.TheVariants.{Moved, Inserted, Took, Refused}
 use Rattle.cases.specs.Row.{Does, puts, takes, turns, shows, writes, Says, answered, shown, Row, item, serves, turns_to, inserting, taking}
 use Rattle.cases.specs.Conversions.{conversions, greatest, root, row}
@@ -36,7 +37,7 @@ last_update =
     ∷ inserting (item 5) 4
     ++ root 1 0 greatest greatest
     ∷ (puts 1 3, answered done)
-    ∷ turns_to 1 4 (Refused counter_spent)
+    ∷ turns_to 1 4 (Refused CounterSpent)
     ++ root 1 0 greatest greatest
     ∷ [])
 
@@ -47,8 +48,8 @@ goes_on_after_refusal =
     row
     (counter_written greatest greatest
     ∷ (puts 1 5, answered done)
-    ∷ turns_to 1 4 (Refused counter_spent)
-    ++ turns_to 1 1 (Refused counter_spent)
+    ∷ turns_to 1 4 (Refused CounterSpent)
+    ++ turns_to 1 1 (Refused CounterSpent)
     ++ root 0 0 greatest greatest
     ∷ counter_written 0 0
     ∷ turns_to 1 5 Inserted

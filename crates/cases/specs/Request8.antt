@@ -1,7 +1,7 @@
 -- Cases of request 8, "A put that cannot miss the free leaf": the rows, on D 2, C 2, H 1 and permissions 3, unless said. At D 2 the leaves of
 -- level D are nodes 2 and 3; an even choice names node 2, an odd one node 3.
 use Rattle.std.specs.Prelude.{ℕ, List, [], ◌∷◌, ◌++◌, replicate}
-use Rattle.region.specs.Answer.{done}
+use Rattle.region.specs.Refusal.{done}
 use Rattle.region.specs.declared.answer.Answer.TheVariants.{Moved, Inserted, Took}
 use Rattle.cases.specs.Row.{Does, puts, takes, turns, shows, writes, Says, answered, shown, Row, item, both, row_of, calls_row, serves, turns_to, turns_choosing, inserting, one_thread}
 

@@ -1,8 +1,9 @@
 -- Cases of request 9, "Check records from the multi-core build": the rows. A record is kind, thread, begin, answer, position, key, tag.
 use Rattle.std.specs.Prelude.{ℕ, ◌*◌, List, [], ◌∷◌, ◌++◌, length}
-use Rattle.region.specs.Answer.{done, bad_records}
+use Rattle.region.specs.Refusal.{done}
+use Rattle.region.specs.declared.refusal.Refusal.TheVariants.{BadRecords}
 use Rattle.records.specs.Accepts.{rejected}
-use Rattle.cases.specs.Row.{Does, checks_records, Says, answered, Row, both, calls_row}
+use Rattle.cases.specs.Row.{Does, Row, Says, answered, both, calls_row, checks_records, refused}
 
 -- "Kinds are put 1, take 2 and empty 3": by a thread, from a time to a time, at a position
 abbrev put : ℕ → ℕ → ℕ → ℕ → ℕ → ℕ → List ℕ
@@ -72,18 +73,18 @@ threads_and_positions =
 abbrev pub out_of_range : Row
 out_of_range =
     judged
-    ((checks_records 27 (put 1 1 2 1 5 0), answered bad_records)
-    ∷ (checks_records 29 (put 1 1 2 1 5 0), answered bad_records)
-    ∷ (records (0 ∷ 1 ∷ 1 ∷ 2 ∷ 1 ∷ 5 ∷ 0 ∷ []), answered bad_records)
-    ∷ (records (4 ∷ 1 ∷ 1 ∷ 2 ∷ 1 ∷ 5 ∷ 0 ∷ []), answered bad_records)
-    ∷ (records (put 0 1 2 1 5 0), answered bad_records)
+    ((checks_records 27 (put 1 1 2 1 5 0), refused BadRecords)
+    ∷ (checks_records 29 (put 1 1 2 1 5 0), refused BadRecords)
+    ∷ (records (0 ∷ 1 ∷ 1 ∷ 2 ∷ 1 ∷ 5 ∷ 0 ∷ []), refused BadRecords)
+    ∷ (records (4 ∷ 1 ∷ 1 ∷ 2 ∷ 1 ∷ 5 ∷ 0 ∷ []), refused BadRecords)
+    ∷ (records (put 0 1 2 1 5 0), refused BadRecords)
     ∷ (records (put 64 1 2 1 5 0), answered done)
-    ∷ (records (put 65 1 2 1 5 0), answered bad_records)
+    ∷ (records (put 65 1 2 1 5 0), refused BadRecords)
     ∷ (records (put 1 1 2 1 4294967294 65535), answered done)
-    ∷ (records (put 1 1 2 1 4294967295 0), answered bad_records)
-    ∷ (records (put 1 2 1 7 5 65536), answered bad_records)
-    ∷ (records (3 ∷ 1 ∷ 1 ∷ 2 ∷ 1 ∷ 1 ∷ 0 ∷ []), answered bad_records)
-    ∷ (records (3 ∷ 1 ∷ 1 ∷ 2 ∷ 1 ∷ 0 ∷ 1 ∷ []), answered bad_records)
+    ∷ (records (put 1 1 2 1 4294967295 0), refused BadRecords)
+    ∷ (records (put 1 2 1 7 5 65536), refused BadRecords)
+    ∷ (records (3 ∷ 1 ∷ 1 ∷ 2 ∷ 1 ∷ 1 ∷ 0 ∷ []), refused BadRecords)
+    ∷ (records (3 ∷ 1 ∷ 1 ∷ 2 ∷ 1 ∷ 0 ∷ 1 ∷ []), refused BadRecords)
     ∷ [])
 
 abbrev pub cases_of_request9 : List Row

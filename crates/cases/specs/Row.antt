@@ -1,7 +1,9 @@
 -- A case: a layout, calls on the region that it leaves, and what they answer; the present depth is asked at the end.
 use Rattle.std.specs.Prelude.{ℕ, ◌-◌, ◌*◌, ◌≡◌, List, [], ◌∷◌, ◌++◌, length, replicate}
 use Rattle.words.specs.Word.{word, words_at, set_words}
-use Rattle.region.specs.Answer.{done, answer_words}
+use Rattle.region.specs.declared.refusal.Refusal.{Refusal}
+use Rattle.region.specs.Answer.{answer_words}
+use Rattle.region.specs.Refusal.{done, number_of}
 use Rattle.region.specs.Shared.{shared_in}
 use Rattle.region.specs.declared.answer.Answer.{Answer}
 use Rattle.region.specs.declared.answer.Answer.TheVariants.{Moved, Inserted}
@@ -46,6 +48,10 @@ pub data Says : Type 0 where
   answered : ℕ → Says
   served : List ℕ → Says
   shown : List ℕ → Says
+
+-- a call that is refused answers the refusal's number
+abbrev pub refused : Refusal → Says
+refused r = answered (number_of r)
 
 abbrev pub tagged : ℕ → ℕ → Item
 tagged k t = record { key = k; tag = t }

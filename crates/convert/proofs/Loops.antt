@@ -1,30 +1,28 @@
 -- One pass of each loop and each way out of the functions, over plain variables. Assumes nothing.
 use Prim.Native.Nat.{ℕ, zero, suc, ◌+◌, ◌-◌, ◌*◌, ◌≤◌, ◌<◌}
-use native.Mathlib.Nat.{add-zero}
 use native.Mathlib.Omega.{arith}
 use mathlib.Core.Path.{◌≡◌, refl, sym, ap, subst, ◌∙◌}
 use mathlib.Core.Bool.{Bool, true, false, not}
-use mathlib.Core.List.{List, [], ◌∷◌, ◌++◌}
+use mathlib.Core.List.{List, ◌++◌}
 use borrow.Author.Tests.{eq-eqb, eqb-true, ne_eqb, not-true, not-false}
 use lib.Dec.{eqb}
-use lib.ListN.{length, length-append, get_or}
-use Rattle.words.specs.Word.{word, set_word, words_at, set_words}
+use lib.ListN.{length, length-append}
+use Rattle.words.specs.Word.{words_at, set_words}
 use Rattle.words.proofs.Laws.{length-set_words, set_words_behind}
 use Rattle.region.specs.Frame.{frame_of, frame_of_width}
 use Rattle.region.specs.Inner.{InRange, one_word}
+use Rattle.std.specs.Prelude.{Ok}
+use Rattle.region.specs.Refusal.{Checked, code_of}
 use Rattle.region.specs.Pick.{pick}
-use Rattle.region.specs.Record.{old_counter_size, node_size, cell_size}
-use Rattle.region.specs.Shape.{head_size, node_count, region_words, region_words_of_width, shape_fits}
-use Rattle.region.specs.Thread.{thread_size}
+use Rattle.region.specs.Record.{old_counter_size, cell_size}
+use Rattle.region.specs.Shape.{head_size, node_count, region_words, region_words_of_width}
 use Rattle.region.specs.declared.frame.Frame.{Frame}
 use Rattle.region.specs.declared.shape.Shape.{Shape}
-use Rattle.region.proofs.Shapes.{in_range, sizes, words_most}
-use Rattle.readable.specs.Inner.{ThreadsWithin}
-use Rattle.readable.specs.Readable.{is_whole_of_width, shape_in, thread_maxima}
-use Rattle.readable.proofs.Loops.{fields_within}
+use Rattle.region.proofs.Shapes.{words_most}
+use Rattle.readable.specs.Readable.{shape_in}
 use Rattle.readable.proofs.Laws.{length_of_width, shape_of_width}
-use Rattle.convert.specs.Convert.{Converted, all_carried, convert_refusal, converted_bytes, converted_words, copy_carried, node_carried, old_readable, thread_carried}
-use Rattle.convert.specs.Inner.{Exact, OldWithin, Room}
+use Rattle.convert.specs.Convert.{Converted, all_carried, convert_check, convert_refusal, converted_bytes, converted_words, copy_carried, node_carried, old_readable, thread_carried}
+use Rattle.convert.specs.Inner.{Exact, Room}
 
 -- Words that are stored one after the other: those left from here on, stored in b, make the whole, xs stored in b₀ from word `to` on.
 pub record Stored (b₀ b : List ℕ) (to : ℕ) (xs : List ℕ) (at : ℕ) (left : List ℕ) : Type 0 where
@@ -40,54 +38,12 @@ stored_more {b = b} {at = at} ws left b' next e eb en =
       long = ap length eb ∙ length-set_words ws b at ∙ e.long;
     }
 
--- Copying words, i of them stored.
-pub record Copying (old : List ℕ) (from : ℕ) (b₀ b : List ℕ) (to count i : ℕ) : Type 0 where
-  pub within : i ≤ count
-  pub stored : Stored b₀ b to (words_at old from count) (to + i) (words_at old (from + i) (count - i))
-
-pub copy_start : (old : List ℕ) (from : ℕ) (b : List ℕ) (to count : ℕ) → Copying old from b b to count 0
-copy_start old from b to count =
-    let all : count - 0 ≡ count = omega arith in
-    record {
-      within = omega arith;
-      stored = record { rest = λ i. set_words b (add-zero to i) (words_at old (add-zero from i) (all i)); long = refl };
-    }
-
-module _ {old : List ℕ} {from : ℕ} {b₀ b : List ℕ} {to count i : ℕ} (e : Copying old from b₀ b to count i) where
-  pub copy_more : (v : ℕ) (b' : List ℕ) → i < count → v ≡ word old (from + i) → b' ≡ set_word b (to + i) v
-      → Copying old from b₀ b' to count (i + 1)
-  copy_more v b' h ev eb =
-      let n : count - i ≡ suc (count - (i + 1)) = omega arith in
-      let k : suc (from + i) ≡ from + (i + 1) = omega arith in
-      let s = subst (λ m. Stored b₀ b to (words_at old from count) (to + i) (words_at old (from + i) m)) n e.stored in
-      record {
-        within = omega arith;
-        stored =
-            subst (λ j. Stored b₀ b' to (words_at old from count) (to + (i + 1)) (words_at old j (count - (i + 1)))) k
-            (stored_more (word old (from + i) ∷ []) _ b' (to + (i + 1)) s (eb ∙ ap (set_word b (to + i)) ev) (omega arith));
-      }
-
-  pub copy_end : count ≤ i → b ≡ set_words b₀ to (words_at old from count)
-  copy_end h =
-      let none : count - i ≡ 0 = omega arith in
-      subst (λ m. set_words b (to + i) (words_at old (from + i) m) ≡ set_words b₀ to (words_at old from count)) none e.stored.rest
-
 -- Records carried over, i of them stored: `stride` words from one old record to the next, `size` words each in the new region.
 pub record Carrying (words : List ℕ → ℕ → List ℕ) (stride size : ℕ) (old : List ℕ) (from : ℕ) (b₀ b : List ℕ) (to count i : ℕ) : Type 0 where
   pub within : i ≤ count
   pub stored : Stored b₀ b to (all_carried words stride old from count) (to + size * i) (all_carried words stride old (from + stride * i) (count - i))
 
 module _ (words : List ℕ → ℕ → List ℕ) (stride size : ℕ) (long : (b : List ℕ) (k : ℕ) → length (words b k) ≡ size) where
-  pub carry_start : (old : List ℕ) (from : ℕ) (b : List ℕ) (to count : ℕ) → Carrying words stride size old from b b to count 0
-  carry_start old from b to count =
-      let all : count - 0 ≡ count = omega arith in
-      let f : from + stride * 0 ≡ from = omega arith in
-      let t : to + size * 0 ≡ to = omega arith in
-      record {
-        within = omega arith;
-        stored = record { rest = λ i. set_words b (t i) (all_carried words stride old (f i) (all i)); long = refl };
-      }
-
   module _ {old : List ℕ} {from : ℕ} {b₀ b : List ℕ} {to count i : ℕ} (e : Carrying words stride size old from b₀ b to count i) where
     pub carry_more : (b' : List ℕ) → i < count → b' ≡ set_words b (to + size * i) (words old (from + stride * i))
         → Carrying words stride size old from b₀ b' to count (i + 1)
@@ -116,20 +72,6 @@ node_size_lem b k = refl
 
 pub thread_size_lem : (b : List ℕ) (k : ℕ) → length (thread_carried b k) ≡ 36
 thread_size_lem b k = refl
-
--- Words that were loaded are stored, with the high word of the counter between them.
-pub node_stored : (old b b' ws : List ℕ) (from to : ℕ) → ws ≡ words_at old from 3
-    → b' ≡ set_words b to (get_or ws 0 0 ∷ get_or ws 1 0 ∷ get_or ws 2 0 ∷ 0 ∷ []) → b' ≡ set_words b to (node_carried old from)
-node_stored old b b' ws from to ew eb = eb ∙ ap (λ us. set_words b to (get_or us 0 0 ∷ get_or us 1 0 ∷ get_or us 2 0 ∷ 0 ∷ [])) ew
-
-pub copy_stored : (old b b' ws : List ℕ) (from to : ℕ) → ws ≡ words_at old from 6
-    → b' ≡ set_words b to (get_or ws 0 0 ∷ get_or ws 1 0 ∷ get_or ws 2 0 ∷ 0 ∷ get_or ws 3 0 ∷ get_or ws 4 0 ∷ get_or ws 5 0 ∷ [])
-    → b' ≡ set_words b to (copy_carried old from)
-copy_stored old b b' ws from to ew eb =
-    let three : suc (suc (suc from)) ≡ from + 3 = omega arith in
-    eb
-    ∙ ap (λ us. set_words b to (get_or us 0 0 ∷ get_or us 1 0 ∷ get_or us 2 0 ∷ 0 ∷ get_or us 3 0 ∷ get_or us 4 0 ∷ get_or us 5 0 ∷ [])) ew
-    ∙ ap (λ k. set_words b to (node_carried old from ++ words_at old k 3)) three
 
 -- three node copies behind the first words; `second` and `third` are where the code finds them
 pub thread_stored : (old b b₁ b₂ b₃ b₄ : List ℕ) (from to k₁ k₂ k₃ j₁ j₂ j₃ : ℕ) → b₁ ≡ set_words b to (words_at old from 15)
@@ -226,10 +168,6 @@ head_room s l r e = record { source = omega (arith, e.source); target = omega (a
 
 -- The refusals in order.
 module _ (old : List ℕ) (l : ℕ) (q : Bool) (eq : q ≡ old_readable old) where
-  pub not_readable : not q ≡ true → 7 ≡ convert_refusal old l
-  unfolding convert_refusal pick
-  not_readable n = rw (← eq, not-true q n) refl
-
   module _ (gq : not q ≡ false) where
     pub can_be_read : old_readable old ≡ true
     can_be_read = sym eq ∙ not-false q gq
@@ -241,21 +179,6 @@ module _ (old : List ℕ) (l : ℕ) (q : Bool) (eq : q ≡ old_readable old) whe
     module _ (s : Shape) (es : s ≡ shape_in old) where
       pub old_shape : InRange s
       old_shape = subst InRange (sym es) (shape_of_width one_word old can_be_read)
-
-      module _ (w : ℕ) (ew : w ≡ region_words s) where
-        pub new_words_few : w ≤ 24834
-        new_words_few = omega (arith, ew, words_most s old_shape)
-
-        right_length : 4 * w ≡ 4 * region_words (shape_in old)
-        right_length = ap (λ k. 4 * k) (ew ∙ ap region_words es)
-
-        pub wrong_length : (l ≡ 4 * w → ⊥) → 2 ≡ convert_refusal old l
-        unfolding convert_refusal pick
-        wrong_length n = rw (← eq, not-false q gq, ← right_length, ne_eqb l (4 * w) n) refl
-
-        pub right : l ≡ 4 * w → 0 ≡ convert_refusal old l
-        unfolding convert_refusal pick
-        right e = rw (← eq, not-false q gq, ← right_length, eq-eqb l (4 * w) e) refl
 
 -- a conversion that is not refused has an old region that can be read and a slice of the right length
 module _ (old : List ℕ) (l : ℕ) (e : convert_refusal old l ≡ 0) where
@@ -275,14 +198,10 @@ module _ (old : List ℕ) (l : ℕ) (e : convert_refusal old l ≡ 0) where
   pub accepted_length : l ≡ 4 * region_words (shape_in old)
   accepted_length = fits (eqb l (4 * region_words (shape_in old))) refl
 
-pub refused_alone : (old b : List ℕ) (r : ℕ) → r ≡ convert_refusal old (length b) → (r ≡ 0 → ⊥) → Converted old b b r
-unfolding converted_bytes pick
-refused_alone old b r e n =
-    record { answer = e; bytes = sym (rw (ne_eqb (convert_refusal old (length b)) 0 (λ z. n (e ∙ z))) refl) }
-
-module _ (old b : List ℕ) (r : ℕ) (e : r ≡ convert_refusal old (length b)) (z : r ≡ 0) where
+module _ (old b : List ℕ) {r : Checked} {x : Unit {0}} (e : r ≡ convert_check old (length b)) (z : r ≡ Ok x) where
   accepted : convert_refusal old (length b) ≡ 0
-  accepted = sym e ∙ z
+  unfolding convert_refusal
+  accepted = ap code_of (sym e ∙ z)
 
   pub accepted_long : 16 ≤ length old
   unfolding region_words_of_width
@@ -298,41 +217,3 @@ module _ (old b : List ℕ) (r : ℕ) (e : r ≡ convert_refusal old (length b))
           source = length_of_width one_word old ready;
           target = accepted_length old (length b) accepted;
         })
-
-    pub done_right : (b' : List ℕ) → b' ≡ set_words b 0 (converted_words (frame_of_width old_counter_size s) old) → Converted old b b' r
-    unfolding converted_bytes pick
-    done_right b' eb =
-        record {
-          answer = e;
-          bytes =
-              eb
-              ∙ ap (λ x. set_words b 0 (converted_words (frame_of_width old_counter_size x) old)) es
-              ∙ sym (rw (eq-eqb (convert_refusal old (length b)) 0 accepted) refl);
-        }
-
--- The old region's check.
-pub old_words_few : (s : Shape) (q : Bool) → q ≡ shape_fits s → not q ≡ false → (w : ℕ) → w ≡ region_words_of_width old_counter_size s → w ≤ 24834
-unfolding region_words_of_width
-old_words_few s q eq gq w ew =
-    let r = in_range s (sym eq ∙ not-false q gq) in
-    omega (arith, ew, r, sizes s r.depth_most)
-
-module _ (b : List ℕ) (q : Bool) (eq : q ≡ is_whole_of_width old_counter_size b) (gq : not q ≡ false) (s : Shape) (es : s ≡ shape_in b) (f : Frame)
-    (ef : f ≡ frame_of_width old_counter_size s) where
-  pub old_within : OldWithin f (length b)
-  unfolding frame_of_width
-  old_within = record { one = ap (λ x. x.width) ef; within = fields_within one_word b q eq gq s es f ef }
-
-pub one_word_nodes : (f : Frame) (l : ℕ) → OldWithin f l → node_size old_counter_size ≡ 2 + f.width
-one_word_nodes f l g = ap (λ w. 2 + w) (sym g.one)
-
-pub old_threads_within : (f : Frame) (l : ℕ) → OldWithin f l → (ms : List ℕ) → ms ≡ thread_maxima old_counter_size f.shape
-    → ThreadsWithin f l (length ms)
-old_threads_within f l g ms em =
-    let long : length ms ≡ thread_size old_counter_size = ap length em in
-    record {
-      shape = g.within.shape;
-      within = g.within.threads;
-      stride = omega (arith, long, g.one, g.within.stride);
-      long = omega (arith, long);
-    }

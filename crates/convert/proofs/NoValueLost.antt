@@ -11,8 +11,9 @@ use lib.ListN.{length, length-append, get_or}
 use Rattle.words.specs.Inner.{Fit}
 use Rattle.words.specs.Word.{word, words_at, set_words}
 use Rattle.words.proofs.Laws.{length-set_words}
-use Rattle.region.specs.Answer.{done}
-use Rattle.region.specs.Frame.{Part, frame_of, frame_of_width, nodes_of, cells_of, threads_of}
+use Rattle.region.specs.Refusal.{done}
+use Rattle.region.specs.Frame.{frame_of, frame_of_width, nodes_of, cells_of, threads_of}
+use Rattle.region.specs.declared.part.Part.{Part}
 use Rattle.region.specs.Inner.{InRange, one_word, two_words}
 use Rattle.region.specs.Pick.{pick}
 use Rattle.region.specs.Place.{place_of}
@@ -25,9 +26,9 @@ use Rattle.region.specs.declared.shape.Shape.{Shape}
 use Rattle.region.proofs.Frames.{frame_framed}
 use Rattle.region.proofs.Shapes.{and_both, and_left, and_right, between_least, between_most, sizes}
 use Rattle.region.proofs.Threads.{copy_parts, fit_both, loaded, thread_loaded}
-use Rattle.readable.specs.Readable.{bounded, greatest_tries, greatest_waiting, node_maxima, cell_maxima, readable, shape_in, thread_maxima, thread_passes, thread_readable}
+use Rattle.readable.specs.Readable.{bounded, copy_maxima, field_maxima, greatest_tries, greatest_waiting, node_maxima, cell_maxima, readable, shape_in, thread_maxima, thread_passes, thread_readable}
 use Rattle.readable.proofs.Laws.{Good, GoodOfWidth, bounded_all, good_of_width, readable_good, shape_of_width}
-use Rattle.readable.proofs.Stores.{AllLe, SharedGood, all_at, all_both, all_fit, copies_pass, copy_maxima, field_maxima, fields_pass, good_shared, make_good, maxima_fit, tries_pass, waiting_pass}
+use Rattle.readable.proofs.Stores.{AllLe, SharedGood, all_at, all_both, all_fit, copies_pass, fields_pass, good_shared, make_good, maxima_fit, tries_pass, waiting_pass}
 use Rattle.convert.specs.Convert.{all_carried, convert_refusal, converted_bytes, converted_words, copy_carried, node_carried, old_frame_in, old_readable, thread_carried}
 use Rattle.convert.specs.Theorems.{NoValueLost, ReadsAs}
 use Rattle.convert.proofs.Held.{Held, bounded_le, fit_records, fit_words, held_copied, held_first, held_record, held_second, held_stored, held_word, held_words}

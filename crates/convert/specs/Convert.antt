@@ -2,7 +2,8 @@
 -- an old region counters have one word. Every word is carried over, and behind each counter's word stands its high word, 0.
 use Rattle.std.specs.Prelude.{ℕ, zero, suc, ◌+◌, ◌*◌, ◌≡◌, Bool, List, [], ◌∷◌, ◌++◌, eqb, length}
 use Rattle.words.specs.Word.{words_at, set_words}
-use Rattle.region.specs.Answer.{done, bad_length, unreadable, ◌unless◌otherwise◌}
+use Rattle.region.specs.Refusal.{Checked, granted, code_of, done, ◌unless◌otherwise◌}
+use Rattle.region.specs.declared.refusal.Refusal.TheVariants.{BadLength, Unreadable}
 use Rattle.region.specs.Frame.{frame_of_width}
 use Rattle.region.specs.Pick.{pick}
 use Rattle.region.specs.Record.{old_counter_size, node_size, cell_size}
@@ -18,12 +19,16 @@ old_readable b = readable_of_width old_counter_size b
 abbrev pub old_frame_in : List ℕ → Frame
 old_frame_in b = frame_of_width old_counter_size (shape_in b)
 
--- "Errors: 7 for the old region, then 2 for the new slice.": that has the exact length of a region of the same shape; l is its length in bytes
+-- what a conversion is refused for: an old region that is not readable, then a new slice not of the exact length of a region of the same shape; l is
+-- its length in bytes
+abbrev pub convert_check : List ℕ → ℕ → Checked
+convert_check old l =
+    Unreadable unless old_readable old
+    otherwise BadLength unless eqb l (4 * region_words (shape_in old))
+    otherwise granted
+
 unfoldable pub convert_refusal : List ℕ → ℕ → ℕ
-convert_refusal old l =
-    unreadable unless old_readable old
-    otherwise bad_length unless eqb l (4 * region_words (shape_in old))
-    otherwise done
+convert_refusal old l = code_of (convert_check old l)
 
 -- the words of the node, the node copy and the thread's record at word `at` of the old region, carried over
 abbrev pub node_carried : List ℕ → ℕ → List ℕ

@@ -3,8 +3,6 @@ use Rattle.std.specs.Prelude.{ℕ, ◌+◌, ◌*◌, ◌≤◌, ◌≡◌}
 use Rattle.region.specs.Inner.{InRange}
 use Rattle.region.specs.Shape.{region_words, region_words_of_width}
 use Rattle.region.specs.Record.{old_counter_size}
-use Rattle.readable.specs.Inner.{FrameWithin}
-use Rattle.region.specs.declared.frame.Frame.{Frame}
 use Rattle.region.specs.declared.shape.Shape.{Shape}
 
 -- n words from word `from` of l bytes go to m words from word `to` of r bytes
@@ -17,8 +15,3 @@ pub record Exact (s : Shape) (l r : ℕ) : Type 0 where
   pub shape : InRange s
   pub source : l ≡ 4 * region_words_of_width old_counter_size s
   pub target : r ≡ 4 * region_words s
-
--- what the check of an old region's fields requires of its frame
-pub record OldWithin (f : Frame) (l : ℕ) : Type 0 where
-  pub one : f.width ≡ old_counter_size
-  pub within : FrameWithin f l

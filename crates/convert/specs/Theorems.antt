@@ -1,6 +1,6 @@
 -- What holds of a conversion. The statement is proved in the file of `proofs/` with its name.
 use Rattle.std.specs.Prelude.{ℕ, ◌≡◌, true, List, length}
-use Rattle.region.specs.Answer.{done}
+use Rattle.region.specs.Refusal.{done}
 use Rattle.region.specs.Shared.{shared_in, thread_in}
 use Rattle.readable.specs.Readable.{frame_in, readable, shape_in}
 use Rattle.convert.specs.Convert.{convert_refusal, converted_bytes, old_frame_in}

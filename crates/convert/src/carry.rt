@@ -3,33 +3,37 @@ ghost use Rattle.std.specs.Prelude.{◌≡◌, ◌+◌, ◌*◌, length};
 ghost use Rattle.words.specs.Word.{words_at, set_words};
 ghost use Rattle.region.specs.Frame.{frame_of_width};
 ghost use Rattle.region.specs.Record.{old_counter_size};
-ghost use Rattle.convert.specs.Convert.{Converted, all_carried, convert_refusal, converted_words, copy_carried, node_carried, thread_carried};
+ghost use Rattle.region.specs.Refusal.{code_of};
+ghost use Rattle.convert.specs.Convert.{Converted, all_carried, convert_check, converted_words, copy_carried, node_carried, thread_carried};
 ghost use Rattle.convert.specs.Inner.{Exact, Room};
 
-use crate::old::{OLD_NODE_SIZE, OLD_THREAD_SIZE, is_old_readable, old_frame};
-use region::{BAD_LENGTH, CELL_SIZE, DONE, Frame, NODE_SIZE, Shape, THREAD_SIZE, UNREADABLE};
+use readable::is_readable_of_width;
+use region::{CELL_SIZE, FIELDS, Frame, NODE_SIZE, Refusal, Shape, THREAD_SIZE, require};
 
-// The words of a thread's record before its node copies, and of an old and a new node copy.
-const FIELDS: usize = 15;
+// The words of a counter, of a node, of a node copy and of a thread's record in an old region.
+const OLD_COUNTER_SIZE: usize = 1;
+
+const OLD_NODE_SIZE: usize = 3;
 
 const OLD_COPY_SIZE: usize = 6;
 
+const OLD_THREAD_SIZE: usize = 33;
+
+// The words of a node copy in a new one.
 const COPY_SIZE: usize = 7;
 
 // Copies words.
+#[inline(always)]
 fn copy_words(old: &[u8], from: usize, new: &mut [u8], to: usize, count: usize)
     requires { Room (length old.now) from count (length new.old) to count }
     ensures { new.new ≡ set_words new.old to (words_at old.now from count) }
 {
-    let mut i = 0;
-    while i < count {
-        words::store_word(new, to + i, words::load_word(old, from + i));
-        i += 1;
-    }
+    new[4 * to..4 * (to + count)].copy_from_slice(&old[4 * from..4 * (from + count)]);
 }
 
 // The head. Its words are all loaded before one is stored, as are those of a node and of a node copy, so that the compiled code moves several
 // at once.
+#[inline(always)]
 fn convert_head(old: &[u8], new: &mut [u8])
     requires { Room (length old.now) 0 6 (length new.old) 0 6 }
     ensures { new.new ≡ set_words new.old 0 (words_at old.now 0 6) }
@@ -40,6 +44,7 @@ fn convert_head(old: &[u8], new: &mut [u8])
 }
 
 // A node: three words, and the high word of its counter.
+#[inline(always)]
 fn convert_node(old: &[u8], from: usize, new: &mut [u8], to: usize)
     requires { Room (length old.now) from 3 (length new.old) to 4 }
     ensures { new.new ≡ set_words new.old to (node_carried old.now from) }
@@ -51,6 +56,7 @@ fn convert_node(old: &[u8], from: usize, new: &mut [u8], to: usize)
 }
 
 // A node copy: the words of its node, and its head behind them.
+#[inline(always)]
 fn convert_copy(old: &[u8], from: usize, new: &mut [u8], to: usize)
     requires { Room (length old.now) from 6 (length new.old) to 7 }
     ensures { new.new ≡ set_words new.old to (copy_carried old.now from) }
@@ -62,6 +68,7 @@ fn convert_copy(old: &[u8], from: usize, new: &mut [u8], to: usize)
 }
 
 // A thread's record: the words before its node copies, and these.
+#[inline(always)]
 fn convert_thread(old: &[u8], from: usize, new: &mut [u8], to: usize)
     requires { Room (length old.now) from 33 (length new.old) to 36 }
     ensures { new.new ≡ set_words new.old to (thread_carried old.now from) }
@@ -82,14 +89,13 @@ fn convert_thread(old: &[u8], from: usize, new: &mut [u8], to: usize)
 }
 
 // The nodes.
+// stays: this loop and the next are two; one over a trait with both sizes and a method would be longer than both.
 fn convert_nodes(old: &[u8], from: usize, new: &mut [u8], to: usize, count: usize)
     requires { Room (length old.now) from (3 * count) (length new.old) to (4 * count) }
     ensures { new.new ≡ set_words new.old to (all_carried node_carried 3 old.now from count) }
 {
-    let mut i = 0;
-    while i < count {
+    for i in 0..count {
         convert_node(old, from + OLD_NODE_SIZE * i, new, to + NODE_SIZE * i);
-        i += 1;
     }
 }
 
@@ -98,10 +104,8 @@ fn convert_threads(old: &[u8], from: usize, new: &mut [u8], to: usize, count: us
     requires { Room (length old.now) from (33 * count) (length new.old) to (36 * count) }
     ensures { new.new ≡ set_words new.old to (all_carried thread_carried 33 old.now from count) }
 {
-    let mut i = 0;
-    while i < count {
+    for i in 0..count {
         convert_thread(old, from + OLD_THREAD_SIZE * i, new, to + THREAD_SIZE * i);
-        i += 1;
     }
 }
 
@@ -110,7 +114,7 @@ fn convert_words(old: &[u8], new: &mut [u8], shape: Shape)
     requires { Exact shape (length old.now) (length new.old) }
     ensures { new.new ≡ set_words new.old 0 (converted_words (frame_of_width old_counter_size shape) old.now) }
 {
-    let before = old_frame(shape);
+    let before = Frame::of_width::<OLD_COUNTER_SIZE>(shape);
     let after = Frame::of(shape);
     let cells = CELL_SIZE * (shape.cells as usize);
     convert_head(old, new);
@@ -125,27 +129,24 @@ fn convert_words(old: &[u8], new: &mut [u8], shape: Shape)
     );
 }
 
-// The refusal of a conversion to a slice of this length, or done.
-fn refusal(old: &[u8], length: usize) -> u32
-    ensures { result ≡ convert_refusal old.now length }
+// What a conversion to a slice of this length is refused for, if anything.
+#[tactic(auto, unfolding(region::specs::Pick::pick))]
+fn convert_check(old: &[u8], length: usize) -> Result<(), Refusal>
+    ensures { result ≡ convert_check old.now length }
 {
-    if !is_old_readable(old) {
-        return UNREADABLE;
+    if !is_readable_of_width::<OLD_COUNTER_SIZE>(old) {
+        return Err(Refusal::Unreadable);
     }
     let shape = readable::load_shape(old);
-    if length != 4 * shape.word_count() {
-        return BAD_LENGTH;
-    }
-    DONE
+    require(length == 4 * shape.word_count(), Refusal::BadLength)
 }
 
-// Carries the old region over to the new slice: 0 if done, else the refusal (7, 2). A refused call changes no byte.
-pub fn convert(old: &[u8], new: &mut [u8]) -> u32
-    ensures { Converted old.now new.old new.new result }
+// Carries the old region over to the new slice, or refuses (7, 2) and changes no byte.
+#[tactic(auto, unfolding(crate::specs::Convert::convert_refusal, crate::specs::Convert::converted_bytes, region::specs::Pick::pick))]
+pub fn convert(old: &[u8], new: &mut [u8]) -> Result<(), Refusal>
+    ensures { Converted old.now new.old new.new (code_of result) }
 {
-    let refused = refusal(old, new.len());
-    if refused == DONE {
-        convert_words(old, new, readable::load_shape(old));
-    }
-    refused
+    convert_check(old, new.len())?;
+    convert_words(old, new, readable::load_shape(old));
+    Ok(())
 }

@@ -7,7 +7,7 @@ use mathlib.Core.Bool.{Bool, true, false, ◌&&◌}
 use mathlib.Core.List.{List}
 use borrow.Author.Tests.{leb-true}
 use lib.Dec.{leb}
-use Rattle.region.specs.Answer.{bad_thread}
+use Rattle.region.specs.declared.refusal.Refusal.TheVariants.{BadThread}
 use Rattle.region.specs.Frame.{frame_of_width}
 use Rattle.region.specs.Inner.{one_word, two_words}
 use Rattle.region.specs.Pick.{pick, upd}
@@ -74,7 +74,7 @@ module _ {s : Shape} {b b' : List ℕ} (a : Alike s b b') where
   pub same_plan : (t c : ℕ) → turn_plan (new_frame s) b' t c ≡ turn_plan (old_frame s) b t c
   unfolding turn_plan frame_of_width
   same_plan t c = λ i.
-      pick (between 1 t s.threads) (decide s (a.shared i) (a.threads i t) c) (refused (idle_thread 0) bad_thread)
+      pick (between 1 t s.threads) (decide s (a.shared i) (a.threads i t) c) (refused (idle_thread 0) BadThread)
 
 -- An effect in range whose counters fit one word is in range for an old region.
 node_narrow : (cells : ℕ) (v : Node) → NodeGood counter_size cells v → leb (counter_of v) 4294967295 ≡ true → NodeGood old_counter_size cells v

@@ -6,7 +6,8 @@ use mathlib.Core.Bool.{Bool, true, false, not}
 use mathlib.Core.List.{List}
 use borrow.Author.Tests.{eqb-true}
 use lib.Dec.{eqb}
-use Rattle.region.specs.Answer.{done, bad_thread, bad_item, not_permitted, thread_busy, no_free_cell, unreadable, ◌unless◌otherwise◌}
+use Rattle.region.specs.Refusal.{Checked, code_of, done, granted, ◌unless◌otherwise◌}
+use Rattle.region.specs.declared.refusal.Refusal.TheVariants.{BadThread, BadItem, NotPermitted, ThreadBusy, NoFreeCell, Unreadable}
 use Rattle.region.specs.Frame.{frame_of_width}
 use Rattle.region.specs.Pick.{pick, upd}
 use Rattle.region.specs.Record.{counter_size, is_item, old_counter_size}
@@ -22,8 +23,8 @@ use Rattle.region.proofs.Views.{threads_set_permission}
 use Rattle.readable.specs.Readable.{readable_of_width, shape_in}
 use Rattle.readable.proofs.Stores.{keeps_set_permission}
 use Rattle.permission.specs.Grants.{may_put, may_take}
-use Rattle.permission.specs.Permit.{permit_refusal_in}
-use Rattle.begin.specs.Begin.{BeginsAt, one_item, whole_list, accepted_put, accepted_take, has_free_cell, put_refusal_in, take_refusal_in}
+use Rattle.permission.specs.Permit.{permit_check_in, permit_refusal_in}
+use Rattle.begin.specs.Begin.{BeginsAt, accepted_put, accepted_take, has_free_cell, one_item, put_check_in, put_refusal_in, take_check_in, take_refusal_in, whole_list}
 use Rattle.preserved.proofs.Proved.{accepted_put_keeps, accepted_take_keeps, permit_least, permit_most, permit_passed, put_passed, take_passed}
 use Rattle.bag.proofs.Begun.{permit_shared, put_shared, put_threads, take_shared, take_threads}
 use Rattle.converted.specs.Forms.{new_form, old_form}
@@ -47,44 +48,56 @@ module _ {s : Shape} {b b' : List ℕ} (a : Alike s b b') where
   f' = new_frame s
 
   -- Refusals are of the values alone.
+  put_checked : (t : ℕ) (i : Item) → put_check_in f' b' t i ≡ put_check_in f b t i
+  unfolding has_free_cell shared_in frame_of_width
+  put_checked t i = λ j.
+      BadThread unless between 1 t s.threads
+      otherwise BadItem unless is_item i
+      otherwise NotPermitted unless may_put (a.threads j t)
+      otherwise ThreadBusy unless is_idle (a.threads j t)
+      otherwise NoFreeCell unless not (eqb (a.shared j).free 0)
+      otherwise granted
+
   put_refusal : (t : ℕ) (i : Item) → put_refusal_in f' b' t i ≡ put_refusal_in f b t i
-  unfolding put_refusal_in has_free_cell shared_in frame_of_width
-  put_refusal t i = λ j.
-      bad_thread unless between 1 t s.threads
-      otherwise bad_item unless is_item i
-      otherwise not_permitted unless may_put (a.threads j t)
-      otherwise thread_busy unless is_idle (a.threads j t)
-      otherwise no_free_cell unless not (eqb (a.shared j).free 0)
-      otherwise done
+  unfolding put_refusal_in
+  put_refusal t i = ap code_of (put_checked t i)
+
+  take_checked : (t : ℕ) → take_check_in f' b' t ≡ take_check_in f b t
+  unfolding frame_of_width
+  take_checked t = λ j.
+      BadThread unless between 1 t s.threads
+      otherwise NotPermitted unless may_take (a.threads j t)
+      otherwise ThreadBusy unless is_idle (a.threads j t)
+      otherwise granted
 
   take_refusal : (t : ℕ) → take_refusal_in f' b' t ≡ take_refusal_in f b t
-  unfolding take_refusal_in frame_of_width
-  take_refusal t = λ j.
-      bad_thread unless between 1 t s.threads
-      otherwise not_permitted unless may_take (a.threads j t)
-      otherwise thread_busy unless is_idle (a.threads j t)
-      otherwise done
+  unfolding take_refusal_in
+  take_refusal t = ap code_of (take_checked t)
+
+  permit_checked : (t p : ℕ) → permit_check_in f' t p ≡ permit_check_in f t p
+  unfolding frame_of_width
+  permit_checked t p = refl
 
   permit_refusal : (t p : ℕ) → permit_refusal_in f' t p ≡ permit_refusal_in f t p
   unfolding permit_refusal_in frame_of_width
   permit_refusal t p = refl
 
   -- of a whole region: both can be read
-  whole : (x y : ℕ) → x ≡ y
-      → (unreadable unless readable_of_width counter_size b' otherwise x) ≡ (unreadable unless readable_of_width old_counter_size b otherwise y)
+  whole : (x y : Checked) → x ≡ y → code_of (Unreadable unless readable_of_width counter_size b' otherwise x)
+      ≡ code_of (Unreadable unless readable_of_width old_counter_size b otherwise y)
   unfolding pick
-  whole x y e = rw (a.old, a.new) e
+  whole x y e = rw (a.old, a.new) (ap code_of e)
 
   -- through the frames that the regions' first words give
-  given : (g : Frame → List ℕ → ℕ) → g f' b' ≡ g f b → g (new_frame (shape_in b')) b' ≡ g (old_frame (shape_in b)) b
+  given : (g : Frame → List ℕ → Checked) → g f' b' ≡ g f b → g (new_frame (shape_in b')) b' ≡ g (old_frame (shape_in b)) b
   given g e = ap (λ x. g (new_frame x) b') a.new_shape ∙ e ∙ sym (ap (λ x. g (old_frame x) b) a.old_shape)
 
   pub refusal_same : (c : QueueCall) → refusal_by new_form b' c ≡ refusal_by old_form b c
   unfolding refusal_by
-  refusal_same (put t i) = whole _ _ (given (λ g l. put_refusal_in g l t i) (put_refusal t i))
-  refusal_same (take t) = whole _ _ (given (λ g l. take_refusal_in g l t) (take_refusal t))
-  refusal_same (list t) = whole _ _ (given (λ g l. take_refusal_in g l t) (take_refusal t))
-  refusal_same (permit t p) = whole _ _ (given (λ g l. permit_refusal_in g t p) (permit_refusal t p))
+  refusal_same (put t i) = whole _ _ (given (λ g l. put_check_in g l t i) (put_checked t i))
+  refusal_same (take t) = whole _ _ (given (λ g l. take_check_in g l t) (take_checked t))
+  refusal_same (list t) = whole _ _ (given (λ g l. take_check_in g l t) (take_checked t))
+  refusal_same (permit t p) = whole _ _ (given (λ g l. permit_check_in g t p) (permit_checked t p))
   refusal_same (run schedule limit answers) = whole _ _ refl
   refusal_same check = whole _ _ refl
 
@@ -134,7 +147,7 @@ module _ {s : Shape} {b b' : List ℕ} (a : Alike s b b') where
       ∙ sym (threads_set_permission f b g.framed t p l u (omega (arith, passed.permission))))
 
   -- where a call is not refused, the refusals behind the first do not apply
-  under : (x : ℕ) → (unreadable unless readable_of_width old_counter_size b otherwise x) ≡ done → x ≡ done
+  under : (x : Checked) → code_of (Unreadable unless readable_of_width old_counter_size b otherwise x) ≡ done → code_of x ≡ done
   unfolding pick
   under x e = rw a.old at e
 
@@ -147,7 +160,7 @@ module _ {s : Shape} {b b' : List ℕ} (a : Alike s b b') where
   here g e = sym (ap (λ x. g (old_frame x)) a.old_shape) ∙ e
 
   pub accepted_alike : (c : QueueCall) → NotRun c → refusal_by old_form b c ≡ done → Alike s (accepted_by old_form b c) (accepted_by new_form b' c)
-  unfolding refusal_by accepted_by
+  unfolding refusal_by accepted_by put_refusal_in take_refusal_in permit_refusal_in
   accepted_alike (put t i) n e = shaped (λ g l. accepted_put g l t i) (put_alike t i (here (λ g. put_refusal_in g b t i) (under _ e)))
   accepted_alike (take t) n e =
       shaped (λ g l. accepted_take g l t ReadRoot) (take_alike t ReadRoot one_item (here (λ g. take_refusal_in g b t) (under _ e)))

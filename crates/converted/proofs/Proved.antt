@@ -6,7 +6,9 @@ use mathlib.Core.List.{List, [], ◌∷◌, ◌++◌, append_assoc}
 use lib.Dec.{eqb}
 use lib.ListN.{length}
 use Rattle.words.specs.Word.{set_words}
-use Rattle.region.specs.Answer.{answer_words, counter_spent, done}
+use Rattle.region.specs.Answer.{answer_words}
+use Rattle.region.specs.Refusal.{done}
+use Rattle.region.specs.declared.refusal.Refusal.TheVariants.{CounterSpent}
 use Rattle.region.specs.Frame.{frame_of_width}
 use Rattle.region.specs.Pick.{pick}
 use Rattle.region.specs.Shape.{node_count}
@@ -61,7 +63,7 @@ module _ (s : Shape) (limit : ℕ) where
     unfolding capped pick
     not_capped e = rw e refl
 
-    capped_answer : fits ≡ false → (old_form.plan f r.region t.thread t.choice).answer ≡ Refused counter_spent
+    capped_answer : fits ≡ false → (old_form.plan f r.region t.thread t.choice).answer ≡ Refused CounterSpent
     unfolding capped pick refused
     capped_answer e = rw e refl
 

@@ -2,7 +2,7 @@
 -- definitions of places, turns and beginnings know no form: they read and store records through a frame, which says how many words a counter
 -- has. Only refusal 11 differs.
 use Rattle.std.specs.Prelude.{ℕ, Bool, true, ◌&&◌, List, [], ◌∷◌, leb}
-use Rattle.region.specs.Answer.{counter_spent}
+use Rattle.region.specs.declared.refusal.Refusal.TheVariants.{CounterSpent}
 use Rattle.region.specs.Pick.{pick}
 use Rattle.region.specs.Record.{counter_of, counter_size, old_counter_size}
 use Rattle.region.specs.declared.frame.Frame.{Frame}
@@ -37,7 +37,7 @@ old_counters_fit (v ∷ vs) = leb (counter_of v) old_greatest_counter && old_cou
 -- above the last exactly where the one met was the last.
 unfoldable pub capped : Plan → Plan
 unfolding old_counters_fit
-capped p = pick (old_counters_fit (nodes_stored p.effect)) p (refused p.thread counter_spent)
+capped p = pick (old_counters_fit (nodes_stored p.effect)) p (refused p.thread CounterSpent)
 
 -- a form: how many words a counter has, and the plan of a turn of thread t with choice c on the bytes b
 pub record Form : Type 0 where

@@ -3,7 +3,9 @@
 use Rattle.std.specs.Prelude.{ℕ, ◌+◌, ◌*◌, ◌/◌, eqb, length}
 use mathlib.Core.List.{List, [], ◌∷◌, ◌++◌}
 use Rattle.words.specs.Word.{set_words}
-use Rattle.region.specs.Answer.{done, unreadable, answer_words, ◌unless◌otherwise◌}
+use Rattle.region.specs.Answer.{answer_words}
+use Rattle.region.specs.Refusal.{code_of, done, granted, ◌unless◌otherwise◌}
+use Rattle.region.specs.declared.refusal.Refusal.TheVariants.{Unreadable}
 use Rattle.region.specs.Frame.{frame_of_width}
 use Rattle.region.specs.Pick.{pick}
 use Rattle.region.specs.Shared.{set_permission_in}
@@ -13,10 +15,10 @@ use Rattle.region.specs.declared.place.Place.TheVariants.{ReadRoot, ListReadRoot
 use Rattle.region.specs.declared.record.Item.{Item}
 use Rattle.access.specs.Plan.{accesses_of}
 use Rattle.readable.specs.Readable.{readable_of_width, shape_in}
-use Rattle.permission.specs.Permit.{permit_refusal_in}
-use Rattle.begin.specs.Begin.{accepted_put, accepted_take, put_refusal_in, take_refusal_in}
+use Rattle.permission.specs.Permit.{permit_check_in}
+use Rattle.begin.specs.Begin.{accepted_put, accepted_take, put_check_in, take_check_in}
 use Rattle.machine.specs.Turn.{carried_out}
-use Rattle.run.specs.Run.{Served, Turn, schedule_refusal, so_far, turns_from}
+use Rattle.run.specs.Run.{Served, Turn, schedule_check, schedule_refusal, so_far, turns_from}
 use Rattle.converted.specs.Forms.{Form}
 
 -- "calls without a layout"; a run has a schedule, a limit and a slice for its answers
@@ -66,12 +68,12 @@ module _ (z : Form) where
 
   -- what a call answers: done, or its refusal, the first that applies
   unfoldable pub refusal_by : List ℕ → QueueCall → ℕ
-  refusal_by b (put t i) = unreadable unless readable_of_width z.width b otherwise put_refusal_in (frame_by b) b t i
-  refusal_by b (take t) = unreadable unless readable_of_width z.width b otherwise take_refusal_in (frame_by b) b t
-  refusal_by b (list t) = unreadable unless readable_of_width z.width b otherwise take_refusal_in (frame_by b) b t
-  refusal_by b (permit t p) = unreadable unless readable_of_width z.width b otherwise permit_refusal_in (frame_by b) t p
-  refusal_by b (run schedule limit a) = unreadable unless readable_of_width z.width b otherwise schedule_refusal schedule (length a)
-  refusal_by b check = unreadable unless readable_of_width z.width b otherwise done
+  refusal_by b (put t i) = code_of (Unreadable unless readable_of_width z.width b otherwise put_check_in (frame_by b) b t i)
+  refusal_by b (take t) = code_of (Unreadable unless readable_of_width z.width b otherwise take_check_in (frame_by b) b t)
+  refusal_by b (list t) = code_of (Unreadable unless readable_of_width z.width b otherwise take_check_in (frame_by b) b t)
+  refusal_by b (permit t p) = code_of (Unreadable unless readable_of_width z.width b otherwise permit_check_in (frame_by b) t p)
+  refusal_by b (run schedule limit a) = code_of (Unreadable unless readable_of_width z.width b otherwise schedule_check schedule (length a))
+  refusal_by b check = code_of (Unreadable unless readable_of_width z.width b otherwise granted)
 
   -- a run that is not refused serves its turns, one that is refused none
   unfoldable pub served_by : List ℕ → List ℕ → ℕ → List ℕ → Served

@@ -1,6 +1,7 @@
 -- What is claimed of a converted region (document 02, request 7); each statement is proved under its name in proofs/Proved.antt.
 use Rattle.std.specs.Prelude.{ℕ, ◌≡◌, List, [], ◌∷◌, length}
-use Rattle.region.specs.Answer.{counter_spent, done}
+use Rattle.region.specs.Refusal.{done}
+use Rattle.region.specs.declared.refusal.Refusal.TheVariants.{CounterSpent}
 use Rattle.region.specs.declared.answer.Answer.TheVariants.{Refused}
 use Rattle.region.specs.declared.record.Item.{Item}
 use Rattle.readable.specs.Readable.{frame_in}
@@ -16,7 +17,7 @@ use Rattle.converted.specs.Replies.{QueueCall, put, take, list, permit, run, che
 pub data AlikeUntilSpent : List Reply → List Reply → Type 0 where
   both_end : AlikeUntilSpent [] []
   alike : (x : Reply) {xs ys : List Reply} → AlikeUntilSpent xs ys → AlikeUntilSpent (x ∷ xs) (x ∷ ys)
-  spent : (xs ys : List Reply) → AlikeUntilSpent (turned (Refused counter_spent) ∷ xs) ys
+  spent : (xs ys : List Reply) → AlikeUntilSpent (turned (Refused CounterSpent) ∷ xs) ys
 
 -- "Afterwards every sequence of calls without a layout answers as the same machine would on the old region up to the first refusal 11 there": for
 -- every old region and new slice that the converter does not refuse, laid out or not

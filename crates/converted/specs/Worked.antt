@@ -1,7 +1,7 @@
 -- The old machine at work: what turns of thread 1 answer on old regions, which are those of the conversions' cases, computed.
 use Rattle.std.specs.Prelude.{ℕ, ◌*◌, ◌≡◌, List, [], ◌∷◌, length, replicate}
 use Rattle.words.specs.Word.{set_words}
-use Rattle.region.specs.Answer.{counter_spent}
+use Rattle.region.specs.declared.refusal.Refusal.TheVariants.{CounterSpent}
 use Rattle.region.specs.declared.answer.Answer.TheVariants.{Moved, Inserted, Took, Refused}
 use Rattle.cases.specs.Conversions.{put_at_i6, take_at_e2, old_form as one_word}
 use Rattle.cases.specs.Row.{item, schedule}
@@ -18,4 +18,4 @@ pub record OldMachineAnswers : Type 0 where
   -- a put at I6 whose update makes the root's counter 4,294,967,295, its last value
   pub inserts : turns_on (put_at_i6 4294967294 one_word) 1 ≡ turned Inserted ∷ []
   -- one that meets that value is refused 11, and again at its next turn
-  pub refuses : turns_on (put_at_i6 4294967295 one_word) 2 ≡ turned (Refused counter_spent) ∷ turned (Refused counter_spent) ∷ []
+  pub refuses : turns_on (put_at_i6 4294967295 one_word) 2 ≡ turned (Refused CounterSpent) ∷ turned (Refused CounterSpent) ∷ []

@@ -6,15 +6,16 @@ use mathlib.Core.Path.{◌≡◌, refl, sym, ap, subst, ◌∙◌}
 use mathlib.Core.Bool.{Bool, true, false}
 use mathlib.Core.List
 use mathlib.Core.List.{List, [], ◌∷◌, ◌++◌, Sublistᴰ}
-use mathlib.Core.Option.{Option, none, some}
 use borrow.Author.Tests.{le-leb, leb-true}
 use lib.Dec.{eqb, leb}
 use lib.ListN.{length}
-use Rattle.region.specs.Answer.{bad_length, done, ◌unless◌otherwise◌}
+use Rattle.std.specs.Prelude.{Option, Some, None}
+use Rattle.region.specs.Refusal.{code_of, done, granted, ◌unless◌otherwise◌}
+use Rattle.region.specs.declared.refusal.Refusal.TheVariants.{BadLength, NotShown}
 use Rattle.region.specs.Pick.{pick}
 use Rattle.cut.specs.Whole.{Entry, Script, read_script, script_bytes, with_lines}
 use Rattle.cut.specs.Shown.{shows}
-use Rattle.cut.specs.Cut.{cut_bytes, cut_of, cut_refusal, cut_script, pass, shown_refusal}
+use Rattle.cut.specs.Cut.{cut_bytes, cut_of, cut_refusal, cut_script, pass, shown_check}
 use Rattle.cut.specs.Theorems.{CutIsRight, IsCut}
 use Rattle.cut.proofs.Sublists.{part_without}
 use Rattle.cut.proofs.Tried.{needs_each, passes_part, passes_same, passes_shows}
@@ -24,7 +25,7 @@ use Rattle.cut.proofs.StaysReadable.{no_longer, stays_readable}
 -- A call is not refused just where the slice has room, the script can be read and the number is shown.
 pub record NotRefused (s : List ℕ) (n room : ℕ) (x : Script) : Type 0 where
   pub fits : length s ≤ room
-  pub read : read_script s ≡ some x
+  pub read : read_script s ≡ Some x
   pub shown : shows n x.setup x.lines ≡ true
 
 pub not_refused : (s : List ℕ) (n room : ℕ) → cut_refusal s n room ≡ done → (x : Script) × NotRefused s n room x
@@ -32,12 +33,12 @@ unfolding cut_refusal pick
 not_refused s n room = ways (leb (length s) room) refl (read_script s) refl
   where
     ways : (q : Bool) → leb (length s) room ≡ q → (o : Option Script) → read_script s ≡ o
-        → bad_length unless q otherwise shown_refusal n o ≡ done → (x : Script) × NotRefused s n room x
+        → code_of (BadLength unless q otherwise shown_check n o) ≡ done → (x : Script) × NotRefused s n room x
     ways false eq o e h = absurd (omega arith)
-    ways true eq none e h = absurd (omega arith)
-    ways true eq (some x) e h = (x, shown (shows n x.setup x.lines) refl h)
+    ways true eq None e h = absurd (omega arith)
+    ways true eq (Some x) e h = (x, shown (shows n x.setup x.lines) refl h)
       where
-        shown : (q : Bool) → shows n x.setup x.lines ≡ q → 16 unless q otherwise done ≡ done → NotRefused s n room x
+        shown : (q : Bool) → shows n x.setup x.lines ≡ q → code_of (NotShown unless q otherwise granted) ≡ done → NotRefused s n room x
         shown true g h = record { fits = leb-true (length s) room eq; read = e; shown = g }
         shown false g h = absurd (omega arith)
 
@@ -68,7 +69,7 @@ module _ (n : ℕ) (x : Script) where
   unfolding cut_of
   cut_twice = ap (with_lines x) (passes_same (shows n x.setup) (length (cut_of n x).lines) (cut_of n x).lines cut_last)
 
-  cut_reads : (s : List ℕ) → read_script s ≡ some x → read_script (script_bytes (cut_of n x)) ≡ some (cut_of n x)
+  cut_reads : (s : List ℕ) → read_script s ≡ Some x → read_script (script_bytes (cut_of n x)) ≡ Some (cut_of n x)
   unfolding cut_of
   cut_reads s e = stays_readable s x e (cut_of n x).lines cut_part
 
@@ -79,7 +80,7 @@ module _ (s : List ℕ) (n room : ℕ) (x : Script) (c : NotRefused s n room x) 
   abbrev cut : Script
   cut = cut_of n x
 
-  written_read : read_script written ≡ some cut
+  written_read : read_script written ≡ Some cut
   written_read = ap read_script (cut_written c) ∙ cut_reads n x s c.read
 
   written_short : length written ≤ length s
@@ -88,7 +89,7 @@ module _ (s : List ℕ) (n room : ℕ) (x : Script) (c : NotRefused s n room x) 
 
   -- a line less: it can be read, and does not show the number
   line_needed : (front : List Entry) (e : Entry) (back : List Entry) → cut.lines ≡ front ++ (e ∷ back)
-      → (read_script (script_bytes (with_lines x (front ++ back))) ≡ some (with_lines x (front ++ back)))
+      → (read_script (script_bytes (with_lines x (front ++ back))) ≡ Some (with_lines x (front ++ back)))
       × (shows n x.setup (front ++ back) ≡ false)
   line_needed front e back h =
       let part : Sublistᴰ (front ++ back) cut.lines =

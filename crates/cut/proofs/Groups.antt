@@ -1,6 +1,7 @@
 -- Turns served together: entered into a schedule, run, and their answers looked through. What they leave and show is what the lines one by one
 -- do. Assumes nothing.
-use Prim.Native.Nat.{ℕ, zero, suc, ◌+◌, ◌-◌, ◌*◌, ◌/◌, ◌%◌, ◌^◌, ◌≤◌, ◌<◌}
+use Prim.Native.Nat.{ℕ, zero, suc, ◌+◌, ◌-◌, ◌*◌, ◌/◌, ◌%◌, ◌^◌, ◌≤◌, ◌<◌, min}
+use native.Mathlib.Nat.{add-zero, zero-add}
 use native.Mathlib.Numerals.{add-one}
 use native.Mathlib.Omega.{arith}
 use mathlib.Core.Path.{◌≡◌, refl, sym, ap, subst, ◌∙◌}
@@ -9,32 +10,37 @@ use mathlib.Core.Bool.{Bool, true, false, ◌&&◌, ◌||◌}
 use mathlib.Core.List.{List, [], ◌∷◌, ◌++◌, map}
 use borrow.Author.Tests.{eq-eqb, eqb-false, eqb-true, le-leb, ne_eqb}
 use lib.Dec.{eqb}
-use lib.ListN.{length, get_or, take, replicate, length-replicate}
-use lib.Seq.{get_or-take, length-take-le, slice, slice-cons}
+use lib.ListN.{length, drop, get_or, take, replicate, length-replicate}
+use lib.Seq.{drop-cons, get_or-take, length-take-le}
 use Rattle.words.specs.Word.{set_word, set_words, word}
 use Rattle.words.proofs.Laws.{length-set_word, length-set_words, word_apart, word_other, word_same}
-use Rattle.region.specs.Answer.{answer_words, done}
+use Rattle.region.specs.Answer.{answer_words}
+use Rattle.std.specs.Prelude.{Result}
+use Rattle.region.specs.Refusal.{done}
+use Rattle.region.specs.declared.refusal.Refusal.{Refusal}
 use Rattle.region.specs.Pick.{pick}
 use Rattle.region.specs.declared.answer.Answer.{Answer}
 use Rattle.region.specs.declared.frame.Frame.{Frame}
 use Rattle.access.specs.Plan.{accesses_of}
-use Rattle.readable.specs.Readable.{frame_in, readable}
+use Rattle.readable.specs.Readable.{frame_in}
 use Rattle.machine.specs.Turn.{turn_answer, turn_bytes}
-use Rattle.run.specs.Inner.{Ran}
+use Rattle.run.specs.Inner.{Ran, counts_of}
 use Rattle.run.specs.Run.{Served, Turn as ScheduleTurn, run_refusal, run_result, schedule_refusal, serve, serve_all, so_far, turn_at, turns_from}
-use Rattle.run.specs.declared.Outcome.{Outcome as RunOutcome}
+use Rattle.run.specs.declared.Counts.{Counts}
 use Rattle.run.proofs.Laws.{one_access}
 use Rattle.script.specs.Inner.{CallMade, Ready}
 use Rattle.script.specs.Script.{call_bytes, call_outcome}
 use Rattle.script.specs.declared.printing.Outcome.TheVariants.{Answered}
+use Rattle.script.specs.declared.reading.What.{What}
 use Rattle.script.specs.declared.reading.What.TheVariants.{Permit, Put, Take, TakeList, Turn}
 use Rattle.script.proofs.LineCalls.{turn_made}
 use Rattle.script.proofs.Regions.{still_ready}
 use Rattle.cut.specs.Shown.{is_refusal}
-use Rattle.cut.specs.Inner.{EnterRoom, Gatherable, Gathered, TurnStored, TurnsReady, TurnsShown, any_refused_at, call_in, calls_show, is_turn, refused_at, region_after, turn_call, what_of}
+use Rattle.cut.specs.Inner.{Gatherable, Gathered, TurnStored, TurnsReady, TurnsShown, any_refused_at, calls_of, calls_show, is_turn, no_line, refused_at, region_after, turn_call}
 use Rattle.cut.specs.declared.lines.Call.{Call}
+use Rattle.cut.specs.declared.lines.Line.{Line}
 use Rattle.cut.proofs.TriedOn.{or_assoc}
-use Rattle.cut.proofs.TurnAnswers.{answer_few, stored_refusal}
+use Rattle.cut.proofs.TurnAnswers.{stored_refusal}
 
 -- A turn is entered.
 pub turn_stored : (s : List ℕ) (k t c : ℕ) → 8 * k + 8 ≤ length s → t < 2 ^ 32 → c < 2 ^ 32 → (s₁ : List ℕ) → s₁ ≡ set_word s (2 * k) t
@@ -59,91 +65,57 @@ turn_stored s k t c room ft fc s₁ e₁ s₂ e₂ =
       others = λ j h i. record { thread = kept (2 * j) (omega arith) i; choice = kept (2 * j + 1) (omega arith) i };
     }
 
--- The call of a row by its kind.
-module _ (t : List ℕ) (row : ℕ) where
-  turn_in : get_or t (6 * row) 0 ≡ 4
-      → call_in t row ≡ turn_call (record { thread = get_or t (6 * row + 1) 0; choice = get_or t (6 * row + 2) 0 })
-  unfolding call_in what_of pick
-  turn_in e = rw (eq-eqb (get_or t (6 * row) 0) 4 e) refl
+not_turn : (w : What) → ((x : ℕ) → w ≡ Turn x → ⊥) → is_turn w ≡ false
+not_turn (Put i) n = refl
+not_turn Take n = refl
+not_turn TakeList n = refl
+not_turn (Permit p) n = refl
+not_turn (Turn c) n = absurd (n c refl)
 
-  other_in : (get_or t (6 * row) 0 ≡ 4 → ⊥) → is_turn (call_in t row).what ≡ false
-  unfolding call_in what_of pick
-  other_in h =
-      rw (ne_eqb (get_or t (6 * row) 0) 4 h) (go (eqb (get_or t (6 * row) 0) 0) (eqb (get_or t (6 * row) 0) 1) (eqb (get_or t (6 * row) 0) 2))
-    where
-      go : (p q r : Bool)
-          → is_turn
-          (pick p (Put (record { key = get_or t (6 * row + 2) 0; tag = get_or t (6 * row + 3) 0 }))
-          (pick q Take (pick r TakeList (Permit (get_or t (6 * row + 2) 0)))))
-          ≡ false
-      go true q r = refl
-      go false true r = refl
-      go false false true = refl
-      go false false false = refl
-
--- The loop that enters turns.
-pub record Gathering (t rows : List ℕ) (from to : ℕ) (s₀ s : List ℕ) (turns : ℕ) : Type 0 where
-  pub able : Gatherable t rows from to (length s₀)
+-- The loop that enters turns: so many lines were turns, and stand in the schedule.
+pub record Gathering (ls : List Line) (s₀ s : List ℕ) (k : ℕ) : Type 0 where
+  pub able : Gatherable ls (length s₀)
   pub same : length s ≡ length s₀
-  pub few : turns ≤ 16
-  pub before : from + turns ≤ to
-  pub each : (j : ℕ) → j < turns → call_in t (get_or rows (from + j) 0) ≡ turn_call (turn_at s j)
+  pub few : k ≤ 16
+  pub before : k ≤ length ls
+  pub each : (j : ℕ) → j < k → (get_or ls j no_line).call ≡ turn_call (turn_at s j)
 
-pub gather_start : (t rows : List ℕ) (from to : ℕ) (s : List ℕ) → Gatherable t rows from to (length s) → Gathering t rows from to s s 0
-gather_start t rows from to s h =
-    record { able = h; same = refl; few = omega arith; before = omega (arith, h.some); each = λ j w. absurd (omega arith) }
-
-module _ {t rows : List ℕ} {from to : ℕ} {s₀ s : List ℕ} {turns : ℕ} (e : Gathering t rows from to s₀ s turns) where
-  pub gather_same : length s ≡ length s₀
-  gather_same = e.same
-
-  gathered : (turns ≡ 0 → is_turn (call_in t (get_or rows from 0)).what ≡ false) → Gathered t rows from to s turns
+module _ {ls : List Line} {s₀ s : List ℕ} {k : ℕ} (e : Gathering ls s₀ s k) where
+  gathered : (k ≡ 0 → is_turn (get_or ls 0 no_line).call.what ≡ false) → Gathered ls s k
   gathered h = record { room = e.same ∙ e.able.room; few = e.few; before = e.before; each = e.each; none = h }
 
-  pub gather_full : 16 ≤ turns → Gathered t rows from to s turns
-  gather_full h = gathered (λ z. absurd (omega arith))
+  pub gather_end : (most : ℕ) → most ≡ min (length ls) 16 → k ≤ most → most ≤ k → Gathered ls s most
+  gather_end most em h g =
+      let same : k ≡ most = omega arith in
+      subst (Gathered ls s) same (gathered (λ z. absurd (omega (arith, e.able.some))))
 
-  pub gather_over : to ≤ from + turns → Gathered t rows from to s turns
-  gather_over h = gathered (λ z. absurd (omega (arith, e.able.some)))
+  -- the line is not a turn
+  pub gather_stops : ((x : ℕ) → (get_or ls k no_line).call.what ≡ Turn x → ⊥) → Gathered ls s k
+  gather_stops n =
+      gathered (λ z. ap (λ j. is_turn (get_or ls j no_line).call.what) (sym z) ∙ not_turn (get_or ls k no_line).call.what n)
 
-  module _ (h : from + turns < to) where
-    pub line_there : from + turns < length rows
-    line_there = omega (arith, e.able.within)
+  module _ (most : ℕ) (em : most ≡ min (length ls) 16) (h : k < most) where
+    pub gather_more : (choice : ℕ) → (get_or ls k no_line).call.what ≡ Turn choice → (s' : List ℕ)
+        → TurnStored s k (get_or ls k no_line).call.thread choice s' → Gathering ls s₀ s' (k + 1)
+    gather_more choice w s' m =
+        record {
+          able = e.able;
+          same = m.same ∙ e.same;
+          few = omega arith;
+          before = omega arith;
+          each = λ j v. go j v (eqb j k) refl;
+        }
+      where
+        now : (get_or ls k no_line).call ≡ turn_call (turn_at s' k)
+        now = ap (λ x. record { what = x; thread = (get_or ls k no_line).call.thread }) w ∙ ap turn_call (sym m.stored)
 
-    module _ (row : ℕ) (er : row ≡ get_or rows (from + turns) 0) where
-      pub words_there : 6 * row + 6 ≤ length t
-      words_there = omega (arith, e.able.there.each (from + turns) line_there)
-
-      pub gather_stops : (kind : ℕ) → kind ≡ get_or t (6 * row) 0 → (kind ≡ 4 → ⊥) → Gathered t rows from to s turns
-      gather_stops kind ek n =
-          gathered
-          (λ z. let first : from + turns ≡ from = omega arith in
-          ap (λ k. is_turn (call_in t k).what) (sym (er ∙ ap (λ k. get_or rows k 0) first)) ∙ other_in t row (λ g. n (ek ∙ g)))
-
-      pub turn_room : turns < 16 → EnterRoom (length t) row (length s) turns
-      turn_room w = record { there = words_there; room = omega (arith, e.same, e.able.room) }
-
-      pub gather_more : turns < 16 → (kind : ℕ) → kind ≡ get_or t (6 * row) 0 → kind ≡ 4 → (s' : List ℕ)
-          → TurnStored s turns (get_or t (6 * row + 1) 0) (get_or t (6 * row + 2) 0) s' → Gathering t rows from to s₀ s' (turns + 1)
-      gather_more w kind ek g s' m =
-          record {
-            able = e.able;
-            same = m.same ∙ e.same;
-            few = omega arith;
-            before = omega arith;
-            each = λ j v. go j v (eqb j turns) refl;
-          }
-        where
-          now : call_in t (get_or rows (from + turns) 0) ≡ turn_call (turn_at s' turns)
-          now = ap (call_in t) (sym er) ∙ turn_in t row (sym ek ∙ g) ∙ ap turn_call (sym m.stored)
-
-          go : (j : ℕ) → j < turns + 1 → (q : Bool) → eqb j turns ≡ q → call_in t (get_or rows (from + j) 0) ≡ turn_call (turn_at s' j)
-          go j v true q =
-              let same : j ≡ turns = eqb-true j turns q in
-              subst (λ i. call_in t (get_or rows (from + i) 0) ≡ turn_call (turn_at s' i)) (sym same) now
-          go j v false q =
-              let other : j < turns = omega (arith, eqb-false j turns q) in
-              e.each j other ∙ ap turn_call (sym (m.others j other))
+        go : (j : ℕ) → j < k + 1 → (q : Bool) → eqb j k ≡ q → (get_or ls j no_line).call ≡ turn_call (turn_at s' j)
+        go j v true q =
+            let same : j ≡ k = eqb-true j k q in
+            subst (λ i. (get_or ls i no_line).call ≡ turn_call (turn_at s' i)) (sym same) now
+        go j v false q =
+            let other : j < k = omega (arith, eqb-false j k q) in
+            e.each j other ∙ ap turn_call (sym (m.others j other))
 
 -- The loop over answers.
 pub record Scanning (n : ℕ) (a : List ℕ) (count k : ℕ) : Type 0 where
@@ -151,19 +123,12 @@ pub record Scanning (n : ℕ) (a : List ℕ) (count k : ℕ) : Type 0 where
   pub within : k ≤ count
   pub left : any_refused_at n a k (count - k) ≡ any_refused_at n a 0 count
 
-pub scan_start : (n : ℕ) (a : List ℕ) (count : ℕ) → 12 * count ≤ length a → Scanning n a count 0
-scan_start n a count h =
-    record { room = h; within = omega arith; left = let all : count - 0 ≡ count = omega arith in ap (any_refused_at n a 0) all }
-
 module _ {n : ℕ} {a : List ℕ} {count k : ℕ} (e : Scanning n a count k) where
   pub scan_end : count ≤ k → false ≡ any_refused_at n a 0 count
   unfolding any_refused_at
   scan_end h = let none : 0 ≡ count - k = omega arith in ap (any_refused_at n a k) none ∙ e.left
 
   module _ (h : k < count) where
-    pub scan_room : 12 * k + 12 ≤ length a
-    scan_room = omega (arith, e.room)
-
     module _ (q : Bool) (eq : q ≡ refused_at n a k) where
       next : any_refused_at n a k (count - k) ≡ (q || any_refused_at n a (k + 1) (count - (k + 1)))
       unfolding any_refused_at
@@ -235,7 +200,7 @@ module _ (n : ℕ) (f : Frame) (t : ScheduleTurn) (ts : List ScheduleTurn) (b a 
       this : refused_at n r.answers k ≡ is_refusal n (call_outcome b (Turn t.choice) t.thread)
       this =
           kept
-          ∙ stored_refusal n a k room answer (answer_few f b t.thread t.choice)
+          ∙ stored_refusal n a k room answer
           ∙ ap (is_refusal n) (made h).outcome
 
 served : (n : ℕ) (f : Frame) (limit : ℕ) (ts : List ScheduleTurn) (b a : List ℕ) (k acc : ℕ) → Ready f b → acc ≤ k
@@ -294,9 +259,6 @@ module _ (n : ℕ) (b s : List ℕ) (turns : ℕ) (h : TurnsReady b (length s) t
   long : length first ≡ 8 * turns
   long = length-take-le (8 * turns) s fits
 
-  pub turns_long : 8 * turns ≡ length first
-  turns_long = sym long
-
   many : length first / 8 ≡ turns
   many = omega (arith, long)
 
@@ -322,11 +284,11 @@ module _ (n : ℕ) (b s : List ℕ) (turns : ℕ) (h : TurnsReady b (length s) t
       ∙ ap (λ m. serve_all (frame_in b) limit (turns_from first 0 m) (so_far b (replicate 192 0) 0 0)) many
       ∙ ap (λ l. serve_all (frame_in b) limit l (so_far b (replicate 192 0) 0 0)) (turns_same (8 * turns) s 0 turns (omega arith))
 
-  pub turns_shown : (b' a' : List ℕ) (x : RunOutcome) → Ran b b' first limit (replicate 192 0) a' x
+  pub turns_shown : (b' a' : List ℕ) (x : Result Counts Refusal) → Ran b b' first limit (replicate 192 0) a' x
       → (q : Bool) → q ≡ any_refused_at n a' 0 turns → TurnsShown n (turns_from s 0 turns) b b' q
   turns_shown b' a' x m q eq =
       let count : length (turns_from s 0 turns) ≡ turns = turns_count s 0 turns in
-      let e : so_far b' a' x.counts.turns x.counts.accesses
+      let e : so_far b' a' (counts_of x).turns (counts_of x).accesses
       ≡ serve_all (frame_in b) limit (turns_from s 0 turns) (so_far b (replicate 192 0) 0 0) = m.served ∙ result in
       let t = served n (frame_in b) limit (turns_from s 0 turns) b (replicate 192 0) 0 0 (record { region = h.region; frame = refl })
       (omega arith) (omega (arith, count, h.few)) (omega (arith, count, h.few, room)) in
@@ -339,35 +301,24 @@ module _ (n : ℕ) (b s : List ℕ) (turns : ℕ) (h : TurnsReady b (length s) t
         bytes = ap (λ y. y.region) e ∙ t.region;
       }
 
-  pub turns_region : readable b ≡ true
-  turns_region = h.region
-
-  pub turns_scan : (a : List ℕ) → length a ≡ 192 → 12 * turns ≤ length a
-  turns_scan a e = omega (arith, h.few)
-
 -- Lines that start with turns: these, and then the rest.
-module _ (t rows s : List ℕ) (k to : ℕ) (within : to ≤ length rows) where
-  rows_split : (m i : ℕ) → k + i + m ≤ to → ((j : ℕ) → j < i + m → call_in t (get_or rows (k + j) 0) ≡ turn_call (turn_at s j))
-      → map (call_in t) (slice (k + i) to rows) ≡ map turn_call (turns_from s i m) ++ map (call_in t) (slice (k + (i + m)) to rows)
+module _ (ls : List Line) (s : List ℕ) where
+  lines_split : (m i : ℕ) → i + m ≤ length ls → ((j : ℕ) → j < i + m → (get_or ls j no_line).call ≡ turn_call (turn_at s j))
+      → calls_of (drop i ls) ≡ map turn_call (turns_from s i m) ++ calls_of (drop (i + m) ls)
   unfolding turns_from
-  rows_split zero i h each = let same : k + i ≡ k + (i + 0) = omega arith in ap (λ j. map (call_in t) (slice j to rows)) same
-  rows_split (suc m) i h each =
-      let next : suc (k + i) ≡ k + suc i = omega arith in
-      let same : k + (suc i + m) ≡ k + (i + suc m) = omega arith in
-      ap (map (call_in t)) (slice-cons (k + i) to rows 0 (omega arith) within)
-      ∙ ap (λ c. c ∷ map (call_in t) (slice (suc (k + i)) to rows)) (each i (omega arith))
-      ∙ ap (λ j. turn_call (turn_at s i) ∷ map (call_in t) (slice j to rows)) next
-      ∙ ap (λ l. turn_call (turn_at s i) ∷ l) (rows_split m (suc i) (omega arith) (λ j w. each j (omega arith)))
-      ∙ ap (λ j. turn_call (turn_at s i) ∷ (map turn_call (turns_from s (suc i) m) ++ map (call_in t) (slice j to rows))) same
+  lines_split zero i h each = ap (λ j. calls_of (drop j ls)) (sym (add-zero i))
+  lines_split (suc m) i h each =
+      let same : suc i + m ≡ i + suc m = omega arith in
+      ap calls_of (drop-cons ls i no_line (omega arith))
+      ∙ ap (λ c. c ∷ calls_of (drop (suc i) ls)) (each i (omega arith))
+      ∙ ap (λ l. turn_call (turn_at s i) ∷ l) (lines_split m (suc i) (omega arith) (λ j w. each j (omega arith)))
+      ∙ ap (λ j. turn_call (turn_at s i) ∷ (map turn_call (turns_from s (suc i) m) ++ calls_of (drop j ls))) same
 
-  pub turns_then : (turns : ℕ) → Gathered t rows k to s turns
-      → map (call_in t) (slice k to rows) ≡ map turn_call (turns_from s 0 turns) ++ map (call_in t) (slice (k + turns) to rows)
+  pub turns_then : (turns : ℕ) → Gathered ls s turns → calls_of ls ≡ map turn_call (turns_from s 0 turns) ++ calls_of (drop turns ls)
   turns_then turns g =
-      let here : k ≡ k + 0 = omega arith in
-      let there : k + (0 + turns) ≡ k + turns = omega arith in
-      ap (λ j. map (call_in t) (slice j to rows)) here
-      ∙ rows_split turns 0 (omega (arith, g.before)) (λ j w. g.each j (omega arith))
-      ∙ ap (λ j. map turn_call (turns_from s 0 turns) ++ map (call_in t) (slice j to rows)) there
+      let all : 0 + turns ≡ turns = zero-add turns in
+      lines_split turns 0 (omega (arith, g.before)) (λ j w. g.each j (omega arith))
+      ∙ ap (λ j. map turn_call (turns_from s 0 turns) ++ calls_of (drop j ls)) all
 
 -- Calls one after the other.
 pub calls_both : (n : ℕ) (xs ys : List Call) (b : List ℕ) → calls_show n (xs ++ ys) b ≡ (calls_show n xs b || calls_show n ys (region_after xs b))

@@ -4,26 +4,25 @@ use native.Mathlib.Omega.{arith}
 use mathlib.Core.Path.{◌≡◌, refl, ap}
 use mathlib.Core.Bool.{Bool, true, false}
 use mathlib.Core.List.{List, []}
-use mathlib.Core.Option.{Option, none, some}
 use borrow.Author.Tests.{eqb-true}
-use lib.Dec.{eqb, leb}
+use lib.Dec.{eqb}
 use lib.ListN.{length}
-use Rattle.region.specs.Answer.{done}
+use Rattle.std.specs.Prelude.{Ok, Err}
+use Rattle.region.specs.Refusal.{Checked, code_of, done}
 use Rattle.region.specs.Pick.{pick}
-use Rattle.region.proofs.Picks.{pick_good}
-use Rattle.cut.specs.Whole.{Script, read_script}
-use Rattle.cut.specs.Shown.{shows}
-use Rattle.cut.specs.Cut.{cut_bytes, cut_refusal, cut_script, shown_refusal}
+use Rattle.region.proofs.Refusals.{number_most}
+use Rattle.cut.specs.Whole.{read_script}
+use Rattle.cut.specs.Cut.{cut_bytes, cut_check, cut_refusal, cut_script}
 use Rattle.cut.proofs.CutIsRight.{cut_is_right}
 use Rattle.cut.proofs.ScriptsRead.{script_read}
 
-shown_few : (n : ℕ) (o : Option Script) → shown_refusal n o ≤ 16
-shown_few n none = omega arith
-shown_few n (some x) = pick_good (λ r. r ≤ 16) (shows n x.setup x.lines) (λ q. omega arith) (λ q. omega arith)
-
 pub refusal_few : (s : List ℕ) (n room : ℕ) → cut_refusal s n room ≤ 16
 unfolding cut_refusal
-refusal_few s n room = pick_good (λ r. r ≤ 16) (leb (length s) room) (λ q. shown_few n (read_script s)) (λ q. omega arith)
+refusal_few s n room = go (cut_check s n room)
+  where
+    go : (c : Checked) → code_of c ≤ 16
+    go (Ok x) = omega arith
+    go (Err r) = number_most r
 
 pub written_short : (s : List ℕ) (n room : ℕ) → length (cut_script s n room) ≤ 60000
 unfolding cut_script pick

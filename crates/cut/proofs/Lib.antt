@@ -9,17 +9,16 @@ pub mod NoLineLeftOut
 pub mod PassesEnd
 mod Printed
 pub mod PrintsWhatItShows
-mod Numbers
 mod ReadAgain
-mod RowsCutting
-mod RowsRun
-mod RowsTrying
+mod LinesCutting
+mod LinesRun
+mod LinesRead
+mod LinesTrying
 pub mod ScriptIsItsLines
 mod ScriptsRead
 mod Slots
 pub mod StaysReadable
 mod Sublists
-mod Tables
 mod TextsRead
 mod Tried
 mod TriedOn

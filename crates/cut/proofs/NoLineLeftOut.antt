@@ -7,9 +7,9 @@ use mathlib.Core.List.{List}
 use borrow.Author.Tests.{ltb-false, ltb-true}
 use lib.Dec.{ltb}
 use lib.ListN.{length}
+use Rattle.std.specs.Prelude.{Option, Some, None}
+use Rattle.script.specs.declared.reading.ScriptLine.{ScriptLine}
 use Rattle.script.specs.Reading.{read_line}
-use Rattle.script.specs.declared.reading.Line.{Line}
-use Rattle.script.specs.declared.reading.Line.TheVariants.{Read as LineRead, Unreadable as NotLine}
 use Rattle.script.proofs.Readings.{line_long}
 use Rattle.cut.specs.Whole.{entries_from, entry_of, with_first}
 use Rattle.cut.specs.Theorems.{NoLineLeftOut}
@@ -22,16 +22,16 @@ enough zero m s at a b h g = absurd (omega arith)
 enough (suc n) zero s at a b h g = absurd (omega arith)
 enough (suc n) (suc m) s at a b h g = ways (ltb at (length s)) refl (read_line s at) refl (enough n m s)
   where
-    ways : (q : Bool) → ltb at (length s) ≡ q → (r : Line) → read_line s at ≡ r
+    ways : (q : Bool) → ltb at (length s) ≡ q → (r : Option ScriptLine) → read_line s at ≡ r
         → ((at' : ℕ) → 0 < n → 0 < m → length s < at' + 10 * n → length s < at' + 10 * m → entries_from n s at' ≡ entries_from m s at')
         → entries_from (suc n) s at ≡ entries_from (suc m) s at
     ways false q r e rest =
         let past = ltb-false at (length s) q in
         entries_over n s at past ∙ sym (entries_over m s at past)
-    ways true q NotLine e rest =
+    ways true q None e rest =
         let in_it = ltb-true at (length s) q in
         entries_unreadable n s at in_it e ∙ sym (entries_unreadable m s at in_it e)
-    ways true q (LineRead l) e rest =
+    ways true q (Some l) e rest =
         let in_it = ltb-true at (length s) q in
         let long = line_long s at l e in
         let within = line_within s at l e in

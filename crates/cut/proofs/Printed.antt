@@ -2,21 +2,22 @@
 use Prim.Native.Nat.{ℕ, ◌-◌, ◌≤◌, ◌<◌}
 use native.Mathlib.Nat.{zero-add}
 use native.Mathlib.Omega.{arith}
-use mathlib.Core.Path.{◌≡◌, refl, sym, ap, ◌∙◌}
+use mathlib.Core.Path.{◌≡◌, refl, sym, ap, subst, ◌∙◌}
 use mathlib.Core.List.{List, [], ◌++◌, append_assoc}
 use borrow.Author.Tests.{eq-eqb, le-leb, lt-leb, ne_eqb}
 use lib.ListN.{length, take, drop, length-drop, take-append-drop}
 use lib.Seq.{drop-append-le, length-take-le, take_all}
-use Rattle.region.specs.Answer.{done}
+use Rattle.std.specs.Prelude.{Option, Some, None, Result, Ok, Err}
+use Rattle.region.specs.Refusal.{code_of, done}
+use Rattle.region.specs.declared.refusal.Refusal.{Refusal}
+use Rattle.region.proofs.Refusals.{not_done}
 use Rattle.region.specs.Pick.{pick}
 use Rattle.script.specs.Inner.{Wrote}
 use Rattle.script.specs.Reading.{number_then}
-use Rattle.script.specs.declared.numbers.Number.{Number}
-use Rattle.script.specs.declared.numbers.Number.TheVariants.{Read, Unreadable}
 use Rattle.script.proofs.Decimals.{field_next, line_ends}
 use Rattle.script.proofs.Texts.{written}
 use Rattle.cut.specs.Cut.{cut_refusal, cut_script}
-use Rattle.cut.specs.Promises.{CutDown}
+use Rattle.cut.specs.Promises.{CutDown, written_of}
 use Rattle.cut.specs.Program.{CutPrinted, cut_or_refused, cut_output, refused_line}
 use Rattle.cut.specs.Inner.{ScriptPrinted, ScriptRoom}
 use Rattle.cut.proofs.CutIsRight.{cut_is_right}
@@ -28,8 +29,11 @@ module _ {s out : List ℕ} (h : ScriptRoom s out) (n : ℕ) where
   pub part_long : length s ≡ length (take (length s) out)
   part_long = sym (length-take-le (length s) out h.room)
 
-  module _ (part : List ℕ) (r k : ℕ) (c : CutDown s n (take (length s) out) part r k) where
-    refusal_is : r ≡ cut_refusal s n (length s)
+  module _ (part : List ℕ) (o : Result ℕ Refusal) (c : CutDown s n (take (length s) out) part (code_of o) (written_of o)) where
+    abbrev k : ℕ
+    k = written_of o
+
+    refusal_is : code_of o ≡ cut_refusal s n (length s)
     refusal_is = c.refused ∙ ap (cut_refusal s n) (sym part_long)
 
     script_is : cut_script s n (length (take (length s) out)) ≡ cut_script s n (length s)
@@ -40,25 +44,27 @@ module _ {s out : List ℕ} (h : ScriptRoom s out) (n : ℕ) where
         ap (λ x. x ++ drop (length s) out) (c.bytes ∙ ap (λ x. x ++ drop k (take (length s) out)) script_is)
         ∙ append_assoc (cut_script s n (length s)) (drop k (take (length s) out)) (drop (length s) out)
 
-    pub printed_cut : r ≡ done → ScriptPrinted s n out (part ++ drop (length s) out) k
+    pub printed_cut : (m : ℕ) → o ≡ Ok m → ScriptPrinted s n out (part ++ drop (length s) out) m
     unfolding cut_or_refused pick
-    printed_cut d =
+    printed_cut m em =
+        let d : code_of o ≡ done = ap code_of em in
         let left : cut_or_refused s n ≡ cut_script s n (length s) = rw (eq-eqb (cut_refusal s n (length s)) done (sym refusal_is ∙ d)) refl in
         let (x, e, right) = cut_is_right s n (length s) (sym refusal_is ∙ d) in
         let long : k ≡ length (cut_script s n (length s)) = c.count ∙ ap length script_is in
         let behind : drop k (take (length s) out) ++ drop (length s) out ≡ drop k out =
         sym (drop-append-le k (take (length s) out) (drop (length s) out) (omega (arith, part_long, right.no_longer)))
         ∙ ap (drop k) (take-append-drop (length s) out) in
-        record {
+        subst (ScriptPrinted s n out (part ++ drop (length s) out)) (ap written_of em)
+        (record {
           count = long ∙ ap length (sym left);
           output = part_is ∙ ap (λ x. cut_script s n (length s) ++ x) behind ∙ ap (λ x. x ++ drop k out) (sym left);
-        }
+        })
 
-    pub printed_refused : (r ≡ done → ⊥) → (out' : List ℕ) (m : ℕ) → Wrote (part ++ drop (length s) out) out' 0 m refused_line
+    pub printed_refused : (y : Refusal) → o ≡ Err y → (out' : List ℕ) (m : ℕ) → Wrote (part ++ drop (length s) out) out' 0 m refused_line
         → ScriptPrinted s n out out' m
     unfolding cut_or_refused cut_script pick
-    printed_refused d out' m w =
-        let other : cut_refusal s n (length s) ≡ done → ⊥ = λ e. d (refusal_is ∙ e) in
+    printed_refused y ey out' m w =
+        let other : cut_refusal s n (length s) ≡ done → ⊥ = λ e. not_done y (sym (ap code_of ey) ∙ refusal_is ∙ e) in
         let left : cut_or_refused s n ≡ refused_line = rw (ne_eqb (cut_refusal s n (length s)) done other) refl in
         let nothing : cut_script s n (length s) ≡ [] = rw (ne_eqb (cut_refusal s n (length s)) done other) refl in
         let long : k ≡ 0 = c.count ∙ ap length (script_is ∙ nothing) in
@@ -88,12 +94,12 @@ module _ (input out : List ℕ) where
   unfolding cut_output pick
   too_long h = refused_output (rw (lt-leb (length input) 60011 h) refl)
 
-  module _ (h : length input ≤ 60011) (x : Number) (ex : x ≡ number_then input 0 10) where
-    pub no_number : x ≡ Unreadable → (out' : List ℕ) (r : ℕ) → Wrote out out' 0 r refused_line → CutPrinted input out out' r
+  module _ (h : length input ≤ 60011) (x : Option (ℕ × ℕ)) (ex : x ≡ number_then input 0 10) where
+    pub no_number : x ≡ None → (out' : List ℕ) (r : ℕ) → Wrote out out' 0 r refused_line → CutPrinted input out out' r
     unfolding cut_output pick
     no_number g = refused_output (rw (le-leb (length input) 60011 h, ← ex, g) refl)
 
-    module _ (n at : ℕ) (g : x ≡ Read n at) where
+    module _ (n at : ℕ) (g : x ≡ Some (n, at)) where
       pub script_there : at ≤ length input
       script_there =
           let read = sym ex ∙ g in

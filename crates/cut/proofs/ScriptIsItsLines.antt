@@ -4,11 +4,10 @@ use Prim.Native.Nat.{ℕ, ◌<◌}
 use native.Mathlib.Omega.{arith}
 use mathlib.Core.Path.{◌≡◌, sym, ap, ◌∙◌}
 use mathlib.Core.List.{List, ◌∷◌, ◌++◌}
-use mathlib.Core.Option.{some}
 use lib.ListN.{length, drop, drop_of_length-le, take-append-drop}
 use lib.Seq.{slice}
+use Rattle.std.specs.Prelude.{Some}
 use Rattle.script.specs.Reading.{read_line}
-use Rattle.script.specs.declared.reading.Line.TheVariants.{Read as LineRead}
 use Rattle.script.specs.declared.reading.ScriptLine.{ScriptLine}
 use Rattle.script.proofs.Readings.{line_long}
 use Rattle.cut.specs.Whole.{Entry, entries_from, entry_of, script_bytes, texts}
@@ -19,11 +18,11 @@ use Rattle.cut.proofs.Entries.{along_entries}
 use Rattle.cut.proofs.ScriptsRead.{script_read}
 
 -- the lines that were read from a position on are the bytes from there
-pub lines_are_bytes : (s : List ℕ) (n at : ℕ) (es : List Entry) → entries_from n s at ≡ some es → drop at s ≡ texts es
+pub lines_are_bytes : (s : List ℕ) (n at : ℕ) (es : List Entry) → entries_from n s at ≡ Some es → drop at s ≡ texts es
 unfolding texts
 lines_are_bytes s = along_entries s (λ n at es. drop at s ≡ texts es) (λ n at h. drop_of_length-le s h) more
   where
-    more : (n at : ℕ) (l : ScriptLine) (es : List Entry) → at < length s → read_line s at ≡ LineRead l → drop l.next s ≡ texts es
+    more : (n at : ℕ) (l : ScriptLine) (es : List Entry) → at < length s → read_line s at ≡ Some l → drop l.next s ≡ texts es
         → drop at s ≡ texts (entry_of s at l ∷ es)
     more n at l es h e behind =
         let p = line_read s at l e in

@@ -1,13 +1,15 @@
 -- Regions in slots: the copy from a slot to the one before it, and what is stored in one slot leaves of the others. Assumes nothing.
-use Prim.Native.Nat.{ℕ, suc, ◌+◌, ◌-◌, ◌≤◌, ◌<◌}
-use native.Mathlib.Nat.{add_comm}
-use native.Mathlib.Numerals.{add-one}
+use Prim.Native.Nat.{ℕ, ◌+◌, ◌-◌, ◌≤◌}
 use native.Mathlib.Omega.{arith}
-use mathlib.Core.Path.{◌≡◌, refl, sym, ap, ◌∙◌}
+use mathlib.Core.Path.{◌≡◌, sym, ap, ◌∙◌}
 use mathlib.Core.List.{List, [], ◌++◌, append-nil}
-use lib.ListN.{length, get_or, set, take, drop, length-append, length-drop, length-set, drop_of_length-le}
-use lib.Seq.{append_snoc, drop-append-add, drop_at, drop-cons, drop-drop, get_or-append-add, get_or-drop, length-take-le, set_at, take_all, take-append-add, take_at, take-suc, take-take}
+use lib.ListN.{length, take, drop, length-append, length-drop, drop_of_length-le}
+use lib.Seq.{drop-append-add, drop_at, drop-drop, length-take-le, take_all, take-append-add, take_at, take-take}
 use Rattle.cut.specs.Inner.{copied_down, region_in, slot_of}
+
+-- The part from a position on, as the code has it.
+pub to_end : {A : Type 0} (k : ℕ) (l : List A) → take (length l - k) (drop k l) ≡ drop k l
+to_end k l = take_all (length l - k) (drop k l) (omega (arith, length-drop k l))
 
 -- What lies behind what was stored at the start is as it was.
 pub drop_over : (n : ℕ) (xs zs : List ℕ) → length xs ≤ n → drop n (xs ++ drop (length xs) zs) ≡ drop n zs
@@ -17,67 +19,6 @@ drop_over n xs zs h =
     ∙ drop-append-add xs (drop (length xs) zs) (n - length xs)
     ∙ drop-drop (n - length xs) (length xs) zs
     ∙ ap (λ k. drop k zs) all
-
--- The copy: so many bytes of the second slot stand at the start of the first.
-pub record Copying (l₀ : List ℕ) (size : ℕ) (l : List ℕ) (k : ℕ) : Type 0 where
-  pub room : 14912 + size ≤ length l₀
-  pub within : k ≤ size
-  pub same : length l ≡ length l₀
-  pub bytes : l ≡ take k (drop 14912 l₀) ++ drop k l₀
-
-pub copy_start : (l : List ℕ) (size : ℕ) → 14912 + size ≤ length l → Copying l size l 0
-copy_start l size h = record { room = h; within = omega arith; same = refl; bytes = refl }
-
-module _ {l₀ : List ℕ} {size : ℕ} {l : List ℕ} {k : ℕ} (e : Copying l₀ size l k) where
-  pub copy_same : length l ≡ length l₀
-  copy_same = e.same
-
-  pub copy_end : size ≤ k → l ≡ copied_down l₀ size
-  unfolding copied_down
-  copy_end h =
-      let all : k ≡ size = omega (arith, e.within) in
-      e.bytes ∙ ap (λ n. take n (drop 14912 l₀) ++ drop n l₀) all
-
-  module _ (h : k < size) where
-    pub copy_read : 14912 + k < length l
-    copy_read = omega (arith, e.room, e.same)
-
-    pub copy_write : k < length l
-    copy_write = omega (arith, e.room, e.same)
-
-    abbrev copied : List ℕ
-    copied = take k (drop 14912 l₀)
-
-    long : length copied ≡ k
-    long = length-take-le k (drop 14912 l₀) (omega (arith, length-drop 14912 l₀, e.room))
-
-    -- the byte that is read is still as it was
-    ahead : get_or l (14912 + k) 0 ≡ get_or (drop 14912 l₀) k 0
-    ahead =
-        let at : 14912 + k ≡ length copied + 14912 = omega (arith, long) in
-        ap (λ x. get_or x (14912 + k) 0) e.bytes
-        ∙ ap (λ n. get_or (copied ++ drop k l₀) n 0) at
-        ∙ get_or-append-add copied (drop k l₀) 14912 0
-        ∙ get_or-drop k l₀ 14912 0
-        ∙ ap (λ n. get_or l₀ n 0) (add_comm k 14912)
-        ∙ sym (get_or-drop 14912 l₀ k 0)
-
-    pub copy_more : Copying l₀ size (set l k (get_or l (14912 + k) 0)) (k + 1)
-    copy_more =
-        let v : ℕ = get_or (drop 14912 l₀) k 0 in
-        record {
-          room = e.room;
-          within = omega arith;
-          same = length-set l k (get_or l (14912 + k) 0) ∙ e.same;
-          bytes =
-              ap (set l k) ahead
-              ∙ ap (λ x. set x k v) e.bytes
-              ∙ ap (λ x. set (copied ++ x) k v) (drop-cons l₀ k 0 (omega (arith, e.room)))
-              ∙ set_at copied (get_or l₀ k 0) (drop (suc k) l₀) v k long
-              ∙ sym (append_snoc copied v (drop (suc k) l₀))
-              ∙ ap (λ x. x ++ drop (suc k) l₀) (sym (take-suc (drop 14912 l₀) k 0 (omega (arith, length-drop 14912 l₀, e.room))))
-              ∙ ap (λ n. take n (drop 14912 l₀) ++ drop n l₀) (sym (add-one k));
-        }
 
 pub region_long : (size : ℕ) (l : List ℕ) → size ≤ 14912 → 14912 ≤ length l → length (region_in size l) ≡ size
 unfolding region_in slot_of
@@ -90,7 +31,7 @@ module _ (size : ℕ) (small : size ≤ 14856) (l : List ℕ) (room : 29824 ≤ 
   w = length l - 29824
 
   pair_is : take (length l - w) (drop w l) ≡ drop w l
-  pair_is = take_all (length l - w) (drop w l) (omega (arith, length-drop w l))
+  pair_is = to_end w l
 
   pub pair_room : 14912 + size ≤ length (take (length l - w) (drop w l))
   pair_room = omega (arith, ap length pair_is, length-drop w l)

@@ -4,12 +4,10 @@ use Prim.Native.Nat.{ℕ, zero, suc, ◌+◌, ◌*◌, ◌≤◌, ◌<◌}
 use native.Mathlib.Omega.{arith}
 use mathlib.Core.Path.{◌≡◌, sym, ap, subst, ◌∙◌}
 use mathlib.Core.List.{List, [], ◌∷◌, ◌++◌, Sublistᴰ}
-use mathlib.Core.Option.{some}
 use lib.ListN.{length, drop, length-append, length-drop}
 use lib.Seq.{drop_at, slice, take_at}
+use Rattle.std.specs.Prelude.{Some}
 use Rattle.script.specs.Reading.{read_line}
-use Rattle.script.specs.declared.reading.Line.TheVariants.{Read as LineRead}
-use Rattle.script.specs.declared.reading.Opening.TheVariants.{Read as OpeningRead}
 use Rattle.script.specs.declared.reading.ScriptLine.{ScriptLine}
 use Rattle.script.proofs.Readings.{line_long}
 use Rattle.cut.specs.Whole.{Entry, Script, entries_from, entry_of, read_script, script_bytes, texts, with_first, with_lines}
@@ -24,9 +22,9 @@ use Rattle.cut.proofs.ScriptsRead.{ScriptRead, read_script_lem, script_read}
 record Again (e : Entry) : Type 0 where
   long : 10 ≤ length e.text
   read : (s : List ℕ) (at : ℕ) (rest : List ℕ) → drop at s ≡ e.text ++ rest
-      → read_line s at ≡ LineRead (record { what = e.what; thread = e.thread; next = at + length e.text })
+      → read_line s at ≡ Some (record { what = e.what; thread = e.thread; next = at + length e.text })
 
-line_again : (s : List ℕ) (at : ℕ) (l : ScriptLine) → read_line s at ≡ LineRead l → Again (entry_of s at l)
+line_again : (s : List ℕ) (at : ℕ) (l : ScriptLine) → read_line s at ≡ Some l → Again (entry_of s at l)
 line_again s at l e =
     let p = line_read s at l e in
     let long = line_long s at l e in
@@ -34,7 +32,7 @@ line_again s at l e =
     record {
       long = omega (arith, p.next, ap length text);
       read = λ s' at' rest' e'.
-          p.again s' at' rest' (e' ∙ ap (λ xs. xs ++ rest') text) ∙ ap (λ xs. LineRead (line_to l (at' + length xs))) (sym text);
+          p.again s' at' rest' (e' ∙ ap (λ xs. xs ++ rest') text) ∙ ap (λ xs. Some (line_to l (at' + length xs))) (sym text);
     }
 
 -- lines all of which are; those of a script are, and so is a part of them
@@ -42,7 +40,7 @@ data Each : List Entry → Type 0 where
   none : Each []
   one : {e : Entry} {es : List Entry} → Again e → Each es → Each (e ∷ es)
 
-lines_again : (s : List ℕ) (n at : ℕ) (es : List Entry) → entries_from n s at ≡ some es → Each es
+lines_again : (s : List ℕ) (n at : ℕ) (es : List Entry) → entries_from n s at ≡ Some es → Each es
 lines_again s = along_entries s (λ n at es. Each es) (λ n at h. none) (λ n at l es h e behind. one (line_again s at l e) behind)
 
 part_again : {es fs : List Entry} → Sublistᴰ es fs → Each fs → Each es
@@ -57,7 +55,7 @@ texts_long (one {e = e} {es = es} a more) = omega (arith, a.long, texts_long mor
 
 -- where they stand, up to the end of a script, they are read
 read_again : {es : List Entry} → Each es → (n : ℕ) (s : List ℕ) (at : ℕ) → length es < n → drop at s ≡ texts es
-    → entries_from n s at ≡ some es
+    → entries_from n s at ≡ Some es
 unfolding texts
 read_again none zero s at h e = absurd (omega arith)
 read_again none (suc n) s at h e = entries_over n s at (omega (arith, sym (length-drop at s) ∙ ap length e))
@@ -68,7 +66,7 @@ read_again (one {e = f} {es = es} a more) (suc n) s at h e =
     let rest = read_again more n s (at + length f.text) (omega arith) (behind_text s at f.text (texts es) e) in
     entries_read n s at inside line (a.read s at (texts es) e)
     ∙ ap (with_first (entry_of s at line)) rest
-    ∙ ap (λ xs. some (record { what = f.what; thread = f.thread; text = xs } ∷ es)) (text_there s at f.text (texts es) (omega arith) e)
+    ∙ ap (λ xs. Some (record { what = f.what; thread = f.thread; text = xs } ∷ es)) (text_there s at f.text (texts es) (omega arith) e)
 
 -- leaving lines out makes no script longer
 texts_part : {es fs : List Entry} → Sublistᴰ es fs → length (texts es) ≤ length (texts fs)
@@ -84,7 +82,7 @@ texts_part (Sublistᴰ.cons-cons {a = e} {b = f} {l₁ = es} {l₂ = fs} g p) =
       ap (λ x. length x.text) g,
     )
 
-module _ (s : List ℕ) (x : Script) (e : read_script s ≡ some x) (es : List Entry) (part : Sublistᴰ es x.lines) where
+module _ (s : List ℕ) (x : Script) (e : read_script s ≡ Some x) (es : List Entry) (part : Sublistᴰ es x.lines) where
   abbrev left : List ℕ
   left = script_bytes (with_lines x es)
 
@@ -114,7 +112,7 @@ module _ (s : List ℕ) (x : Script) (e : read_script s ≡ some x) (es : List E
             record {
               short = omega (arith, no_longer, r.opening.short);
               read =
-                  p.again left 0 (texts es) (ap (λ xs. xs ++ texts es) text) ∙ ap (λ k. OpeningRead (setup_to u k)) (sym p.next);
+                  p.again left 0 (texts es) (ap (λ xs. xs ++ texts es) text) ∙ ap (λ k. Some (setup_to u k)) (sym p.next);
             };
         heading = sym (take_at x.opening (texts es) u.next next);
         entries = read_again lines (length left) left u.next few (drop_at x.opening (texts es) u.next next);

@@ -1,7 +1,7 @@
--- Cutting a script down (document 02, request 14): `cut_refusal` and `cut_script`, below all they are made of.
-use Rattle.std.specs.Prelude.{ℕ, zero, suc, Bool, List, [], ◌∷◌, ◌++◌, leb, eqb, length}
-use Rattle.std.proofs.Math.Option.{Option, none, some}
-use Rattle.region.specs.Answer.{bad_length, done, not_shown, ◌unless◌otherwise◌}
+-- Cutting a script down: `cut_refusal` and `cut_script`, below all they are made of.
+use Rattle.std.specs.Prelude.{ℕ, zero, suc, Bool, List, [], ◌∷◌, ◌++◌, leb, eqb, length, Option, Some, None, Err}
+use Rattle.region.specs.Refusal.{Checked, code_of, done, granted, ◌unless◌otherwise◌}
+use Rattle.region.specs.declared.refusal.Refusal.TheVariants.{BadLength, NotShown}
 use Rattle.region.specs.Pick.{pick}
 use Rattle.script.specs.declared.reading.Setup.{Setup}
 use Rattle.cut.specs.Whole.{Entry, Script, read_script, script_bytes, with_lines}
@@ -38,20 +38,23 @@ unfoldable pub cut_of : ℕ → Script → Script
 unfolding cut_lines
 cut_of n x = with_lines x (cut_lines n x.setup x.lines)
 
--- "16 where it has a line that cannot be read or the number is not shown"
-abbrev pub shown_refusal : ℕ → Option Script → ℕ
-shown_refusal n none = not_shown
-shown_refusal n (some x) = not_shown unless shows n x.setup x.lines otherwise done
+-- what a cut is refused for: a slice shorter than the script; then a script with a line that cannot be read, or that does not show the number.
+-- s is the script, n the number, room the slice's length
+abbrev pub shown_check : ℕ → Option Script → Checked
+shown_check n None = Err NotShown
+shown_check n (Some x) = NotShown unless shows n x.setup x.lines otherwise granted
 
--- "Errors: 2 for a slice shorter than the script, then 16": s the script, n the number, room the slice's length
+abbrev pub cut_check : List ℕ → ℕ → ℕ → Checked
+cut_check s n room = BadLength unless leb (length s) room otherwise shown_check n (read_script s)
+
 unfoldable pub cut_refusal : List ℕ → ℕ → ℕ → ℕ
 unfolding shows
-cut_refusal s n room = bad_length unless leb (length s) room otherwise shown_refusal n (read_script s)
+cut_refusal s n room = code_of (cut_check s n room)
 
 -- the bytes of what a script is cut down to
 abbrev pub cut_bytes : ℕ → Option Script → List ℕ
-cut_bytes n none = []
-cut_bytes n (some x) = script_bytes (cut_of n x)
+cut_bytes n None = []
+cut_bytes n (Some x) = script_bytes (cut_of n x)
 
 -- what is written: nothing where the call is refused
 unfoldable pub cut_script : List ℕ → ℕ → ℕ → List ℕ

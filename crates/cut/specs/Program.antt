@@ -1,12 +1,10 @@
 -- What the program `cut_main` prints, from its input, the number in decimal, LF, and then the script: what is left of the script, or the one
--- line `refused 16`. The request names no program; this one is for people.
-use Rattle.std.specs.Prelude.{ℕ, ◌≡◌, List, ◌++◌, leb, eqb, length, drop}
-use Rattle.region.specs.Answer.{done}
+-- line `refused 16`. The program is for people.
+use Rattle.std.specs.Prelude.{ℕ, ◌≡◌, List, ◌++◌, leb, eqb, length, drop, Option, Some, None}
+use Rattle.region.specs.Refusal.{done}
 use Rattle.region.specs.Pick.{pick}
 use Rattle.script.specs.Text.{ascii, line_end}
 use Rattle.script.specs.Reading.{number_then}
-use Rattle.script.specs.declared.numbers.Number.{Number}
-use Rattle.script.specs.declared.numbers.Number.TheVariants.{Read, Unreadable}
 use Rattle.cut.specs.Cut.{cut_refusal, cut_script}
 
 abbrev pub refused_line : List ℕ
@@ -18,9 +16,9 @@ unfolding cut_refusal cut_script
 cut_or_refused s n = pick (eqb (cut_refusal s n (length s)) done) (cut_script s n (length s)) refused_line
 
 -- a number that cannot be read is refused too
-abbrev pub number_and_script : List ℕ → Number → List ℕ
-number_and_script input Unreadable = refused_line
-number_and_script input (Read n at) = cut_or_refused (drop at input) n
+abbrev pub number_and_script : List ℕ → Option (ℕ × ℕ) → List ℕ
+number_and_script input None = refused_line
+number_and_script input (Some (n, at)) = cut_or_refused (drop at input) n
 
 -- the most bytes of the input: ten digits, LF, and a script of 60,000. A longer one is refused, be it by leading zeros of the number alone.
 abbrev pub input_most : ℕ

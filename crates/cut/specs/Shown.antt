@@ -1,11 +1,10 @@
--- Which refusals the output of a script shows (document 02, request 14: "a refusal number that its output shows"). That these are the lines
--- which the script program prints, byte by byte, is `PrintsWhatItShows` in Theorems.antt.
-use Rattle.std.specs.Prelude.{ℕ, suc, Bool, false, ◌&&◌, ◌||◌, List, [], ◌∷◌, ◌++◌, eqb}
-use Rattle.region.specs.Answer.{answer_code, answer_key, done}
-use Rattle.region.specs.Pick.{pick}
+-- Which refusals the output of a script shows. That these are the lines which the script program prints, byte by byte, is `PrintsWhatItShows` in Theorems.antt.
+use Rattle.std.specs.Prelude.{ℕ, suc, Bool, false, ◌&&◌, ◌||◌, List, [], ◌∷◌, ◌++◌, Ok, Err, eqb}
+use Rattle.region.specs.Answer.{answer_code, answer_key}
+use Rattle.region.specs.Refusal.{Checked}
 use Rattle.region.specs.declared.answer.Answer.TheVariants.{Refused}
 use Rattle.script.specs.Printing.{line_text}
-use Rattle.script.specs.Script.{call_bytes, call_outcome, laid_region, setup_refusal}
+use Rattle.script.specs.Script.{call_bytes, call_outcome, laid_region, setup_check}
 use Rattle.script.specs.declared.printing.Outcome.{Outcome}
 use Rattle.script.specs.declared.printing.Outcome.TheVariants.{Begun, Set, Answered, Unreadable}
 use Rattle.script.specs.declared.reading.Setup.{Setup}
@@ -24,16 +23,16 @@ lines_printed n (e ∷ es) b =
     record { line = n; thread = e.thread; outcome = call_outcome b e.what e.thread }
     ∷ lines_printed (suc n) es (call_bytes b e.what e.thread)
 
--- what a script prints behind the output's heading: "a refused layout prints one `refused` line as line 0, thread 0, and ends" (document 01)
+-- what a script prints behind the output's heading: its lines, or one line `refused` as line 0, thread 0, where its layout is refused
+abbrev pub lines_or_refused : Checked → List Printed → List Printed
+lines_or_refused (Ok x) ps = ps
+lines_or_refused (Err r) ps = record { line = 0; thread = 0; outcome = Answered (Refused r) } ∷ []
+
 unfoldable pub printed_by : Setup → List Entry → List Printed
 unfolding lines_printed
-printed_by u es =
-    pick
-    (eqb (setup_refusal u) done)
-    (lines_printed 1 es (laid_region u))
-    (record { line = 0; thread = 0; outcome = Answered (Refused (setup_refusal u)) } ∷ [])
+printed_by u es = lines_or_refused (setup_check u) (lines_printed 1 es (laid_region u))
 
--- whether this is the refusal with that number: "refused 5 with its number as key" (document 01)
+-- whether this is the refusal with that number: "refused 5 with its number as key"
 abbrev pub is_refusal : ℕ → Outcome → Bool
 is_refusal n Begun = false
 is_refusal n Set = false

@@ -1,14 +1,9 @@
--- A script read whole (document 02, request 14): its opening, "the three heading lines", and all its lines, each with its bytes. Opening and
+-- A script read whole: its opening, "the three heading lines", and all its lines, each with its bytes. Opening and
 -- lines are the script program's own (crates/script/specs/Reading.antt). A position counts the bytes of the whole script.
-use Rattle.std.specs.Prelude.{ℕ, zero, suc, List, [], ◌∷◌, ◌++◌, ltb, length, take}
-use Rattle.std.proofs.Math.Option.{Option, none, some}
+use Rattle.std.specs.Prelude.{ℕ, zero, suc, List, [], ◌∷◌, ◌++◌, ltb, length, take, Option, Some, None}
 use Rattle.std.proofs.Math.Seq.{slice}
 use Rattle.region.specs.Pick.{pick}
 use Rattle.script.specs.Reading.{read_line, read_opening}
-use Rattle.script.specs.declared.reading.Line.{Line}
-use Rattle.script.specs.declared.reading.Line.TheVariants.{Read as LineRead, Unreadable as NotLine}
-use Rattle.script.specs.declared.reading.Opening.{Opening}
-use Rattle.script.specs.declared.reading.Opening.TheVariants.{Read as OpeningRead, Unreadable as NotOpening}
 use Rattle.script.specs.declared.reading.ScriptLine.{ScriptLine}
 use Rattle.script.specs.declared.reading.Setup.{Setup}
 use Rattle.script.specs.declared.reading.What.{What}
@@ -30,27 +25,27 @@ abbrev pub entry_of : List ℕ → ℕ → ScriptLine → Entry
 entry_of s at l = record { what = l.what; thread = l.thread; text = slice at l.next s }
 
 abbrev pub with_first : Entry → Option (List Entry) → Option (List Entry)
-with_first e none = none
-with_first e (some es) = some (e ∷ es)
+with_first e None = None
+with_first e (Some es) = Some (e ∷ es)
 
 -- a line, and the lines behind it; there are none if one of them cannot be read
-abbrev pub entry_then : List ℕ → ℕ → Line → (ℕ → Option (List Entry)) → Option (List Entry)
-entry_then s at NotLine rest = none
-entry_then s at (LineRead l) rest = with_first (entry_of s at l) (rest l.next)
+abbrev pub entry_then : List ℕ → ℕ → Option ScriptLine → (ℕ → Option (List Entry)) → Option (List Entry)
+entry_then s at None rest = None
+entry_then s at (Some l) rest = with_first (entry_of s at l) (rest l.next)
 
 -- the lines from a position on, up to the end. The first argument is more than the lines there can be: each line has bytes, so as many as
 -- there are bytes leave none out (`NoLineLeftOut` in Theorems.antt).
 unfoldable pub entries_from : ℕ → List ℕ → ℕ → Option (List Entry)
-entries_from zero s at = none
-entries_from (suc most) s at = pick (ltb at (length s)) (entry_then s at (read_line s at) (entries_from most s)) (some [])
+entries_from zero s at = None
+entries_from (suc most) s at = pick (ltb at (length s)) (entry_then s at (read_line s at) (entries_from most s)) (Some [])
 
 abbrev pub with_opening : List ℕ → Setup → Option (List Entry) → Option Script
-with_opening s u none = none
-with_opening s u (some es) = some (record { setup = u; opening = take u.next s; lines = es })
+with_opening s u None = None
+with_opening s u (Some es) = Some (record { setup = u; opening = take u.next s; lines = es })
 
-abbrev pub opening_and_entries : List ℕ → Opening → Option Script
-opening_and_entries s NotOpening = none
-opening_and_entries s (OpeningRead u) = with_opening s u (entries_from (length s) s u.next)
+abbrev pub opening_and_entries : List ℕ → Option Setup → Option Script
+opening_and_entries s None = None
+opening_and_entries s (Some u) = with_opening s u (entries_from (length s) s u.next)
 
 -- the script that these bytes are, unless it "has a line that cannot be read"
 unfoldable pub read_script : List ℕ → Option Script

@@ -1,62 +1,17 @@
 // A cut from beginning to end: whether there is something to cut, the passes, and the script that is left.
-ghost use Rattle.std.specs.Prelude.{◌≡◌, ◌+◌, ◌≤◌, drop, length, replicate, take, ◌++◌};
-ghost use Rattle.script.specs.Inner.{Wrote};
+ghost use Rattle.std.specs.Prelude.{◌≡◌, take, ◌++◌};
+ghost use Rattle.region.specs.Refusal.{code_of};
+ghost use Rattle.script.specs.Inner.{Appends, Wrote};
 ghost use Rattle.script.specs.Script.{setup_refusal};
 ghost use Rattle.cut.specs.Whole.{texts};
-ghost use Rattle.cut.specs.Promises.{CutDown};
-ghost use Rattle.cut.specs.Inner.{CutRoom, IsTrial, Laid, ReadWhole, WriteRoom, chosen, numbers};
+ghost use Rattle.cut.specs.Promises.{CutDown, written_of};
+ghost use Rattle.cut.specs.Inner.{CutRoom, IsTrial, Laid, ReadWhole, WriteRoom, entries_in};
 
-use crate::lines::{Lines, TABLE_ROOM, position, read_lines, span_at};
-use crate::passes::{Trial, cut_rows, show};
+use crate::lines::{LINES_MOST, Line, NO_LINE, read_lines};
+use crate::passes::{Trial, cut_lines, show};
 use crate::states::STATES_ROOM;
-use region::{BAD_LENGTH, DONE, Frame, NOT_SHOWN};
-use script::{Opening, Setup, write_text};
-
-// The most lines of a script: 60,000 bytes, ten or more of them for each.
-const LINES_MOST: usize = 6000;
-
-// The refusal or 0, and how many bytes were written.
-#[derive(Clone, Copy)]
-pub struct Cut {
-    pub refusal: u32,
-    pub length: usize,
-}
-
-fn refused(refusal: u32) -> Cut
-    ensures { (result.refusal ≡ refusal) × (result.length ≡ 0) }
-{
-    Cut { refusal, length: 0 }
-}
-
-fn zero_table() -> [u32; TABLE_ROOM]
-    ensures { result ≡ replicate 36000 0 }
-{
-    [0; TABLE_ROOM]
-}
-
-fn zero_states() -> [u8; STATES_ROOM]
-    ensures { result ≡ replicate 208768 0 }
-{
-    [0; STATES_ROOM]
-}
-
-fn zero_rows() -> [u32; LINES_MOST]
-    ensures { result ≡ replicate 6000 0 }
-{
-    [0; LINES_MOST]
-}
-
-// All rows of the table, in their order.
-fn number_rows(rows: &mut [u32])
-    requires { length rows.old ≤ 6000 }
-    ensures { rows.new ≡ numbers 0 (length rows.old) }
-{
-    let mut k = 0;
-    while k < rows.len() {
-        rows[k] = k as u32;
-        k += 1;
-    }
-}
+use region::{Frame, Refusal};
+use script::{Setup, Text};
 
 // The trials of an accepted setup.
 fn trial_of(setup: Setup, number: u32) -> Trial
@@ -66,112 +21,89 @@ fn trial_of(setup: Setup, number: u32) -> Trial
     let shape = setup.shape;
     Trial {
         number,
+        setup,
         frame: Frame::of(shape),
         size: 4 * shape.word_count(),
     }
 }
 
-// Writes the lines from a position of rows on, one behind the other, and answers the position after them.
-fn write_rows(
-    out: &mut [u8],
-    at: usize,
-    s: &[u8],
-    table: &[u32],
-    rows: &[u32],
-    first: usize,
-) -> usize
-    requires { WriteRoom out.old at s.now table.now rows.now first }
-    ensures { Wrote out.old out.new at result (texts (chosen s.now table.now (drop first rows.now))) }
+// Writes lines, one behind the other.
+fn write_lines(text: &mut Text, s: &[u8], lines: &[Line])
+    requires { WriteRoom text.old s.now lines.now }
+    ensures { Appends text.old text.new (texts (entries_in s.now lines.now)) }
 {
-    let mut k = first;
-    let mut written = at;
-    while k < rows.len() {
-        let span = span_at(table, position(rows[k]));
-        let start = span.start;
-        let end = span.end;
-        written = write_text(out, written, &s[start..end]);
-        k += 1;
+    for line in lines {
+        let start = line.start as usize;
+        let end = line.end as usize;
+        text.push(&s[start..end]);
     }
-    written
 }
 
-// Writes the opening and, behind it, the lines from a position of rows on, and answers the position after them.
-fn write_cut(
-    out: &mut [u8],
-    s: &[u8],
-    opening: usize,
-    table: &[u32],
-    rows: &[u32],
-    first: usize,
-) -> usize
-    requires { CutRoom out.old s.now opening table.now rows.now first }
-    ensures { Wrote out.old out.new 0 result (take opening s.now ++ texts (chosen s.now table.now (drop first rows.now))) }
+// Writes the opening and lines behind it at the start of a slice, and answers how many bytes they have.
+fn write_cut(out: &mut [u8], s: &[u8], opening: usize, lines: &[Line]) -> usize
+    requires { CutRoom out.old s.now opening lines.now }
+    ensures { Wrote out.old out.new 0 result (take opening s.now ++ texts (entries_in s.now lines.now)) }
 {
-    let at = write_text(out, 0, &s[..opening]);
-    write_rows(out, at, s, table, rows, first)
+    let mut text = Text::behind(out, 0);
+    text.push(&s[..opening]);
+    write_lines(&mut text, s, lines);
+    text.len
 }
 
-// Cuts a script whose layout is accepted; rows are all those of the table.
+// Cuts a script whose layout is accepted down to some of its lines, or refuses (16).
 fn cut_laid(
     s: &[u8],
     setup: Setup,
-    table: &[u32],
-    rows: &mut [u32],
+    lines: &mut [Line],
     number: u32,
     out: &mut [u8],
-) -> Cut
-    requires { Laid s.now setup table.now rows.old out.old }
-    ensures { CutDown s.now number out.old out.new result.refusal result.length }
+) -> Result<usize, Refusal>
+    requires { Laid s.now setup lines.old out.old }
+    ensures { CutDown s.now number out.old out.new (code_of result) (written_of result) }
 {
     let trial = trial_of(setup, number);
-    let mut states = zero_states();
-    if !show(setup, trial, table, rows, &mut states) {
-        return refused(NOT_SHOWN);
+    let mut states = [0; STATES_ROOM];
+    if !show(trial, lines, &mut states) {
+        return Err(Refusal::NotShown);
     }
-    let first = cut_rows(setup, trial, table, rows, &mut states);
-    let length = write_cut(out, s, setup.next, table, rows, first);
-    Cut {
-        refusal: DONE,
-        length,
-    }
+    let first = cut_lines(trial, lines, &mut states);
+    Ok(write_cut(out, s, setup.next, &lines[first..]))
 }
 
-// Cuts a script that can be read. A refused layout shows its number with no line at all.
-fn cut_read(s: &[u8], setup: Setup, table: &[u32], count: usize, number: u32, out: &mut [u8]) -> Cut
-    requires { ReadWhole s.now setup table.now count out.old }
-    ensures { CutDown s.now number out.old out.new result.refusal result.length }
+// Cuts a script that can be read, or refuses (16). A refused layout shows its number with no line at all.
+fn cut_read(
+    s: &[u8],
+    setup: Setup,
+    lines: &mut [Line],
+    number: u32,
+    out: &mut [u8],
+) -> Result<usize, Refusal>
+    requires { ReadWhole s.now setup lines.old out.old }
+    ensures { CutDown s.now number out.old out.new (code_of result) (written_of result) }
 {
-    let refusal = script::setup_refusal(setup);
-    if refusal == DONE {
-        let mut all = zero_rows();
-        number_rows(&mut all[..count]);
-        return cut_laid(s, setup, table, &mut all[..count], number, out);
+    let Err(refusal) = script::setup_check(setup) else {
+        return cut_laid(s, setup, lines, number, out);
+    };
+    if u32::from(refusal) != number {
+        return Err(Refusal::NotShown);
     }
-    if refusal != number {
-        return refused(NOT_SHOWN);
-    }
-    let opening = setup.next;
-    let length = write_text(out, 0, &s[..opening]);
-    Cut {
-        refusal: DONE,
-        length,
-    }
+    Ok(write_cut(out, s, setup.next, &[]))
 }
 
-// Cuts a script down to lines that still show a refusal with this number, and of which none can be left out: answers the refusal or 0 and how
-// many bytes the script that is left has, and leaves them at the start of out. All else in it stays as it was. Refusals 2, 16.
-pub fn cut_script(s: &[u8], number: u32, out: &mut [u8]) -> Cut
-    ensures { CutDown s.now number out.old out.new result.refusal result.length }
+// Cuts a script down to lines that still show a refusal with this number, and of which none can be left out: answers how many bytes the script
+// that is left has, and leaves them at the start of out, or refuses (2, 16). All else in out stays as it was.
+pub fn cut_script(s: &[u8], number: u32, out: &mut [u8]) -> Result<usize, Refusal>
+    ensures { CutDown s.now number out.old out.new (code_of result) (written_of result) }
 {
     if out.len() < s.len() {
-        return refused(BAD_LENGTH);
+        return Err(Refusal::BadLength);
     }
-    let Opening::Read(setup) = script::read_opening(s) else {
-        return refused(NOT_SHOWN);
+    let Some(setup) = script::read_opening(s) else {
+        return Err(Refusal::NotShown);
     };
-    let mut table = zero_table();
-    let Lines::Read(count) = read_lines(s, setup.next, &mut table) else {
-        return refused(NOT_SHOWN);
+    let mut lines = [NO_LINE; LINES_MOST];
+    let Some(count) = read_lines(s, setup.next, &mut lines) else {
+        return Err(Refusal::NotShown);
     };
-    cut_read(s, setup, &table, count, number, out)
+    cut_read(s, setup, &mut lines[..count], number, out)
 }

@@ -8,5 +8,5 @@ mod program;
 mod states;
 mod trials;
 
-pub use cutting::{Cut, cut_script};
+pub use cutting::cut_script;
 pub use program::{CUT_INPUT_MOST, print_cut};

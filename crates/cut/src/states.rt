@@ -1,6 +1,5 @@
 // Regions as they are before some of the lines, in slots of one size: the last slot has the region at hand, those before it are room for the
-// region at later lines. A copy goes from a slot to the one before it, at a distance that is a constant, so that the compiler makes it a
-// `memmove`.
+// region at later lines. A copy goes from a slot to the one before it.
 ghost use Rattle.std.specs.Prelude.{◌≡◌, ◌+◌, ◌≤◌, length};
 ghost use Rattle.cut.specs.Inner.{copied_down};
 
@@ -13,13 +12,10 @@ pub const TWO_SLOTS: usize = 29824;
 pub const STATES_ROOM: usize = 208768;
 
 // Copies the region of the second of two slots, which has size bytes, to the first.
+#[tactic(auto, unfolding(crate::specs::Inner::copied_down))]
 pub fn copy_down(slots: &mut [u8], size: usize)
     requires { 14912 + size ≤ length slots.old }
     ensures { slots.new ≡ copied_down slots.old size }
 {
-    let mut k = 0;
-    while k < size {
-        slots[k] = slots[SLOT + k];
-        k += 1;
-    }
+    slots.copy_within(SLOT..SLOT + size, 0);
 }

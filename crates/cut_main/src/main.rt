@@ -4,6 +4,7 @@
 
 use cut::CUT_INPUT_MOST;
 
+// stays: like the main of the other programs but for its sizes and its library; one main for all would be no plainer.
 fn main() {
     let mut input = [0u8; CUT_INPUT_MOST + 1];
     let n = io::read_full(0, &mut input);

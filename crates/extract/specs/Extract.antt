@@ -2,7 +2,7 @@
 -- root's whole list, 17 to 19 (document 02, request 1; section 3 of the mound's paper: "extractMany returns the entire list from a node, by
 -- setting the list pointer to nil and dirty to true, and then calling moundify").
 use Rattle.std.specs.Prelude.{ℕ, eqb}
-use Rattle.region.specs.Answer.{unreadable, counter_spent}
+use Rattle.region.specs.declared.refusal.Refusal.TheVariants.{Unreadable, CounterSpent}
 use Rattle.region.specs.Pick.{pick}
 use Rattle.region.specs.Shared.{Shared}
 use Rattle.region.specs.Thread.{at_place, gone_idle, mending, with_after, with_first, with_own, with_result}
@@ -60,8 +60,8 @@ cas_root m t back removed =
     (same_node (m.node 1) t.copies.first.node)
     (pick
     (eqb t.copies.first.node.first 0)
-    (refused t unreadable)
-    (pick (is_spent t.copies.first.node) (refused t counter_spent) removed))
+    (refused t Unreadable)
+    (pick (is_spent t.copies.first.node) (refused t CounterSpent) removed))
     (on_to t back)
 
 -- E2 "CAS root to the copied next cell, dirty. .. Failure: E1." (line 27)
@@ -86,4 +86,4 @@ handed_out t c =
 -- 19 (request 1): "19 hands out"; own cell 0 is refused 7
 unfoldable pub hand_out : Shared → Thread → Plan
 unfolding handed_out
-hand_out m t = pick (eqb t.own 0) (refused t unreadable) (handed_out t (m.cell t.own))
+hand_out m t = pick (eqb t.own 0) (refused t Unreadable) (handed_out t (m.cell t.own))

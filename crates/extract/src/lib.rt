@@ -3,16 +3,17 @@
 #![tactic(auto)]
 
 ghost use Rattle.std.specs.Prelude.{◌≡◌, false, length};
-ghost use Rattle.region.specs.Inner.{Within};
+ghost use Rattle.region.specs.Held.{viewed};
 ghost use Rattle.region.specs.Pick.{pick};
 ghost use Rattle.region.specs.Shared.{shared_in};
 ghost use Rattle.access.specs.Read.{is_spent};
 ghost use Rattle.extract.specs.Extract.{after_list_removal, after_removal, after_root_read, cas_root, hand_out, handed_out, list_read_root, read_root, remove_head, remove_list};
 
 use access::{Effect, Plan};
-use region::{Answer, COUNTER_SPENT, Cell, Frame, NodeCopy, Place, Thread, UNREADABLE};
+use region::{Answer, Cell, NodeCopy, Place, Refusal, Thread, View};
 
 // The root was read: it is dirty and mended first, empty, or has a list.
+#[tactic(auto, unfolding(crate::specs::Extract::after_root_read, region::specs::Pick::pick))]
 fn after_root_read(t: Thread, q: NodeCopy, after: u32, next: Place) -> Plan
     ensures { result ≡ after_root_read t q after next }
 {
@@ -26,22 +27,25 @@ fn after_root_read(t: Thread, q: NodeCopy, after: u32, next: Place) -> Plan
 }
 
 // E1
-pub fn read_root(f: Frame, b: &[u8], t: Thread) -> Plan
-    requires { Within f (length b.now) }
-    ensures { result ≡ read_root (shared_in f b.now) t }
+#[tactic(auto, unfolding(crate::specs::Extract::read_root, region::specs::Shared::shared_in))]
+#[inline(always)]
+pub fn read_root(view: View, t: Thread) -> Plan
+    ensures { result ≡ read_root (viewed view.entry) t }
 {
-    after_root_read(t, access::read_node(f, b, 1), 0, Place::RemoveHead)
+    after_root_read(t, access::read_node(view, 1), 0, Place::RemoveHead)
 }
 
 // 17
-pub fn list_read_root(f: Frame, b: &[u8], t: Thread) -> Plan
-    requires { Within f (length b.now) }
-    ensures { result ≡ list_read_root (shared_in f b.now) t }
+#[tactic(auto, unfolding(crate::specs::Extract::list_read_root, region::specs::Shared::shared_in))]
+#[inline(always)]
+pub fn list_read_root(view: View, t: Thread) -> Plan
+    ensures { result ≡ list_read_root (viewed view.entry) t }
 {
-    after_root_read(t, access::read_node(f, b, 1), 2, Place::RemoveList)
+    after_root_read(t, access::read_node(view, 1), 2, Place::RemoveList)
 }
 
 // The head leaves the root's list.
+#[tactic(auto, unfolding(crate::specs::Extract::after_removal))]
 fn after_removal(t: Thread, q: NodeCopy) -> Plan
     requires { is_spent q.node ≡ false }
     ensures { result ≡ after_removal t q }
@@ -59,6 +63,7 @@ fn after_removal(t: Thread, q: NodeCopy) -> Plan
 }
 
 // The whole list leaves the root, for the thread's hands.
+#[tactic(auto, unfolding(crate::specs::Extract::after_list_removal))]
 fn after_list_removal(t: Thread, q: NodeCopy) -> Plan
     requires { is_spent q.node ≡ false }
     ensures { result ≡ after_list_removal t q }
@@ -71,52 +76,50 @@ fn after_list_removal(t: Thread, q: NodeCopy) -> Plan
     )
 }
 
-// The whole list leaves the root, or its head alone.
-fn removed(t: Thread, q: NodeCopy, whole: bool) -> Plan
-    requires { is_spent q.node ≡ false }
-    ensures { result ≡ pick whole (after_list_removal t q) (after_removal t q) }
-{
-    if whole {
-        return after_list_removal(t, q);
-    }
-    after_removal(t, q)
-}
-
-// CAS of the root: the whole list leaves it, or its head alone. A failure goes back to where the root is read.
-fn cas_root(f: Frame, b: &[u8], t: Thread, back: Place, whole: bool) -> Plan
-    requires { Within f (length b.now) }
-    ensures { result ≡ cas_root (shared_in f b.now) t back (pick whole (after_list_removal t t.copies.first) (after_removal t t.copies.first)) }
+// CAS of the root, which what is removed leaves by the plan that `removed` gives. A failure goes back to where the root is read.
+#[inline(always)]
+fn cas_root<F: FnOnce(Thread, NodeCopy) -> Plan>(
+    view: View,
+    t: Thread,
+    back: Place,
+    removed: F,
+) -> Plan
+    requires { is_spent t.copies.first.node ≡ false → F.pre removed t t.copies.first }
+    ensures { (p : Plan) → ((q : Plan) → F.post removed t t.copies.first q → q ≡ p) → result ≡ cas_root (viewed view.entry) t back p }
 {
     let q = t.copies.first;
-    if !access::same_node(f.load_node(b, 1), q.node) {
+    if !access::same_node(view.node(1), q.node) {
         return access::on_to(t, back);
     }
     if q.node.first == 0 {
-        return access::refused(t, UNREADABLE);
+        return access::refused(t, Refusal::Unreadable);
     }
     if access::is_spent(q.node) {
-        return access::refused(t, COUNTER_SPENT);
+        return access::refused(t, Refusal::CounterSpent);
     }
-    removed(t, q, whole)
+    removed(t, q)
 }
 
 // E2
-pub fn remove_head(f: Frame, b: &[u8], t: Thread) -> Plan
-    requires { Within f (length b.now) }
-    ensures { result ≡ remove_head (shared_in f b.now) t }
+#[tactic(auto, unfolding(crate::specs::Extract::remove_head))]
+#[inline(always)]
+pub fn remove_head(view: View, t: Thread) -> Plan
+    ensures { result ≡ remove_head (viewed view.entry) t }
 {
-    cas_root(f, b, t, Place::ReadRoot, false)
+    cas_root(view, t, Place::ReadRoot, after_removal)
 }
 
 // 18
-pub fn remove_list(f: Frame, b: &[u8], t: Thread) -> Plan
-    requires { Within f (length b.now) }
-    ensures { result ≡ remove_list (shared_in f b.now) t }
+#[tactic(auto, unfolding(crate::specs::Extract::remove_list))]
+#[inline(always)]
+pub fn remove_list(view: View, t: Thread) -> Plan
+    ensures { result ≡ remove_list (viewed view.entry) t }
 {
-    cas_root(f, b, t, Place::ListReadRoot, true)
+    cas_root(view, t, Place::ListReadRoot, after_list_removal)
 }
 
 // One item is handed out, and its cell freed: c is the own cell. With the last the thread goes idle.
+#[tactic(auto, unfolding(crate::specs::Extract::handed_out, region::specs::Pick::pick))]
 fn handed_out(t: Thread, c: Cell) -> Plan
     ensures { result ≡ handed_out t c }
 {
@@ -133,12 +136,13 @@ fn handed_out(t: Thread, c: Cell) -> Plan
 }
 
 // 19
-pub fn hand_out(f: Frame, b: &[u8], t: Thread) -> Plan
-    requires { Within f (length b.now) }
-    ensures { result ≡ hand_out (shared_in f b.now) t }
+#[tactic(auto, unfolding(crate::specs::Extract::hand_out, region::specs::Pick::pick, region::specs::Shared::shared_in))]
+#[inline(always)]
+pub fn hand_out(view: View, t: Thread) -> Plan
+    ensures { result ≡ hand_out (viewed view.entry) t }
 {
     if t.own == 0 {
-        return access::refused(t, UNREADABLE);
+        return access::refused(t, Refusal::Unreadable);
     }
-    handed_out(t, f.load_cell(b, t.own))
+    handed_out(t, view.cell(t.own))
 }

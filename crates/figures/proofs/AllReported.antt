@@ -5,22 +5,21 @@ use native.Mathlib.Omega.{arith}
 use mathlib.Core.Path.{◌≡◌, refl, sym, ap, subst, ◌∙◌}
 use mathlib.Core.Bool.{Bool, true, false, not, true≢false}
 use mathlib.Core.List.{List, [], ◌∷◌, ◌++◌, append_assoc}
-use mir.Syntax.{w32}
-use mir.Val.{Fits}
 use borrow.Author.Tests.{leb-true, not-true, not-false}
 use lib.Dec.{leb}
-use lib.ListN.{length, drop, replicate, take, length-replicate}
+use lib.ListN.{length, drop, replicate, length-replicate}
+use Rattle.std.specs.Prelude.{Some}
 use Rattle.region.specs.Pick.{pick}
-use Rattle.script.specs.Inner.{Wrote}
+use Rattle.script.specs.Inner.{Appends, Wrote}
 use Rattle.script.specs.Text.{ascii}
-use Rattle.script.proofs.Texts.{Printing, print_end, print_more, print_start, written, wrote_length, wrote_more}
+use Rattle.script.specs.declared.text.Text.{Text}
+use Rattle.script.proofs.Texts.{Appending, append_end, append_more, append_start, appends_length, appends_more, from_start, written}
 use Rattle.figures.specs.Scripts.{Found, found, unfound, found_then, Script, read_scripts, script_at, scripts_at}
 use Rattle.figures.specs.Turns.{all_turns, turns_in}
 use Rattle.figures.specs.Figures.{figures}
 use Rattle.figures.specs.Report.{Group, all_groups, group_rows, heading, report, report_of, row_text, thread_groups}
 use Rattle.figures.specs.Promises.{Reported}
 use Rattle.figures.specs.Inner.{Most, RowRoom, ScriptReported, ScriptThere, ScriptsThere, end_of, is_found, report_room, rows_room, script_rows, scripts_text, the_list, the_rows, the_turns, thread_rows, totalled}
-use Rattle.figures.specs.declared.scripts.End.TheVariants.{At}
 use Rattle.figures.proofs.ScriptsRead.{scripts_more, scripts_over, too_many}
 use Rattle.figures.proofs.Tally.{most_more, most_zeros, total_figures, totalled-append}
 use Rattle.figures.proofs.TurnsCounted.{not_there}
@@ -51,7 +50,7 @@ unfolding all_turns
 turns_first xs ys zs x e f = ap all_turns e ∙ ap (λ l. turns_in x ++ all_turns l) (sym f)
 
 behind : (whole : Found (List Script)) (r : Found Script) (rest : ℕ → Found (List Script)) (next : ℕ)
-    → whole ≡ found_then r (λ x n. found_then (rest n) λ xs last. found (x ∷ xs) last) → is_found whole ≡ true → At next ≡ end_of r
+    → whole ≡ found_then r (λ x n. found_then (rest n) λ xs last. found (x ∷ xs) last) → is_found whole ≡ true → Some next ≡ end_of r
     → Behind whole r rest next
 behind whole unfound rest next e h g = absurd (not_there whole h e)
 behind whole (found x n) rest next e h g =
@@ -70,7 +69,7 @@ behind whole (found x n) rest next e h g =
         }
 
 -- Reporting: what is left from here, printed and counted, gives the whole.
-pub record Reporting (s out₀ : List ℕ) (a : ℕ) (m out : List ℕ) (at k printed : ℕ) : Type 0 where
+pub record Reporting (s : List ℕ) (t₀ : Text) (m : List ℕ) (t : Text) (at k : ℕ) : Type 0 where
   pub first : 1 ≤ k
   pub last : k ≤ 65
   pub there : is_found (scripts_at (65 - k) s at) ≡ true
@@ -78,9 +77,9 @@ pub record Reporting (s out₀ : List ℕ) (a : ℕ) (m out : List ℕ) (at k pr
   pub within : at ≤ length s
   pub columns : length m ≡ 11
   pub few : Most at m
-  pub room : a + report_room ≤ length out₀
-  pub used : printed ≤ a + rows_room * (k - 1)
-  pub printing : Printing out₀ a (script_rows 1 (the_list (read_scripts s))) out printed (script_rows k (the_list (scripts_at (65 - k) s at)))
+  pub room : t₀.len + report_room ≤ length t₀.out.now
+  pub used : t.len ≤ t₀.len + rows_room * (k - 1)
+  pub appending : Appending t₀ (script_rows 1 (the_list (read_scripts s))) t (script_rows k (the_list (scripts_at (65 - k) s at)))
   pub total : totalled m (all_turns (the_list (scripts_at (65 - k) s at))) ≡ totalled (replicate 11 0) (all_turns (the_list (read_scripts s)))
 
 input_short : (s : List ℕ) → is_found (read_scripts s) ≡ true → (length s ≤ 60000) × (read_scripts s ≡ scripts_at 64 s 0)
@@ -92,8 +91,8 @@ input_short s h = ways (leb (length s) 60000) refl h
     ways true e h = (leb-true (length s) 60000 e, refl)
     ways false e h = absurd (true≢false (sym h))
 
-pub report_start : (s out : List ℕ) (a : ℕ) → ScriptsThere s out a → (m : List ℕ) → m ≡ replicate 11 0 → Reporting s out a m out 0 1 a
-report_start s out a h m em =
+pub report_start : (s : List ℕ) (t : Text) → ScriptsThere s t → (m : List ℕ) → m ≡ replicate 11 0 → Reporting s t m t 0 1
+report_start s t h m em =
     let all = input_short s h.there in
     record {
       first = omega arith;
@@ -105,16 +104,13 @@ report_start s out a h m em =
       few = subst (Most 0) (sym em) (most_zeros 0 11);
       room = h.room;
       used = omega arith;
-      printing =
-          subst (λ r. Printing out a (script_rows 1 (the_list (read_scripts s))) out a (script_rows 1 (the_list r))) all.1
-          (print_start out a (script_rows 1 (the_list (read_scripts s))));
+      appending =
+          subst (λ r. Appending t (script_rows 1 (the_list (read_scripts s))) t (script_rows 1 (the_list r))) all.1
+          (append_start t (script_rows 1 (the_list (read_scripts s))) (omega (arith, h.room)));
       total = ap (λ r. totalled m (all_turns (the_list r))) (sym all.1) ∙ ap (λ x. totalled x (all_turns (the_list (read_scripts s)))) em;
     }
 
-module _ {s out₀ : List ℕ} {a : ℕ} {m out : List ℕ} {at k printed : ℕ} (e : Reporting s out₀ a m out at k printed) where
-  pub report_same : length out ≡ length out₀
-  report_same = e.printing.same
-
+module _ {s : List ℕ} {t₀ : Text} {m : List ℕ} {t : Text} {at k : ℕ} (e : Reporting s t₀ m t at k) where
   abbrev left : Found (List Script)
   left = scripts_at (65 - k) s at
 
@@ -128,9 +124,6 @@ module _ {s out₀ : List ℕ} {a : ℕ} {m out : List ℕ} {at k printed : ℕ}
 
     one_less : 65 - k ≡ suc (65 - (k + 1))
     one_less = omega (arith, more, e.first)
-
-    pub report_fits : Fits w32 (k + 1)
-    report_fits = record { fits = omega (arith, more) }
 
     pub report_less : 65 - (k + 1) < 65 - k
     report_less = omega (arith, more)
@@ -148,21 +141,21 @@ module _ {s out₀ : List ℕ} {a : ℕ} {m out : List ℕ} {at k printed : ℕ}
             (not_there left e.there
             (split ∙ ap (λ z. found_then z λ x next. found_then (scripts_at (65 - (k + 1)) s next) λ xs last. found (x ∷ xs) last) g))
 
-    pub report_there : ScriptThere s at m out printed
+    pub report_there : ScriptThere s at m t
     report_there =
         record {
           there = here;
           short = e.short;
           columns = e.columns;
           few = e.few;
-          room = omega (arith, e.used, more, e.room, e.printing.same);
+          room = omega (arith, e.used, more, e.room, e.appending.printing.same);
         }
 
-    module _ (m' out' : List ℕ) (next printed' : ℕ) (r : ScriptReported s at k m m' out out' printed next printed') where
+    module _ (m' : List ℕ) {t' : Text} (next : ℕ) (r : ScriptReported s at k m m' t t' next) where
       rest : Behind left (script_at s at) (scripts_at (65 - (k + 1)) s) next
       rest = behind left (script_at s at) (scripts_at (65 - (k + 1)) s) next split e.there r.end
 
-      pub report_more : Reporting s out₀ a m' out' next (k + 1) printed'
+      pub report_more : Reporting s t₀ m' t' next (k + 1)
       report_more =
           record {
             first = omega arith;
@@ -173,9 +166,9 @@ module _ {s out₀ : List ℕ} {a : ℕ} {m out : List ℕ} {at k printed : ℕ}
             columns = r.columns;
             few = r.few;
             room = e.room;
-            used = omega (arith, e.used, e.first, r.rows.next, r.fit);
-            printing =
-                print_more e.printing (the_rows k (script_at s at)) _
+            used = omega (arith, e.used, e.first, r.rows.wrote.next, r.fit);
+            appending =
+                append_more e.appending (the_rows k (script_at s at)) _
                 (rest.rows k ∙ ap (λ n. the_rows k (script_at s at) ++ script_rows n (the_list (scripts_at (65 - (k + 1)) s next))) (sym (add-one k)))
                 r.rows;
             total =
@@ -189,31 +182,28 @@ module _ {s out₀ : List ℕ} {a : ℕ} {m out : List ℕ} {at k printed : ℕ}
     over : left ≡ found [] at
     over = scripts_over (65 - k) s at h
 
-    pub total_room : RowRoom 165 out printed m 0
-    total_room =
-        record {
-          room = omega (arith, e.used, e.last, e.room, e.printing.same);
-          there = omega (arith, e.columns);
-          few = most_more (omega (arith, e.within, e.short)) e.few;
-        }
-
-    rows_done : Wrote out₀ out a printed (script_rows 1 (the_list (read_scripts s)))
+    rows_done : Appends t₀ t (script_rows 1 (the_list (read_scripts s)))
     unfolding script_rows all_groups group_rows
-    rows_done =
-        print_end e.printing (ap (λ r. script_rows k (the_list r)) over)
-        (omega (arith, e.used, e.last, e.room, e.printing.same))
+    rows_done = append_end e.appending (ap (λ r. script_rows k (the_list r)) over)
 
     all_counted : m ≡ totalled (replicate 11 0) (all_turns (the_list (read_scripts s)))
     unfolding totalled all_turns
     all_counted = ap (λ r. totalled m (all_turns (the_list r))) (sym over) ∙ e.total
 
-    pub report_end : (out' : List ℕ) (r : ℕ) → Wrote out out' printed r (row_text 0 0 (take 11 (drop 0 m)))
-        → Wrote out₀ out' a r (scripts_text (the_list (read_scripts s)))
+    pub total_room : RowRoom 165 t m
+    total_room =
+        record {
+          room = omega (arith, e.used, e.last, e.room, e.appending.printing.same);
+          columns = e.columns;
+          few = most_more (omega (arith, e.within, e.short)) e.few;
+        }
+
+    pub report_end : {t' : Text} → Appends t t' (row_text 0 0 m) → Appends t₀ t' (scripts_text (the_list (read_scripts s)))
     unfolding scripts_text
-    report_end out' r w =
-        wrote_more rows_done
-        (subst (λ fs. Wrote out out' printed r (row_text 0 0 fs))
-        (ap (λ x. take 11 (drop 0 x)) all_counted ∙ total_figures (all_turns (the_list (read_scripts s))))
+    report_end {t'} w =
+        appends_more rows_done
+        (subst (λ fs. Appends t t' (row_text 0 0 fs))
+        (all_counted ∙ total_figures (all_turns (the_list (read_scripts s))))
         w)
 
 -- The whole.
@@ -233,7 +223,7 @@ report_some s = go (read_scripts s)
     go unfound h = absurd (true≢false (sym h))
     go (found xs end) h = refl
 
-module _ (s out : List ℕ) (q : Bool) (eq : q ≡ is_found (read_scripts s)) where
+module _ (s out : List ℕ) where
   text : (xs : List ℕ) → report s ≡ xs → {out' : List ℕ} {r : ℕ} → Wrote out out' 0 r xs → Reported s out out' r
   text xs e {out'} {r} w =
       let long : r ≡ length xs = omega (arith, w.next) in
@@ -242,16 +232,16 @@ module _ (s out : List ℕ) (q : Bool) (eq : q ≡ is_found (read_scripts s)) wh
         output = written out out' r xs w ∙ ap (λ l. l ++ drop r out) (sym e);
       }
 
-  pub report_unreadable : not q ≡ true → (out' : List ℕ) (r : ℕ) → Wrote out out' 0 r (ascii "unreadable\n") → Reported s out out' r
-  report_unreadable h out' r w = text (ascii "unreadable\n") (report_none s (sym eq ∙ not-true q h)) w
+  module _ (t₀ : Text) (z : t₀.len ≡ 0) (et : t₀.out.now ≡ out) (q : Bool) (eq : q ≡ is_found (read_scripts s)) where
+    pub report_unreadable : not q ≡ true → {t : Text} → Appends t₀ t (ascii "unreadable\n") → Reported s out t.out.now t.len
+    report_unreadable h w = text (ascii "unreadable\n") (report_none s (sym eq ∙ not-true q h)) (from_start z et w refl)
 
-  module _ (h : not q ≡ false) (out₁ : List ℕ) (k : ℕ) (w : Wrote out out₁ 0 k heading) where
-    pub scripts_there : length out ≡ 676087 → ScriptsThere s out₁ k
-    scripts_there z =
-        record {
-          there = sym eq ∙ not-false q h;
-          room = omega (arith, w.next, wrote_length w);
-        }
+    module _ (h : not q ≡ false) {t₁ : Text} (w : Appends t₀ t₁ heading) where
+      pub scripts_room : length out ≡ 676087 → ScriptsThere s t₁
+      scripts_room long =
+          record { there = sym eq ∙ not-false q h; room = omega (arith, z, ap length et, w.wrote.next, appends_length w) }
 
-    pub report_whole : (out₂ : List ℕ) (r : ℕ) → Wrote out₁ out₂ k r (scripts_text (the_list (read_scripts s))) → Reported s out out₂ r
-    report_whole out₂ r v = text (heading ++ scripts_text (the_list (read_scripts s))) (report_some s (sym eq ∙ not-false q h)) (wrote_more w v)
+      pub report_whole : {t₂ : Text} → Appends t₁ t₂ (scripts_text (the_list (read_scripts s))) → Reported s out t₂.out.now t₂.len
+      report_whole v =
+          text (heading ++ scripts_text (the_list (read_scripts s))) (report_some s (sym eq ∙ not-false q h))
+          (from_start z et (appends_more w v) refl)

@@ -7,19 +7,17 @@ use mathlib.Core.List.{List, [], ◌∷◌}
 use borrow.Author.Tests.{eq-eqb, ne_eqb}
 use lib.Dec.{eqb}
 use lib.ListN.{length, get_or, drop_of_length-le, get_or-eq_default}
+use Rattle.std.specs.Prelude.{Option, Some, None}
 use Rattle.region.specs.Pick.{pick}
 use Rattle.script.specs.Text.{starts_with, text_at}
 use Rattle.script.specs.Reading.{read_line}
-use Rattle.script.specs.declared.reading.Line.{Line}
-use Rattle.script.specs.declared.reading.Line.TheVariants.{Read as LineRead, Unreadable as NotLine}
 use Rattle.script.specs.declared.reading.ScriptLine.{ScriptLine}
 use Rattle.script.proofs.Readings.{line_long}
 use Rattle.figures.specs.Scripts.{Found, found, unfound, found_then, lines_at}
 use Rattle.figures.specs.Inner.{end_of}
-use Rattle.figures.specs.declared.scripts.End.TheVariants.{At, Unreadable}
 
 -- Past the end there is no line, and no empty one.
-no_line : (s : List ℕ) (at : ℕ) → length s ≤ at → read_line s at ≡ NotLine
+no_line : (s : List ℕ) (at : ℕ) → length s ≤ at → read_line s at ≡ None
 unfolding read_line text_at starts_with pick
 no_line s at h = rw (drop_of_length-le s h) refl
 
@@ -35,11 +33,11 @@ enough zero m s at h g = lines_past zero s at (omega arith) ∙ sym (lines_past 
 enough (suc n) zero s at h g = lines_past (suc n) s at (omega arith) ∙ sym (lines_past zero s at (omega arith))
 enough (suc n) (suc m) s at h g = ways (read_line s at) refl (enough n m s)
   where
-    ways : (r : Line) → read_line s at ≡ r
+    ways : (r : Option ScriptLine) → read_line s at ≡ r
         → ((at' : ℕ) → length s ≤ at' + n → length s ≤ at' + m → lines_at n s at' ≡ lines_at m s at')
         → lines_at (suc n) s at ≡ lines_at (suc m) s at
-    ways NotLine e rest = rw e refl
-    ways (LineRead l) e rest =
+    ways None e rest = rw e refl
+    ways (Some l) e rest =
         let long = line_long s at l e in
         rw e
         (ap (λ r. pick (eqb (get_or s at 0) 10) (found [] (suc at)) (found_then r λ ls next. found (l ∷ ls) next))
@@ -58,11 +56,11 @@ module _ (s : List ℕ) (at : ℕ) where
   lines_ended h = rw (eq-eqb (get_or s at 0) 10 h) at step
 
   module _ (h : get_or s at 0 ≡ 10 → ⊥) where
-    pub lines_unread : read_line s at ≡ NotLine → lines ≡ unfound
+    pub lines_unread : read_line s at ≡ None → lines ≡ unfound
     unfolding lines_at pick
     lines_unread e = rw (ne_eqb (get_or s at 0) 10 h, e) at step
 
-    pub lines_more : (l : ScriptLine) → read_line s at ≡ LineRead l
+    pub lines_more : (l : ScriptLine) → read_line s at ≡ Some l
         → lines ≡ found_then (lines_at (length s) s l.next) λ ls next. found (l ∷ ls) next
     unfolding lines_at pick
     lines_more l e = rw (ne_eqb (get_or s at 0) 10 h, e) at step
@@ -81,21 +79,18 @@ module _ (l : ScriptLine) where
 pub record Ending (s : List ℕ) (start at : ℕ) : Type 0 where
   pub left : end_of (lines_at (length s) s at) ≡ end_of (lines_at (length s) s start)
 
-pub end_start : (s : List ℕ) (start : ℕ) → Ending s start start
-end_start s start = record { left = refl }
-
 module _ {s : List ℕ} {start at : ℕ} (e : Ending s start at) where
-  pub end_past : length s ≤ at → Unreadable ≡ end_of (lines_at (length s) s start)
+  pub end_past : length s ≤ at → None ≡ end_of (lines_at (length s) s start)
   end_past h = ap end_of (sym (lines_past (length s) s at h)) ∙ e.left
 
-  pub end_found : get_or s at 0 ≡ 10 → At (at + 1) ≡ end_of (lines_at (length s) s start)
-  end_found h = ap At (add-one at) ∙ ap end_of (sym (lines_ended s at h)) ∙ e.left
+  pub end_found : get_or s at 0 ≡ 10 → Some (at + 1) ≡ end_of (lines_at (length s) s start)
+  end_found h = ap Some (add-one at) ∙ ap end_of (sym (lines_ended s at h)) ∙ e.left
 
-  module _ (h : get_or s at 0 ≡ 10 → ⊥) (r : Line) (er : r ≡ read_line s at) where
-    pub end_unread : r ≡ NotLine → Unreadable ≡ end_of (lines_at (length s) s start)
-    end_unread g = ap end_of (sym (lines_unread s at h (sym er ∙ g))) ∙ e.left
+  module _ (h : get_or s at 0 ≡ 10 → ⊥) (r : Option ScriptLine) (er : r ≡ read_line s at) where
+    pub end_unread : r ≡ None → (q : Option ℕ) → q ≡ None → q ≡ end_of (lines_at (length s) s start)
+    end_unread g q eq = eq ∙ ap end_of (sym (lines_unread s at h (sym er ∙ g))) ∙ e.left
 
-    module _ (l : ScriptLine) (g : r ≡ LineRead l) where
+    module _ (l : ScriptLine) (g : r ≡ Some l) where
       pub end_less : at < length s → length s - l.next < length s - at
       end_less i = omega (arith, line_long s at l (sym er ∙ g))
 

@@ -7,20 +7,21 @@ use mathlib.Core.Bool.{Bool, true, false, true≢false}
 use mathlib.Core.List.{List, [], ◌∷◌, ◌++◌}
 use mir.Syntax.{w64}
 use mir.Val.{Fits}
-use borrow.Author.Tests.{eqb-false, eqb-true}
-use lib.Dec.{eqb}
-use lib.ListN.{length, drop, replicate, take, length-append, length-replicate}
-use Rattle.region.specs.Answer.{done}
+use borrow.Author.Tests.{eqb-false, eqb-true, ltb-false, ltb-true}
+use lib.Dec.{eqb, ltb}
+use lib.ListN.{length, drop, get_or, replicate, take, length-append, length-replicate}
+use lib.Seq.{get_or-take, length-take-le}
+use Rattle.std.specs.Prelude.{Option, Some, None}
+use Rattle.region.specs.Refusal.{done}
 use Rattle.region.specs.Inner.{InRange}
 use Rattle.region.specs.Shape.{region_words}
 use Rattle.readable.specs.Readable.{readable}
-use Rattle.script.specs.Inner.{Wrote}
+use Rattle.script.specs.Inner.{Appends}
 use Rattle.script.specs.Reading.{opening_at}
 use Rattle.script.specs.Script.{laid_region, region_length, setup_refusal}
-use Rattle.script.specs.declared.reading.Opening.{Opening}
-use Rattle.script.specs.declared.reading.Opening.TheVariants.{Read as OpeningRead, Unreadable as NotOpening}
 use Rattle.script.specs.declared.reading.ScriptLine.{ScriptLine}
 use Rattle.script.specs.declared.reading.Setup.{Setup}
+use Rattle.script.specs.declared.text.Text.{Text}
 use Rattle.script.proofs.Readings.{opening_long}
 use Rattle.script.proofs.Regions.{laid_readable}
 use Rattle.script.proofs.Setups.{fine_shape, laid_part, length_fits, part_length, region_room}
@@ -28,14 +29,14 @@ use Rattle.figures.specs.Scripts.{Found, found, unfound, lines_at, script_at}
 use Rattle.figures.specs.Turns.{TurnMade, turns_in, turns_of}
 use Rattle.figures.specs.Figures.{Test, counts, figures, of_thread, tests}
 use Rattle.figures.specs.Report.{group_rows, row_text, thread_groups}
-use Rattle.figures.specs.Inner.{LinesCounted, LinesThere, Most, RowsRoom, ScriptReported, ScriptThere, SetupThere, end_of, is_found, table_rows, tally, the_list, the_rows, the_turns, thread_rows, totalled}
+use Rattle.figures.specs.Inner.{LinesCounted, LinesThere, Most, RowsRoom, ScriptReported, ScriptThere, SetupThere, Table, end_of, is_found, rows_text, tally, the_list, the_rows, the_turns, thread_rows, totalled}
 use Rattle.figures.proofs.Printed.{row_most}
 use Rattle.figures.proofs.ScriptsRead.{accepted, no_script, not_accepted, same_end, with_lines}
-use Rattle.figures.proofs.Tally.{most_more, most_zeros, table_rows_lem}
+use Rattle.figures.proofs.Tally.{most_more, no_row, table_rows, table_zeros, zero_table}
 use Rattle.figures.proofs.TurnsCounted.{not_there}
 
 -- An accepted setup: its region is the start of the lent one.
-module _ (s : List ℕ) (u : Setup) (l m : List ℕ) (h : SetupThere s u l m) where
+module _ (s : List ℕ) (u : Setup) (l : List (List ℕ)) (m : List ℕ) (h : SetupThere s u l m) where
   pub setup_shape : InRange u.shape
   setup_shape = fine_shape u h.accepted
 
@@ -65,7 +66,7 @@ module _ (s : List ℕ) (u : Setup) (l m : List ℕ) (h : SetupThere s u l m) wh
             tables = h.tables;
           }
 
-      pub setup_counted : (l' m' : List ℕ) (r : ℕ) → LinesCounted s u.next (take (4 * w) g₁) l l' m m' r
+      pub setup_counted : (l' : List (List ℕ)) (m' : List ℕ) (r : ℕ) → LinesCounted s u.next (take (4 * w) g₁) l l' m m' r
           → LinesCounted s u.next (laid_region u) l l' m m' r
       setup_counted l' m' r = subst (λ b. LinesCounted s u.next b l l' m m' r) part
 
@@ -110,11 +111,11 @@ module _ (u : Setup) where
   rows_of k unfound h = absurd (true≢false (sym h))
 
 -- A script that is there was accepted, and its lines are there.
-module _ {s : List ℕ} {at : ℕ} {m out : List ℕ} {a : ℕ} (h : ScriptThere s at m out a) (r : Opening) (er : r ≡ opening_at s at) where
-  pub script_unread : r ≡ NotOpening → (k : ℕ) → ScriptReported s at k m m out out a at a
+module _ {s : List ℕ} {at : ℕ} {m : List ℕ} {t : Text} (h : ScriptThere s at m t) (r : Option Setup) (er : r ≡ opening_at s at) where
+  pub script_unread : r ≡ None → (k : ℕ) → ScriptReported s at k m m t t at
   script_unread g k = absurd (not_there (script_at s at) h.there (no_script s at r er g))
 
-  module _ (u : Setup) (g : r ≡ OpeningRead u) where
+  module _ (u : Setup) (g : r ≡ Some u) where
     is_done : setup_refusal u ≡ done
     is_done = ways (eqb (setup_refusal u) done) refl
       where
@@ -132,7 +133,7 @@ module _ {s : List ℕ} {at : ℕ} {m out : List ℕ} {a : ℕ} (h : ScriptThere
     lines_there : is_found lines ≡ true
     lines_there = sym (same_there u lines) ∙ ap is_found (sym whole) ∙ h.there
 
-    pub script_setup : (l : List ℕ) → l ≡ replicate 704 0 → SetupThere s u l m
+    pub script_setup : (l : List (List ℕ)) → l ≡ replicate 64 (replicate 11 0) → SetupThere s u l m
     script_setup l e =
         record {
           accepted = is_done;
@@ -140,38 +141,57 @@ module _ {s : List ℕ} {at : ℕ} {m out : List ℕ} {a : ℕ} (h : ScriptThere
           tables =
               record {
                 short = h.short;
-                rows = ap length e ∙ length-replicate {A = ℕ} 704 0;
+                table = subst (Table u.next) (sym e) (table_zeros u.next);
                 columns = h.columns;
-                few = subst (Most u.next) (sym e) (most_zeros u.next 704);
-                few_total = most_more (opening_long s at u (sym er ∙ g)) h.few;
+                few = most_more (opening_long s at u (sym er ∙ g)) h.few;
               };
         }
 
-    module _ (l l' m' : List ℕ) (next : ℕ) (c : LinesCounted s u.next (laid_region u) l l' m m' next) where
+    module _ (l l' : List (List ℕ)) (m' : List ℕ) (next : ℕ) (c : LinesCounted s u.next (laid_region u) l l' m m' next) where
       few_threads : u.shape.threads ≤ 64
       few_threads = (fine_shape u is_done).threads_most
 
-      pub script_room : RowsRoom u.shape.threads out a l'
+      pub threads_there : u.shape.threads ≤ length l'
+      threads_there = omega (arith, few_threads, c.tables.table.rows)
+
+      few_long : length (take u.shape.threads l') ≡ u.shape.threads
+      few_long = length-take-le u.shape.threads l' threads_there
+
+      pub threads_long : u.shape.threads ≡ length (take u.shape.threads l')
+      threads_long = sym few_long
+
+      pub script_room : RowsRoom t (take u.shape.threads l')
       script_room =
           record {
-            room = omega (arith, few_threads, h.room);
-            there = omega (arith, few_threads, c.tables.rows);
-            few = most_more (omega (arith, c.within, h.short)) c.tables.few;
+            room = omega (arith, few_threads, few_long, h.room);
+            most = omega (arith, few_threads, few_long);
+            columns = λ i w.
+                ap length (get_or-take u.shape.threads l' i [] (omega (arith, few_long)))
+                ∙ c.tables.table.columns i (omega (arith, few_long, few_threads));
+            few = λ i. few i (ltb i u.shape.threads) refl;
           }
+        where
+          few : (i : ℕ) (q : Bool) → ltb i u.shape.threads ≡ q → Most 60000 (get_or (take u.shape.threads l') i [])
+          few i true e =
+              subst (Most 60000) (sym (get_or-take u.shape.threads l' i [] (ltb-true i u.shape.threads e)))
+              (most_more (omega (arith, c.within, h.short)) (c.tables.table.few i))
+          few i false e =
+              subst (Most 60000) (sym (no_row (take u.shape.threads l') i (omega (arith, few_long, ltb-false i u.shape.threads e))))
+              (record { each = λ k. omega arith })
 
-      pub script_reported : l ≡ replicate 704 0 → (k : ℕ) (out' : List ℕ) (printed : ℕ)
-          → Wrote out out' a printed (table_rows k l' 0 u.shape.threads) → ScriptReported s at k m m' out out' a next printed
-      script_reported e k out' printed w =
+      pub script_reported : l ≡ replicate 64 (replicate 11 0) → (k : ℕ) {t' : Text} → Appends t t' (rows_text k 0 (take u.shape.threads l'))
+          → ScriptReported s at k m m' t t' next
+      script_reported e k {t'} w =
           let turns : List TurnMade = turns_of (the_list lines) (laid_region u) in
-          let counted : l' ≡ tally (replicate 704 0) turns = c.table ∙ ap (λ x. tally x turns) e in
-          let rows : table_rows k l' 0 u.shape.threads ≡ the_rows k (script_at s at) =
-          ap (λ x. table_rows k x 0 u.shape.threads) counted
-          ∙ table_rows_lem k turns u.shape.threads few_threads
+          let counted : l' ≡ tally zero_table turns = c.table ∙ ap (λ x. tally x turns) e in
+          let rows : rows_text k 0 (take u.shape.threads l') ≡ the_rows k (script_at s at) =
+          ap (λ x. rows_text k 0 (take u.shape.threads x)) counted
+          ∙ table_rows k turns u.shape.threads few_threads
           ∙ sym (rows_of u k lines lines_there)
           ∙ ap (the_rows k) (sym whole) in
           record {
             end = c.next ∙ sym (same_end u lines) ∙ ap end_of (sym whole);
-            rows = subst (Wrote out out' a printed) rows w;
+            rows = subst (Appends t t') rows w;
             fit =
                 omega (
                   arith,
@@ -181,6 +201,6 @@ module _ {s : List ℕ} {at : ℕ} {m out : List ℕ} {a : ℕ} (h : ScriptThere
                 );
             total = c.total ∙ ap (totalled m) (sym (turns_of_lem u lines lines_there) ∙ ap the_turns (sym whole));
             columns = c.tables.columns;
-            few = c.tables.few_total;
+            few = c.tables.few;
             within = c.within;
           }

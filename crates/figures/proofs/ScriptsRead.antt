@@ -2,36 +2,36 @@
 use Prim.Native.Nat.{ℕ, zero, suc, ◌+◌, ◌-◌, ◌≤◌, ◌<◌}
 use native.Mathlib.Omega.{arith}
 use mathlib.Core.Path.{◌≡◌, refl, sym, ap, ◌∙◌}
-use mathlib.Core.Bool.{true, false}
+use mathlib.Core.Bool.{Bool, true, false}
 use mathlib.Core.List.{List, [], ◌∷◌}
 use borrow.Author.Tests.{le-leb, lt-leb, eq-eqb, ne_eqb}
+use lib.Dec.{leb}
 use lib.ListN.{length}
-use Rattle.region.specs.Answer.{done}
+use Rattle.std.specs.Prelude.{Option, Some, None, Ok, Err}
+use Rattle.region.specs.Refusal.{Checked, code_of, done}
+use Rattle.region.specs.declared.refusal.Refusal.{Refusal}
+use Rattle.region.proofs.Refusals.{not_done}
 use Rattle.region.specs.Pick.{pick}
 use Rattle.script.specs.Reading.{opening_at}
-use Rattle.script.specs.Script.{setup_refusal}
+use Rattle.script.specs.Script.{setup_check, setup_refusal}
 use Rattle.script.specs.declared.reading.ScriptLine.{ScriptLine}
-use Rattle.script.specs.declared.reading.Opening.{Opening}
-use Rattle.script.specs.declared.reading.Opening.TheVariants.{Read as OpeningRead, Unreadable as NotOpening}
 use Rattle.script.specs.declared.reading.Setup.{Setup}
 use Rattle.figures.specs.Scripts.{Found, found, unfound, found_then, Script, lines_at, opening_and_lines, read_scripts, script_at, scripts_at}
 use Rattle.figures.specs.Inner.{end_of, is_found}
-use Rattle.figures.specs.declared.scripts.End.{End}
-use Rattle.figures.specs.declared.scripts.End.TheVariants.{At, Unreadable}
 
 -- The script from a position on: its opening, its layout, its lines.
 unfoldable pub with_lines : Setup → Found (List ScriptLine) → Found Script
 with_lines u r = found_then r λ ls next. found (record { setup = u; lines = ls }) next
 
-module _ (s : List ℕ) (at : ℕ) (r : Opening) (er : r ≡ opening_at s at) where
+module _ (s : List ℕ) (at : ℕ) (r : Option Setup) (er : r ≡ opening_at s at) where
   whole : script_at s at ≡ opening_and_lines s r
   unfolding script_at
   whole = ap (opening_and_lines s) (sym er)
 
-  pub no_script : r ≡ NotOpening → script_at s at ≡ unfound
+  pub no_script : r ≡ None → script_at s at ≡ unfound
   no_script g = whole ∙ ap (opening_and_lines s) g
 
-  module _ (u : Setup) (g : r ≡ OpeningRead u) where
+  module _ (u : Setup) (g : r ≡ Some u) where
     pub not_accepted : (setup_refusal u ≡ done → ⊥) → script_at s at ≡ unfound
     unfolding pick
     not_accepted n = rw (ne_eqb (setup_refusal u) done n) at (whole ∙ ap (opening_and_lines s) g)
@@ -47,17 +47,19 @@ same_end u (found ls next) = refl
 same_end u unfound = refl
 
 -- Where it ends.
-module _ (s : List ℕ) (at : ℕ) (r : Opening) (er : r ≡ opening_at s at) where
-  pub end_no_script : r ≡ NotOpening → Unreadable ≡ end_of (script_at s at)
-  end_no_script g = ap end_of (sym (no_script s at r er g))
+module _ (s : List ℕ) (at : ℕ) (r : Option Setup) (er : r ≡ opening_at s at) where
+  pub end_no_script : r ≡ None → (q : Option ℕ) → q ≡ None → q ≡ end_of (script_at s at)
+  end_no_script g q e = e ∙ ap end_of (sym (no_script s at r er g))
 
-  module _ (u : Setup) (g : r ≡ OpeningRead u) (n : ℕ) (en : n ≡ setup_refusal u) where
-    pub end_refused : (n ≡ 0 → ⊥) → Unreadable ≡ end_of (script_at s at)
-    end_refused h = ap end_of (sym (not_accepted s at r er u g (λ z. h (en ∙ z))))
+  module _ (u : Setup) (g : r ≡ Some u) {c : Checked} (ec : c ≡ setup_check u) where
+    pub end_refused : {y : Refusal} → c ≡ Err y → None ≡ end_of (script_at s at)
+    unfolding setup_refusal
+    end_refused {y} h = ap end_of (sym (not_accepted s at r er u g (λ z. not_done y (sym (ap code_of (sym ec ∙ h)) ∙ z))))
 
-    pub end_lines : n ≡ 0 → (q : End) → q ≡ end_of (lines_at (length s) s u.next) → q ≡ end_of (script_at s at)
+    pub end_lines : {x : Unit {0}} → c ≡ Ok x → (q : Option ℕ) → q ≡ end_of (lines_at (length s) s u.next) → q ≡ end_of (script_at s at)
+    unfolding setup_refusal
     end_lines h q e =
-        e ∙ sym (same_end u (lines_at (length s) s u.next)) ∙ ap end_of (sym (accepted s at r er u g (sym en ∙ h)))
+        e ∙ sym (same_end u (lines_at (length s) s u.next)) ∙ ap end_of (sym (accepted s at r er u g (ap code_of (sym ec ∙ h))))
 
 -- One script and the rest: n more are allowed.
 module _ (n : ℕ) (s : List ℕ) (at : ℕ) where
@@ -83,12 +85,12 @@ module _ (n : ℕ) (s : List ℕ) (at : ℕ) where
 and_more : Found Script → (ℕ → Found (List Script)) → Found (List Script)
 and_more r rest = found_then r λ x next. found_then (rest next) λ xs last. found (x ∷ xs) last
 
-no_end : (r : Found Script) (rest : ℕ → Found (List Script)) → Unreadable ≡ end_of r → is_found (and_more r rest) ≡ false
+no_end : (r : Found Script) (rest : ℕ → Found (List Script)) → None ≡ end_of r → is_found (and_more r rest) ≡ false
 unfolding and_more
 no_end (found x next) rest e = let z : ◌≡◌ {A = ℕ} 0 1 = cc in absurd (omega arith)
 no_end unfound rest e = refl
 
-at_end : (r : Found Script) (rest : ℕ → Found (List Script)) (next : ℕ) → At next ≡ end_of r → is_found (and_more r rest) ≡ is_found (rest next)
+at_end : (r : Found Script) (rest : ℕ → Found (List Script)) (next : ℕ) → Some next ≡ end_of r → is_found (and_more r rest) ≡ is_found (rest next)
 unfolding and_more
 at_end unfound rest next e = let z : ◌≡◌ {A = ℕ} 0 1 = cc in absurd (omega arith)
 at_end (found x n) rest next e =
@@ -101,7 +103,6 @@ at_end (found x n) rest next e =
 
 -- Whether all can be read: what is left from here decides.
 pub record Reading (s : List ℕ) (at count : ℕ) : Type 0 where
-  pub few : count ≤ 64
   pub left : is_found (scripts_at (64 - count) s at) ≡ is_found (read_scripts s)
 
 pub input_long : (s : List ℕ) → 60000 < length s → false ≡ is_found (read_scripts s)
@@ -110,39 +111,40 @@ input_long s h = rw (lt-leb (length s) 60000 h) refl
 
 pub read_start : (s : List ℕ) → length s ≤ 60000 → Reading s 0 0
 unfolding read_scripts pick
-read_start s h = record { few = omega arith; left = rw (le-leb (length s) 60000 h) refl }
+read_start s h = record { left = rw (le-leb (length s) 60000 h) refl }
 
 module _ {s : List ℕ} {at count : ℕ} (e : Reading s at count) where
   pub read_end : length s ≤ at → true ≡ is_found (read_scripts s)
   read_end h = ap is_found (sym (scripts_over (64 - count) s at h)) ∙ e.left
 
-  module _ (h : at < length s) where
-    pub read_many : count ≡ 64 → false ≡ is_found (read_scripts s)
-    read_many g =
-        let none : 64 - count ≡ 0 = omega arith in
-        ap is_found (sym (too_many (64 - count) s at h none)) ∙ e.left
+  -- no more scripts are read
+  pub read_all : 64 ≤ count → leb (length s) at ≡ is_found (read_scripts s)
+  unfolding scripts_at pick
+  read_all h =
+      let none : 64 - count ≡ 0 = omega arith in
+      sym (last (leb (length s) at) refl) ∙ ap (λ n. is_found (scripts_at n s at)) (sym none) ∙ e.left
+    where
+      last : (q : Bool) → leb (length s) at ≡ q → is_found (scripts_at 0 s at) ≡ leb (length s) at
+      last true g = rw g refl
+      last false g = rw g refl
 
-    module _ (n : count ≡ 64 → ⊥) (r : End) (er : r ≡ end_of (script_at s at)) where
-      one_less : 64 - count ≡ suc (64 - (count + 1))
-      one_less = omega (arith, e.few, n)
+  module _ (h : at < length s) (n : count < 64) (r : Option ℕ) (er : r ≡ end_of (script_at s at)) where
+    one_less : 64 - count ≡ suc (64 - (count + 1))
+    one_less = omega arith
 
-      pub read_fits : count + 1 ≤ 64
-      read_fits = omega (arith, e.few, n)
+    pub read_not : r ≡ None → false ≡ is_found (read_scripts s)
+    unfolding and_more
+    read_not g =
+        sym (no_end (script_at s at) (scripts_at (64 - (count + 1)) s) (sym g ∙ er))
+        ∙ ap is_found (sym (scripts_more (64 - count) s at h (64 - (count + 1)) one_less))
+        ∙ e.left
 
-      pub read_not : r ≡ Unreadable → false ≡ is_found (read_scripts s)
-      unfolding and_more
-      read_not g =
-          sym (no_end (script_at s at) (scripts_at (64 - (count + 1)) s) (sym g ∙ er))
-          ∙ ap is_found (sym (scripts_more (64 - count) s at h (64 - (count + 1)) one_less))
-          ∙ e.left
-
-      pub read_more : (next : ℕ) → r ≡ At next → Reading s next (count + 1)
-      unfolding and_more
-      read_more next g =
-          record {
-            few = read_fits;
-            left =
-                sym (at_end (script_at s at) (scripts_at (64 - (count + 1)) s) next (sym g ∙ er))
-                ∙ ap is_found (sym (scripts_more (64 - count) s at h (64 - (count + 1)) one_less))
-                ∙ e.left;
-          }
+    pub read_more : (next : ℕ) → r ≡ Some next → Reading s next (count + 1)
+    unfolding and_more
+    read_more next g =
+        record {
+          left =
+              sym (at_end (script_at s at) (scripts_at (64 - (count + 1)) s) next (sym g ∙ er))
+              ∙ ap is_found (sym (scripts_more (64 - count) s at h (64 - (count + 1)) one_less))
+              ∙ e.left;
+        }

@@ -1,15 +1,15 @@
--- Counting turns in a flat table: the lengths stay, no figure grows by more than three a turn, and each figure is the count of the turns
--- that pass its column's test. The columns in which a turn counts come to one or none for each test, so a table's entry grows by one
--- where the test is passed; by induction over the turns. Assumes nothing.
-use Prim.Native.Nat.{ℕ, zero, suc, ◌+◌, ◌-◌, ◌*◌, ◌≤◌, ◌<◌}
-use native.Mathlib.Nat.{add-zero, add-suc, zero-add}
+-- Counting turns in rows of figures: the lengths stay, no figure grows by more than three a turn, and each figure is the count of the turns
+-- that pass its column's test. The columns in which a turn counts come to one or none for each test, so a row's figure grows by one where
+-- the test is passed; by induction over the turns. A row of the table counts its thread's turns. Assumes nothing.
+use Prim.Native.Nat.{ℕ, zero, suc, ◌+◌, ◌-◌, ◌≤◌, ◌<◌}
+use native.Mathlib.Nat.{add-zero, zero-add}
 use native.Mathlib.Omega.{arith}
 use mathlib.Core.Path.{◌≡◌, refl, sym, ap, subst, ◌∙◌}
 use mathlib.Core.Bool.{Bool, true, false, not, ◌&&◌, true≢false}
 use mathlib.Core.List.{List, [], ◌∷◌, ◌++◌}
 use borrow.Author.Tests.{eqb-true, eqb-false, ne_eqb, ltb-true, ltb-false}
 use lib.Dec.{eqb, ltb}
-use lib.ListN.{length, get_or, set, take, drop, replicate, length-set, length-replicate}
+use lib.ListN.{length, get_or, set, take, drop, replicate, length-set, length-replicate, drop_of_length-le}
 use lib.Seq.{drop-cons, get_or-set_same, get_or-set_other}
 use Rattle.region.specs.Pick.{pick}
 use Rattle.region.specs.Shape.{between}
@@ -20,47 +20,35 @@ use Rattle.region.specs.declared.place.Place.{Place}
 use Rattle.region.specs.declared.record.Item.{Item}
 use Rattle.region.specs.declared.thread.Thread.{Thread}
 use Rattle.region.proofs.Picks.{pick_good}
-use Rattle.region.proofs.Shapes.{and_right, between_least, is_between}
+use Rattle.region.proofs.Shapes.{and_right, between_least, between_most, is_between}
 use Rattle.access.specs.declared.plan.Plan.{Plan}
 use Rattle.kinds.specs.Kind.{access_kind, failed_update, makes_access}
 use Rattle.figures.specs.Turns.{TurnMade}
 use Rattle.figures.specs.Figures.{Test, answered_empty, answered_list, answered_put, answered_take, count, counts, figures, of_thread, is_empty, is_hand_out, is_inserted, is_of_kind, is_took, tests}
 use Rattle.figures.specs.Report.{group_rows, row_text, thread_groups}
-use Rattle.figures.specs.Inner.{Most, access_column, added, answer_column, column_of, counted, failed_column, table_rows, tallied, tally, thread_rows, took_column, totalled}
+use Rattle.figures.specs.Inner.{Most, Table, access_column, added, answer_column, column_of, counted, failed_column, rows_text, tallied, tally, thread_rows, took_column, totalled}
 
 -- The lengths stay.
-pub added-length : (l : List ℕ) (at k : ℕ) → length (added l at k) ≡ length l
+pub added-length : (l : List ℕ) (k : ℕ) → length (added l k) ≡ length l
 unfolding added
-added-length l at k = pick_good (λ (x : List ℕ). length x ≡ length l) (ltb k 11) (λ e. length-set l (at + k) (get_or l (at + k) 0 + 1)) (λ e. refl)
+added-length l k = pick_good (λ (x : List ℕ). length x ≡ length l) (ltb k 11) (λ e. length-set l k (get_or l k 0 + 1)) (λ e. refl)
 
--- the table once a turn's access is counted, and once its failure is
-abbrev first : List ℕ → ℕ → Place → Plan → List ℕ
-first l at p q = added l at (access_column p q)
+-- a row once a turn's access is counted, and once its failure is
+abbrev first : List ℕ → Place → Plan → List ℕ
+first l p q = added l (access_column p q)
 
-abbrev second : List ℕ → ℕ → Place → Plan → List ℕ
-second l at p q = added (first l at p q) at (failed_column p q)
+abbrev second : List ℕ → Place → Plan → List ℕ
+second l p q = added (first l p q) (failed_column p q)
 
-pub counted-length : (l : List ℕ) (at : ℕ) (p : Place) (q : Plan) → length (counted l at p q) ≡ length l
+pub counted-length : (l : List ℕ) (p : Place) (q : Plan) → length (counted l p q) ≡ length l
 unfolding counted
-counted-length l at p q =
-    added-length (second l at p q) at (answer_column p q)
-    ∙ added-length (first l at p q) at (failed_column p q)
-    ∙ added-length l at (access_column p q)
-
-pub tallied-length : (l : List ℕ) (v : TurnMade) → length (tallied l v) ≡ length l
-unfolding tallied
-tallied-length l v =
-    pick_good (λ (x : List ℕ). length x ≡ length l) (between 1 v.thread 64) (λ e. counted-length l _ v.place v.plan) (λ e. refl)
-
-pub tally-length : (l : List ℕ) (vs : List TurnMade) → length (tally l vs) ≡ length l
-unfolding tally
-tally-length l [] = refl
-tally-length l (v ∷ vs) = tally-length (tallied l v) vs ∙ tallied-length l v
+counted-length l p q =
+    added-length (second l p q) (answer_column p q) ∙ added-length (first l p q) (failed_column p q) ∙ added-length l (access_column p q)
 
 pub totalled-length : (l : List ℕ) (vs : List TurnMade) → length (totalled l vs) ≡ length l
 unfolding totalled
 totalled-length l [] = refl
-totalled-length l (v ∷ vs) = totalled-length (counted l 0 v.place v.plan) vs ∙ counted-length l 0 v.place v.plan
+totalled-length l (v ∷ vs) = totalled-length (counted l v.place v.plan) vs ∙ counted-length l v.place v.plan
 
 -- How far a figure grows.
 pub most_more : {m n : ℕ} {l : List ℕ} → m ≤ n → Most m l → Most n l
@@ -73,27 +61,84 @@ set_most n (x ∷ xs) zero a (suc j) ha hl = hl
 set_most n (x ∷ xs) (suc i) a zero ha hl = hl
 set_most n (x ∷ xs) (suc i) a (suc j) ha hl = set_most n xs i a j ha hl
 
-pub most_added : {m : ℕ} {l : List ℕ} (at k : ℕ) → Most m l → Most (suc m) (added l at k)
+pub most_added : {m : ℕ} {l : List ℕ} (k : ℕ) → Most m l → Most (suc m) (added l k)
 unfolding added
-most_added {m} {l} at k f =
+most_added {m} {l} k f =
     record {
       each = λ j. pick_good (λ x. get_or x j 0 ≤ suc m) (ltb k 11)
-          (λ e. set_most (suc m) l (at + k) _ j (omega (arith, f.each (at + k))) (omega (arith, f.each j)))
+          (λ e. set_most (suc m) l k _ j (omega (arith, f.each k)) (omega (arith, f.each j)))
           (λ e. omega (arith, f.each j));
     }
 
-pub most_counted : {m : ℕ} {l : List ℕ} (at : ℕ) (p : Place) (q : Plan) → Most m l → Most (m + 3) (counted l at p q)
+pub most_counted : {m : ℕ} {l : List ℕ} (p : Place) (q : Plan) → Most m l → Most (m + 3) (counted l p q)
 unfolding counted
-most_counted at p q f =
+most_counted p q f =
     most_more (omega arith)
-    (most_added at (answer_column p q) (most_added at (failed_column p q) (most_added at (access_column p q) f)))
+    (most_added (answer_column p q) (most_added (failed_column p q) (most_added (access_column p q) f)))
 
-pub most_tallied : {m : ℕ} {l : List ℕ} (v : TurnMade) → Most m l → Most (m + 3) (tallied l v)
+-- A turn in the table: it counts in its thread's row, and the other rows stay.
+row_tallied : (t : List (List ℕ)) (v : TurnMade) (i : ℕ) → i < 64 → length t ≡ 64
+    → get_or (tallied t v) i [] ≡ pick (eqb v.thread (suc i)) (counted (get_or t i []) v.place v.plan) (get_or t i [])
+unfolding tallied pick
+row_tallied t v i few long =
+    pick_good
+    (λ (x : List (List ℕ)). get_or x i [] ≡ pick (eqb v.thread (suc i)) (counted (get_or t i []) v.place v.plan) (get_or t i []))
+    (between 1 v.thread 64)
+    (λ e. inside (between_least 1 v.thread 64 e) (between_most 1 v.thread 64 e) (eqb v.thread (suc i)) refl)
+    (λ e. outside e (eqb v.thread (suc i)) refl)
+  where
+    inside : 1 ≤ v.thread → v.thread ≤ 64 → (q : Bool) → eqb v.thread (suc i) ≡ q
+        → get_or (set t (v.thread - 1) (counted (get_or t (v.thread - 1) []) v.place v.plan)) i []
+        ≡ pick q (counted (get_or t i []) v.place v.plan) (get_or t i [])
+    inside least most true e =
+        let same : v.thread - 1 ≡ i = omega (arith, eqb-true v.thread (suc i) e) in
+        ap (λ n. get_or (set t n (counted (get_or t n []) v.place v.plan)) i []) same
+        ∙ get_or-set_same t i (counted (get_or t i []) v.place v.plan) [] (omega arith)
+    inside least most false e =
+        get_or-set_other t (v.thread - 1) i (counted (get_or t (v.thread - 1) []) v.place v.plan) []
+        (λ s. eqb-false v.thread (suc i) e (omega arith))
+
+    outside : between 1 v.thread 64 ≡ false → (q : Bool) → eqb v.thread (suc i) ≡ q
+        → get_or t i [] ≡ pick q (counted (get_or t i []) v.place v.plan) (get_or t i [])
+    outside e true g =
+        let own : v.thread ≡ suc i = eqb-true v.thread (suc i) g in
+        absurd (true≢false (sym (is_between 1 v.thread 64 (omega arith) (omega arith)) ∙ e))
+    outside e false g = refl
+
+pub tallied-length : (t : List (List ℕ)) (v : TurnMade) → length (tallied t v) ≡ length t
 unfolding tallied
-most_tallied {m} v f =
-    pick_good (Most (m + 3)) (between 1 v.thread 64)
-    (λ e. most_counted _ v.place v.plan f)
-    (λ e. most_more (omega arith) f)
+tallied-length t v =
+    pick_good (λ (x : List (List ℕ)). length x ≡ length t) (between 1 v.thread 64)
+    (λ e. length-set t (v.thread - 1) (counted (get_or t (v.thread - 1) []) v.place v.plan))
+    (λ e. refl)
+
+pub no_row : (t : List (List ℕ)) (i : ℕ) → length t ≤ i → get_or t i [] ≡ []
+no_row [] i h = refl
+no_row (r ∷ t) zero h = absurd (omega arith)
+no_row (r ∷ t) (suc i) h = no_row t i (omega arith)
+
+pub table_more : {m n : ℕ} {t : List (List ℕ)} → m ≤ n → Table m t → Table n t
+table_more h f = record { rows = f.rows; few = λ i. most_more h (f.few i); columns = f.columns }
+
+pub table_tallied : {m : ℕ} {t : List (List ℕ)} (v : TurnMade) → Table m t → Table (m + 3) (tallied t v)
+table_tallied {m} {t} v f =
+    record {
+      rows = tallied-length t v ∙ f.rows;
+      few = λ i. few i (ltb i 64) refl;
+      columns = λ i h.
+          ap length (row_tallied t v i h f.rows)
+          ∙ pick_good (λ (x : List ℕ). length x ≡ 11) (eqb v.thread (suc i))
+          (λ e. counted-length (get_or t i []) v.place v.plan ∙ f.columns i h)
+          (λ e. f.columns i h);
+    }
+  where
+    few : (i : ℕ) (q : Bool) → ltb i 64 ≡ q → Most (m + 3) (get_or (tallied t v) i [])
+    few i true e =
+        subst (Most (m + 3)) (sym (row_tallied t v i (ltb-true i 64 e) f.rows))
+        (pick_good (Most (m + 3)) (eqb v.thread (suc i)) (λ g. most_counted v.place v.plan (f.few i)) (λ g. most_more (omega arith) (f.few i)))
+    few i false e =
+        subst (Most (m + 3)) (sym (no_row (tallied t v) i (omega (arith, ltb-false i 64 e, tallied-length t v, f.rows))))
+        (record { each = λ k. omega arith })
 
 entry_zeros : (n k : ℕ) → get_or {A = ℕ} (replicate n 0) k 0 ≡ 0
 entry_zeros zero k = refl
@@ -103,8 +148,28 @@ entry_zeros (suc n) (suc k) = entry_zeros n k
 pub most_zeros : (m n : ℕ) → Most m (replicate n 0)
 most_zeros m n = record { each = λ k. omega (arith, entry_zeros n k) }
 
+pub zero_row : (n i : ℕ) → i < n → get_or (replicate n (replicate 11 zero)) i [] ≡ replicate 11 0
+zero_row zero i h = absurd (omega arith)
+zero_row (suc n) zero h = refl
+zero_row (suc n) (suc i) h = zero_row n i (omega arith)
+
+pub table_zeros : (m : ℕ) → Table m (replicate 64 (replicate 11 zero))
+table_zeros m =
+    record {
+      rows = length-replicate 64 (replicate 11 zero);
+      few = λ i. few i (ltb i 64) refl;
+      columns = λ i h. ap length (zero_row 64 i h) ∙ length-replicate 11 zero;
+    }
+  where
+    few : (i : ℕ) (q : Bool) → ltb i 64 ≡ q → Most m (get_or (replicate 64 (replicate 11 zero)) i [])
+    few i true e = subst (Most m) (sym (zero_row 64 i (ltb-true i 64 e))) (most_zeros m 11)
+    few i false e =
+        subst (Most m)
+        (sym (no_row (replicate 64 (replicate 11 zero)) i (omega (arith, ltb-false i 64 e, length-replicate 64 (replicate 11 zero)))))
+        (record { each = λ k. omega arith })
+
 -- Counting goes on where it stopped.
-pub tally-append : (l : List ℕ) (vs ws : List TurnMade) → tally l (vs ++ ws) ≡ tally (tally l vs) ws
+pub tally-append : (l : List (List ℕ)) (vs ws : List TurnMade) → tally l (vs ++ ws) ≡ tally (tally l vs) ws
 unfolding tally
 tally-append l [] ws = refl
 tally-append l (v ∷ vs) ws = tally-append (tallied l v) vs ws
@@ -112,47 +177,27 @@ tally-append l (v ∷ vs) ws = tally-append (tallied l v) vs ws
 pub totalled-append : (l : List ℕ) (vs ws : List TurnMade) → totalled l (vs ++ ws) ≡ totalled (totalled l vs) ws
 unfolding totalled
 totalled-append l [] ws = refl
-totalled-append l (v ∷ vs) ws = totalled-append (counted l 0 v.place v.plan) vs ws
+totalled-append l (v ∷ vs) ws = totalled-append (counted l v.place v.plan) vs ws
 
 -- An entry of a row: one more in its own column, and nothing elsewhere.
-added_own : (l : List ℕ) (at j : ℕ) → j < 11 → at + 11 ≤ length l → get_or (added l at j) (at + j) 0 ≡ get_or l (at + j) 0 + 1
+added_at : (l : List ℕ) (k j : ℕ) → j < 11 → length l ≡ 11 → get_or (added l k) j 0 ≡ get_or l j 0 + pick (eqb k j) 1 0
 unfolding added
-added_own l at j h room =
-    pick_good (λ (x : List ℕ). get_or x (at + j) 0 ≡ get_or l (at + j) 0 + 1) (ltb j 11)
-    (λ e. get_or-set_same l (at + j) _ 0 (omega arith))
-    (λ e. absurd (omega (arith, ltb-false j 11 e)))
+added_at l k j h room =
+    pick_good (λ (n : ℕ). get_or (added l k) j 0 ≡ get_or l j 0 + n) (eqb k j)
+    (λ e. subst (λ i. get_or (added l i) j 0 ≡ get_or l j 0 + 1) (sym (eqb-true k j e)) own)
+    (λ e. other (eqb-false k j e))
+  where
+    own : get_or (added l j) j 0 ≡ get_or l j 0 + 1
+    own =
+        pick_good (λ (x : List ℕ). get_or x j 0 ≡ get_or l j 0 + 1) (ltb j 11)
+        (λ e. get_or-set_same l j _ 0 (omega arith))
+        (λ e. absurd (omega (arith, ltb-false j 11 e)))
 
-added_other : (l : List ℕ) (at k j : ℕ) → (k ≡ j → ⊥) → get_or (added l at k) (at + j) 0 ≡ get_or l (at + j) 0 + 0
-unfolding added
-added_other l at k j h =
-    pick_good (λ (x : List ℕ). get_or x (at + j) 0 ≡ get_or l (at + j) 0 + 0) (ltb k 11)
-    (λ e. get_or-set_other l (at + k) (at + j) _ 0 (λ s. h (omega arith)) ∙ sym (add-zero _))
-    (λ e. sym (add-zero _))
-
-added_at : (l : List ℕ) (at k j : ℕ) → j < 11 → at + 11 ≤ length l
-    → get_or (added l at k) (at + j) 0 ≡ get_or l (at + j) 0 + pick (eqb k j) 1 0
-added_at l at k j h room =
-    pick_good (λ (n : ℕ). get_or (added l at k) (at + j) 0 ≡ get_or l (at + j) 0 + n) (eqb k j)
-    (λ e. subst (λ i. get_or (added l at i) (at + j) 0 ≡ get_or l (at + j) 0 + 1) (sym (eqb-true k j e)) (added_own l at j h room))
-    (λ e. added_other l at k j (eqb-false k j e))
-
--- position j lies outside the row that starts at position `at`
-record Outside (at j : ℕ) : Type 0 where
-  apart : (k : ℕ) → k < 11 → j ≡ at + k → ⊥
-
-added_outside : (l : List ℕ) (at k j : ℕ) → Outside at j → get_or (added l at k) j 0 ≡ get_or l j 0
-unfolding added
-added_outside l at k j o =
-    pick_good (λ (x : List ℕ). get_or x j 0 ≡ get_or l j 0) (ltb k 11)
-    (λ e. get_or-set_other l (at + k) j _ 0 (o.apart k (ltb-true k 11 e)))
-    (λ e. refl)
-
-counted_outside : (l : List ℕ) (at : ℕ) (p : Place) (q : Plan) (j : ℕ) → Outside at j → get_or (counted l at p q) j 0 ≡ get_or l j 0
-unfolding counted
-counted_outside l at p q j o =
-    added_outside (second l at p q) at (answer_column p q) j o
-    ∙ added_outside (first l at p q) at (failed_column p q) j o
-    ∙ added_outside l at (access_column p q) j o
+    other : (k ≡ j → ⊥) → get_or (added l k) j 0 ≡ get_or l j 0 + 0
+    other n =
+        pick_good (λ (x : List ℕ). get_or x j 0 ≡ get_or l j 0 + 0) (ltb k 11)
+        (λ e. get_or-set_other l k j _ 0 (λ s. n (sym s)) ∙ sym (add-zero _))
+        (λ e. sym (add-zero _))
 
 -- A column counts a test: of the columns in which a turn counts, it is one where the test is passed, else none.
 record Column (k : ℕ) (test : Test) : Type 0 where
@@ -161,17 +206,17 @@ record Column (k : ℕ) (test : Test) : Type 0 where
       → pick (eqb (access_column p q) k) 1 0 + pick (eqb (failed_column p q) k) 1 0 + pick (eqb (answer_column p q) k) 1 0
       ≡ pick (test p q) 1 0
 
-counted_at : {k : ℕ} {test : Test} → Column k test → (l : List ℕ) (at : ℕ) (p : Place) (q : Plan) → at + 11 ≤ length l
-    → get_or (counted l at p q) (at + k) 0 ≡ get_or l (at + k) 0 + pick (test p q) 1 0
+counted_at : {k : ℕ} {test : Test} → Column k test → (l : List ℕ) (p : Place) (q : Plan) → length l ≡ 11
+    → get_or (counted l p q) k 0 ≡ get_or l k 0 + pick (test p q) 1 0
 unfolding counted
-counted_at {k} c l at p q room =
-    let long = added-length l at (access_column p q) in
-    let longer = added-length (first l at p q) at (failed_column p q) in
+counted_at {k} c l p q room =
+    let long = added-length l (access_column p q) in
+    let longer = added-length (first l p q) (failed_column p q) in
     omega (
       arith,
-      added_at l at (access_column p q) k c.few room,
-      added_at (first l at p q) at (failed_column p q) k c.few (omega arith),
-      added_at (second l at p q) at (answer_column p q) k c.few (omega arith),
+      added_at l (access_column p q) k c.few room,
+      added_at (first l p q) (failed_column p q) k c.few (omega arith),
+      added_at (second l p q) (answer_column p q) k c.few (omega arith),
       c.same p q,
     )
 
@@ -320,33 +365,32 @@ columns =
     (then failed_column_lem (then put_column (then take_column (then list_column (then empty_column no_more))))))))))
 
 -- A row whose figures are the counts of its columns' tests is their list.
-row_counts : {k : ℕ} {ts : List Test} → Columns k ts → (l : List ℕ) (at : ℕ) (vs : List TurnMade) → at + k + length ts ≤ length l
-    → ((j : ℕ) (test : Test) → Column j test → get_or l (at + j) 0 ≡ count test vs) → take (length ts) (drop (at + k) l) ≡ counts ts vs
+row_counts : {k : ℕ} {ts : List Test} → Columns k ts → (l : List ℕ) (vs : List TurnMade) → length l ≡ k + length ts
+    → ((j : ℕ) (test : Test) → Column j test → get_or l j 0 ≡ count test vs) → drop k l ≡ counts ts vs
 unfolding counts
-row_counts no_more l at vs room f = refl
-row_counts {k} (then {test = test} {ts = ts} c cs) l at vs room f =
-    ap (take (suc (length ts))) (drop-cons l (at + k) 0 (omega arith))
-    ∙ ap (λ (x : ℕ). x ∷ take (length ts) (drop (suc (at + k)) l)) (f k test c)
-    ∙ ap (λ (xs : List ℕ). count test vs ∷ xs)
-    (ap (λ (i : ℕ). take (length ts) (drop i l)) (sym (add-suc at k)) ∙ row_counts cs l at vs (omega arith) f)
+row_counts no_more l vs room f = drop_of_length-le l (omega arith)
+row_counts {k} (then {test = test} {ts = ts} c cs) l vs room f =
+    drop-cons l k 0 (omega arith)
+    ∙ ap (λ (x : ℕ). x ∷ drop (suc k) l) (f k test c)
+    ∙ ap (λ (xs : List ℕ). count test vs ∷ xs) (row_counts cs l vs (omega arith) f)
 
--- The total: each figure is the count of all turns that pass the column's test.
+-- A row: each figure is the count of all turns that pass the column's test.
 totalled_at : {k : ℕ} {test : Test} → Column k test → (l : List ℕ) (vs : List TurnMade) → length l ≡ 11
-    → get_or (totalled l vs) (0 + k) 0 ≡ get_or l (0 + k) 0 + count test vs
+    → get_or (totalled l vs) k 0 ≡ get_or l k 0 + count test vs
 unfolding totalled count
 totalled_at c l [] long = sym (add-zero _)
 totalled_at {k} {test} c l (v ∷ vs) long =
-    let one = counted_at c l 0 v.place v.plan (omega arith) in
-    let more = totalled_at c (counted l 0 v.place v.plan) vs (counted-length l 0 v.place v.plan ∙ long) in
+    let one = counted_at c l v.place v.plan long in
+    let more = totalled_at c (counted l v.place v.plan) vs (counted-length l v.place v.plan ∙ long) in
     omega (arith, one, more)
 
-pub total_figures : (vs : List TurnMade) → take 11 (drop 0 (totalled (replicate 11 0) vs)) ≡ figures vs
+pub total_figures : (vs : List TurnMade) → totalled (replicate 11 0) vs ≡ figures vs
 unfolding figures
 total_figures vs =
-    row_counts columns (totalled (replicate 11 0) vs) 0 vs (omega (arith, totalled-length (replicate 11 0) vs, length-replicate 11 zero))
-    (λ j test c. omega (arith, totalled_at c (replicate 11 0) vs (length-replicate 11 zero), entry_zeros 11 (0 + j)))
+    row_counts columns (totalled (replicate 11 0) vs) vs (totalled-length (replicate 11 0) vs ∙ length-replicate 11 zero)
+    (λ j test c. omega (arith, totalled_at c (replicate 11 0) vs (length-replicate 11 zero), entry_zeros 11 j))
 
--- The table: each figure is the count of the turns of the row's thread.
+-- Turns of one thread, counted.
 pub count_none : (test : Test) (t : ℕ) → count test (of_thread t []) ≡ 0
 unfolding count of_thread
 count_none test t = refl
@@ -361,63 +405,47 @@ count_group test t v vs = chosen (eqb v.thread t)
     chosen true = refl
     chosen false = sym (zero-add _)
 
-module _ {k : ℕ} {test : Test} (c : Column k test) (l : List ℕ) (i : ℕ) (few : i < 64) (long : length l ≡ 704) (v : TurnMade) where
-  tallied_own : v.thread ≡ suc i → get_or (tallied l v) (11 * i + k) 0 ≡ get_or l (11 * i + k) 0 + pick (test v.place v.plan) 1 0
-  unfolding tallied
-  tallied_own own =
-      pick_good (λ (x : List ℕ). get_or x (11 * i + k) 0 ≡ get_or l (11 * i + k) 0 + pick (test v.place v.plan) 1 0)
-      (between 1 v.thread 64)
-      (λ e. ap (λ (a : ℕ). get_or (counted l a v.place v.plan) (11 * i + k) 0) (row v.thread own)
-      ∙ counted_at c l (11 * i) v.place v.plan (omega arith))
-      (λ e. absurd (true≢false (sym (is_between 1 v.thread 64 (omega arith) (omega arith)) ∙ e)))
-    where
-      row : (t : ℕ) → t ≡ suc i → 11 * (t - 1) ≡ 11 * i
-      row t e = omega arith
+-- A row of the table: the turns of its thread, counted.
+row_tally : (t : List (List ℕ)) (vs : List TurnMade) (i : ℕ) → i < 64 → length t ≡ 64
+    → get_or (tally t vs) i [] ≡ totalled (get_or t i []) (of_thread (suc i) vs)
+unfolding tally totalled of_thread pick
+row_tally t [] i few long = refl
+row_tally t (v ∷ vs) i few long =
+    row_tally (tallied t v) vs i few (tallied-length t v ∙ long)
+    ∙ ap (λ r. totalled r (of_thread (suc i) vs)) (row_tallied t v i few long)
+    ∙ ways (eqb v.thread (suc i))
+  where
+    ways : (q : Bool)
+        → totalled (pick q (counted (get_or t i []) v.place v.plan) (get_or t i [])) (of_thread (suc i) vs)
+        ≡ totalled (get_or t i []) (pick q (v ∷ of_thread (suc i) vs) (of_thread (suc i) vs))
+    ways true = refl
+    ways false = refl
 
-  tallied_other : (v.thread ≡ suc i → ⊥) → get_or (tallied l v) (11 * i + k) 0 ≡ get_or l (11 * i + k) 0 + 0
-  unfolding tallied
-  tallied_other other =
-      pick_good (λ (x : List ℕ). get_or x (11 * i + k) 0 ≡ get_or l (11 * i + k) 0 + 0) (between 1 v.thread 64)
-      (λ e. counted_outside l (11 * (v.thread - 1)) v.place v.plan (11 * i + k) (outside e) ∙ sym (add-zero _))
-      (λ e. sym (add-zero _))
-    where
-      outside : between 1 v.thread 64 ≡ true → Outside (11 * (v.thread - 1)) (11 * i + k)
-      outside e =
-          record { apart = λ j h s. other (omega (arith, c.few, between_least 1 v.thread 64 e)) }
+abbrev pub zero_table : List (List ℕ)
+zero_table = replicate 64 (replicate 11 zero)
 
-  tallied_at : get_or (tallied l v) (11 * i + k) 0
-      ≡ get_or l (11 * i + k) 0 + pick (eqb v.thread (suc i)) (pick (test v.place v.plan) 1 0) 0
-  tallied_at =
-      pick_good (λ (n : ℕ). get_or (tallied l v) (11 * i + k) 0 ≡ get_or l (11 * i + k) 0 + n) (eqb v.thread (suc i))
-      (λ e. tallied_own (eqb-true v.thread (suc i) e))
-      (λ e. tallied_other (eqb-false v.thread (suc i) e))
+table_row : (vs : List TurnMade) (i : ℕ) → i < 64 → get_or (tally zero_table vs) i [] ≡ figures (of_thread (suc i) vs)
+table_row vs i few =
+    row_tally zero_table vs i few (length-replicate 64 (replicate 11 zero))
+    ∙ ap (λ r. totalled r (of_thread (suc i) vs)) (zero_row 64 i few)
+    ∙ total_figures (of_thread (suc i) vs)
 
-tally_at : {k : ℕ} {test : Test} → Column k test → (l : List ℕ) (vs : List TurnMade) (i : ℕ) → i < 64 → length l ≡ 704
-    → get_or (tally l vs) (11 * i + k) 0 ≡ get_or l (11 * i + k) 0 + count test (of_thread (suc i) vs)
+tally-length : (t : List (List ℕ)) (vs : List TurnMade) → length (tally t vs) ≡ length t
 unfolding tally
-tally_at {k} {test} c l [] i few long = omega (arith, count_none test (suc i))
-tally_at {k} {test} c l (v ∷ vs) i few long =
-    let one = tallied_at c l i few long v in
-    let more = tally_at c (tallied l v) vs i few (tallied-length l v ∙ long) in
-    omega (arith, one, more, count_group test (suc i) v vs)
+tally-length t [] = refl
+tally-length t (v ∷ vs) = tally-length (tallied t v) vs ∙ tallied-length t v
 
 -- The rows as they stand in the table are those of the threads.
-table_row : (vs : List TurnMade) (i : ℕ) → i < 64 → take 11 (drop (11 * i) (tally (replicate 704 0) vs)) ≡ figures (of_thread (suc i) vs)
-unfolding figures
-table_row vs i few =
-    ap (λ (n : ℕ). take 11 (drop n (tally (replicate 704 0) vs))) (sym (add-zero (11 * i)))
-    ∙ row_counts columns (tally (replicate 704 0) vs) (11 * i) (of_thread (suc i) vs)
-    (omega (arith, tally-length (replicate 704 0) vs, length-replicate 704 zero))
-    (λ j test c. omega (arith, tally_at c (replicate 704 0) vs i few (length-replicate 704 zero), entry_zeros 704 (11 * i + j)))
-
 rows_from : (script : ℕ) (vs : List TurnMade) (i n : ℕ) → i + n ≤ 64
-    → table_rows script (tally (replicate 704 0) vs) i n ≡ thread_rows script vs (suc i) n
-unfolding table_rows thread_rows group_rows thread_groups
+    → rows_text script i (take n (drop i (tally zero_table vs))) ≡ thread_rows script vs (suc i) n
+unfolding rows_text thread_rows group_rows thread_groups
 rows_from script vs i zero h = refl
 rows_from script vs i (suc n) h =
-    ap (λ fs. row_text script (suc i) fs ++ table_rows script (tally (replicate 704 0) vs) (suc i) n) (table_row vs i (omega arith))
+    let there : i < length (tally zero_table vs) = omega (arith, tally-length zero_table vs, length-replicate 64 (replicate 11 zero)) in
+    ap (λ rs. rows_text script i (take (suc n) rs)) (drop-cons (tally zero_table vs) i [] there)
+    ∙ ap (λ r. row_text script (suc i) r ++ rows_text script (suc i) (take n (drop (suc i) (tally zero_table vs)))) (table_row vs i (omega arith))
     ∙ ap (λ xs. row_text script (suc i) (figures (of_thread (suc i) vs)) ++ xs) (rows_from script vs (suc i) n (omega arith))
 
-pub table_rows_lem : (script : ℕ) (vs : List TurnMade) (n : ℕ) → n ≤ 64
-    → table_rows script (tally (replicate 704 0) vs) 0 n ≡ thread_rows script vs 1 n
-table_rows_lem script vs n h = rows_from script vs 0 n (omega arith)
+pub table_rows : (script : ℕ) (vs : List TurnMade) (n : ℕ) → n ≤ 64
+    → rows_text script 0 (take n (tally zero_table vs)) ≡ thread_rows script vs 1 n
+table_rows script vs n h = rows_from script vs 0 n (omega arith)

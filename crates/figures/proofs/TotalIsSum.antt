@@ -10,7 +10,10 @@ use mathlib.Core.List.{List, [], ◌∷◌, ◌++◌}
 use borrow.Author.Tests.{eqb-true, eqb-false, ne_eqb}
 use lib.Dec.{eqb, leb}
 use lib.ListN.{length}
-use Rattle.region.specs.Answer.{bad_thread, done}
+use Rattle.std.specs.Prelude.{Option, Some, None}
+use Rattle.region.specs.Refusal.{done}
+use Rattle.region.specs.declared.refusal.Refusal.{Refusal}
+use Rattle.region.specs.declared.refusal.Refusal.TheVariants.{BadThread}
 use Rattle.region.specs.Frame.{frame_of_width}
 use Rattle.region.specs.Pick.{pick}
 use Rattle.region.specs.Shape.{between}
@@ -25,8 +28,6 @@ use Rattle.machine.specs.Turn.{turn_plan}
 use Rattle.kinds.specs.Kind.{access_kind, failed_update, is_update, makes_access}
 use Rattle.script.specs.Reading.{opening_at}
 use Rattle.script.specs.Script.{call_bytes, laid_region, setup_refusal}
-use Rattle.script.specs.declared.reading.Opening.{Opening}
-use Rattle.script.specs.declared.reading.Opening.TheVariants.{Read as OpeningRead, Unreadable as NotOpening}
 use Rattle.script.specs.declared.reading.ScriptLine.{ScriptLine}
 use Rattle.script.specs.declared.reading.Setup.{Setup}
 use Rattle.script.specs.declared.reading.What.{What}
@@ -144,25 +145,25 @@ module _ (test : Test) (script : ℕ) where
 
 -- Every test skips the turns that were refused.
 record Skips (test : Test) : Type 0 where
-  fails_refused : (p : Place) (t : Thread) (n : ℕ) → test p (refused t n) ≡ false
+  fails_refused : (p : Place) (t : Thread) (y : Refusal) → test p (refused t y) ≡ false
 
 kind_skips : (k : ℕ) → Skips (is_of_kind k)
 unfolding is_of_kind makes_access refused
-kind_skips k = record { fails_refused = λ p t n. refl }
+kind_skips k = record { fails_refused = λ p t y. refl }
 
 failed_skips : Skips failed_update
 unfolding failed_update refused
-failed_skips = record { fails_refused = λ p t n. and_not_left true (and_not_right (is_update (access_kind p)) refl) }
+failed_skips = record { fails_refused = λ p t y. and_not_left true (and_not_right (is_update (access_kind p)) refl) }
 
 each_skips : Every Skips tests
 unfolding answered_put answered_take answered_list answered_empty refused
 each_skips =
     and (kind_skips 0) (and (kind_skips 1) (and (kind_skips 2) (and (kind_skips 3) (and (kind_skips 4) (and (kind_skips 5)
     (and failed_skips
-    (and (record { fails_refused = λ p t n. refl })
-    (and (record { fails_refused = λ p t n. refl })
-    (and (record { fails_refused = λ p t n. refl })
-    (and (record { fails_refused = λ p t n. refl }) none))))))))))
+    (and (record { fails_refused = λ p t y. refl })
+    (and (record { fails_refused = λ p t y. refl })
+    (and (record { fails_refused = λ p t y. refl })
+    (and (record { fails_refused = λ p t y. refl }) none))))))))))
 
 same_counts : {ts : List Test} (vs ws : List TurnMade) → Every Skips ts → ((test : Test) → Skips test → count test vs ≡ count test ws)
     → counts ts vs ≡ counts ts ws
@@ -172,7 +173,7 @@ same_counts vs ws (and {x = test} h hs) f = λ i. f test h i ∷ same_counts vs 
 
 -- A turn on a region with n threads, of none of them, is refused.
 record RefusedPast (n : ℕ) (v : TurnMade) : Type 0 where
-  past : between 1 v.thread n ≡ false → v.plan ≡ refused (idle_thread 0) bad_thread
+  past : between 1 v.thread n ≡ false → v.plan ≡ refused (idle_thread 0) BadThread
 
 groups_count : (test : Test) → Skips test → (script n : ℕ) {vs : List TurnMade} → Every (RefusedPast n) vs
     → count test vs ≡ count test (joined (thread_groups script vs 1 n))
@@ -188,7 +189,7 @@ groups_count test h script n (and {x = v} {xs = vs} r rs) =
     (λ e. omega (
       arith,
       groups_count test h script n rs,
-      picked_not (ap (test v.place) (r.past e) ∙ h.fails_refused v.place (idle_thread 0) bad_thread) 1,
+      picked_not (ap (test v.place) (r.past e) ∙ h.fails_refused v.place (idle_thread 0) BadThread) 1,
       in_no_group test script v vs 1 n (λ k l m s. true≢false (sym (is_between 1 v.thread n (omega arith) (omega arith)) ∙ e)),
     ))
 
@@ -233,9 +234,9 @@ lines_accepted : (u : Setup) → setup_refusal u ≡ done → (r : Found (List S
 lines_accepted u e (found ls next) = e
 lines_accepted u e unfound = tt
 
-opening_accepted : (s : List ℕ) (o : Opening) → Holds Accepted (opening_and_lines s o)
-opening_accepted s NotOpening = tt
-opening_accepted s (OpeningRead u) =
+opening_accepted : (s : List ℕ) (o : Option Setup) → Holds Accepted (opening_and_lines s o)
+opening_accepted s None = tt
+opening_accepted s (Some u) =
     pick_good (Holds Accepted) (eqb (setup_refusal u) done)
     (λ e. lines_accepted u (eqb-true (setup_refusal u) done e) (lines_at (length s) s u.next))
     (λ e. tt)

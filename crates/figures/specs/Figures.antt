@@ -1,4 +1,4 @@
--- The figures of a group of turns (document 02, request 6): each is a count of the turns that pass a test.
+-- The figures of a group of turns: each is a count of the turns that pass a test.
 use Rattle.std.specs.Prelude.{ℕ, ◌+◌, ◌/◌, ◌%◌, Bool, not, ◌&&◌, List, [], ◌∷◌, eqb, take, drop}
 use Rattle.region.specs.Answer.{answer_code}
 use Rattle.region.specs.Pick.{pick}
@@ -19,7 +19,7 @@ Test = Place → Plan → Bool
 unfoldable pub is_of_kind : ℕ → Test
 is_of_kind k p q = makes_access q.answer && eqb (access_kind p) k
 
--- "inserted 2, took 3 with key and tag, empty 4" (document 01, A run)
+-- "inserted 2, took 3 with key and tag, empty 4"
 abbrev pub is_inserted : Answer → Bool
 is_inserted a = eqb (answer_code a) 2
 

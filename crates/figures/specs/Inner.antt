@@ -1,6 +1,6 @@
 -- What only the contracts of inner functions and the proofs need. A reader of the result may skip this file.
-use Rattle.std.specs.Prelude.{ℕ, zero, suc, ◌+◌, ◌-◌, ◌*◌, ◌≤◌, ◌≡◌, Bool, true, false, ◌&&◌, List, [], ◌∷◌, ◌++◌, ltb, length, get_or, set, take, drop}
-use Rattle.region.specs.Answer.{done}
+use Rattle.std.specs.Prelude.{ℕ, suc, ◌+◌, ◌-◌, ◌*◌, ◌≤◌, ◌<◌, ◌≡◌, Bool, true, false, ◌&&◌, List, [], ◌∷◌, ◌++◌, ltb, length, get_or, set, Option, Some, None}
+use Rattle.region.specs.Refusal.{done}
 use Rattle.region.specs.Pick.{pick}
 use Rattle.region.specs.Shape.{between}
 use Rattle.region.specs.Thread.{is_idle}
@@ -11,15 +11,14 @@ use Rattle.region.specs.declared.thread.Thread.{Thread}
 use Rattle.access.specs.declared.plan.Plan.{Plan}
 use Rattle.readable.specs.Readable.{readable}
 use Rattle.kinds.specs.Kind.{access_kind, failed_update, makes_access, no_access}
-use Rattle.script.specs.Inner.{Wrote}
+use Rattle.script.specs.Inner.{Appends}
 use Rattle.script.specs.Script.{setup_refusal}
 use Rattle.script.specs.declared.reading.Setup.{Setup}
+use Rattle.script.specs.declared.text.Text.{Text}
 use Rattle.figures.specs.Scripts.{Found, found, unfound, Script, input_most, lines_at, read_scripts, script_at}
 use Rattle.figures.specs.Turns.{TurnMade, all_turns, turns_in, turns_of}
 use Rattle.figures.specs.Figures.{accesses, figures, is_hand_out, operations}
 use Rattle.figures.specs.Report.{all_groups, group_rows, ratio_text, row_text, spaced, thread_groups}
-use Rattle.figures.specs.declared.scripts.End.{End}
-use Rattle.figures.specs.declared.scripts.End.TheVariants.{At, Unreadable}
 
 -- the rows of n threads from thread t on, vs being the turns of the script; and of scripts, the first of which is script k
 unfoldable pub thread_rows : ℕ → List TurnMade → ℕ → ℕ → List ℕ
@@ -31,9 +30,9 @@ unfolding group_rows all_groups
 script_rows k xs = group_rows (all_groups k xs)
 
 -- Of what is read: where it ends, whether it can be read, and its lines, scripts, turns or rows, of which there are none if it cannot.
-abbrev pub end_of : {A : Type 0} → Found A → End
-end_of (found x next) = At next
-end_of unfound = Unreadable
+abbrev pub end_of : {A : Type 0} → Found A → Option ℕ
+end_of (found x next) = Some next
+end_of unfound = None
 
 abbrev pub is_found : {A : Type 0} → Found A → Bool
 is_found (found x next) = true
@@ -54,11 +53,6 @@ the_rows k unfound = []
 -- no figure of l is above m
 pub record Most (m : ℕ) (l : List ℕ) : Type 0 where
   pub each : (k : ℕ) → get_or l k 0 ≤ m
-
--- and there is a row from position a on
-pub record RowThere (m : ℕ) (l : List ℕ) (a : ℕ) : Type 0 where
-  pub few : Most m l
-  pub there : a + 11 ≤ length l
 
 -- The columns in which a turn counts; 11, after the last, is none.
 unfoldable pub access_column : Place → Plan → ℕ
@@ -83,95 +77,100 @@ unfoldable pub answer_column : Place → Plan → ℕ
 unfolding took_column
 answer_column p q = column_of q.answer p q.thread
 
--- one more in a column of the row that starts at position `at`
-unfoldable pub added : List ℕ → ℕ → ℕ → List ℕ
-added l at k = pick (ltb k 11) (set l (at + k) (get_or l (at + k) 0 + 1)) l
+-- one more in a column of a row
+unfoldable pub added : List ℕ → ℕ → List ℕ
+added l k = pick (ltb k 11) (set l k (get_or l k 0 + 1)) l
 
--- a turn counted in that row
-unfoldable pub counted : List ℕ → ℕ → Place → Plan → List ℕ
+-- a turn counted in a row
+unfoldable pub counted : List ℕ → Place → Plan → List ℕ
 unfolding added access_column failed_column answer_column
-counted l at p q = added (added (added l at (access_column p q)) at (failed_column p q)) at (answer_column p q)
+counted l p q = added (added (added l (access_column p q)) (failed_column p q)) (answer_column p q)
 
 -- turns counted in a table that has a row for each thread, and in one row
-unfoldable pub tallied : List ℕ → TurnMade → List ℕ
+unfoldable pub tallied : List (List ℕ) → TurnMade → List (List ℕ)
 unfolding counted
-tallied l v = pick (between 1 v.thread 64) (counted l (11 * (v.thread - 1)) v.place v.plan) l
+tallied t v =
+    pick (between 1 v.thread 64) (set t (v.thread - 1) (counted (get_or t (v.thread - 1) []) v.place v.plan)) t
 
-unfoldable pub tally : List ℕ → List TurnMade → List ℕ
+unfoldable pub tally : List (List ℕ) → List TurnMade → List (List ℕ)
 unfolding tallied
-tally l [] = l
-tally l (v ∷ vs) = tally (tallied l v) vs
+tally t [] = t
+tally t (v ∷ vs) = tally (tallied t v) vs
 
 unfoldable pub totalled : List ℕ → List TurnMade → List ℕ
 unfolding counted
 totalled l [] = l
-totalled l (v ∷ vs) = totalled (counted l 0 v.place v.plan) vs
+totalled l (v ∷ vs) = totalled (counted l v.place v.plan) vs
 
--- the region b, the table l and the total m are such that turns can be counted
-pub record Countable (b l m : List ℕ) : Type 0 where
+-- a table has a row of eleven figures for each of 64 threads, and no figure is above n
+pub record Table (n : ℕ) (t : List (List ℕ)) : Type 0 where
+  pub rows : length t ≡ 64
+  pub few : (i : ℕ) → Most n (get_or t i [])
+  pub columns : (i : ℕ) → i < 64 → length (get_or t i []) ≡ 11
+
+-- the region b, the table t and the total m are such that turns can be counted
+pub record Countable (b : List ℕ) (t : List (List ℕ)) (m : List ℕ) : Type 0 where
   pub region : readable b ≡ true
-  pub rows : length l ≡ 704
-  pub columns : length m ≡ 11
-  pub few : Most 4294967292 l
-  pub few_total : Most 4294967292 m
+  pub table : Table 4294967292 t
+  pub few : Most 4294967292 m
 
--- what counting one turn, and those of a line, leaves in the table l and the total m
-pub record TurnCounted (v : TurnMade) (l l' m m' : List ℕ) : Type 0 where
-  pub table : l' ≡ tallied l v
-  pub total : m' ≡ counted m 0 v.place v.plan
+-- what counting one turn, and those of a line, leaves in the table t and the total m
+pub record TurnCounted (v : TurnMade) (t t' : List (List ℕ)) (m m' : List ℕ) : Type 0 where
+  pub table : t' ≡ tallied t v
+  pub total : m' ≡ counted m v.place v.plan
 
-pub record LineCounted (vs : List TurnMade) (l l' m m' : List ℕ) : Type 0 where
-  pub table : l' ≡ tally l vs
+pub record LineCounted (vs : List TurnMade) (t t' : List (List ℕ)) (m m' : List ℕ) : Type 0 where
+  pub table : t' ≡ tally t vs
   pub total : m' ≡ totalled m vs
 
 -- the table and the total before lines from a position on are counted: no figure is above the bytes read
-pub record Tables (s : List ℕ) (at : ℕ) (l m : List ℕ) : Type 0 where
+pub record Tables (s : List ℕ) (at : ℕ) (t : List (List ℕ)) (m : List ℕ) : Type 0 where
   pub short : length s ≤ input_most
-  pub rows : length l ≡ 704
+  pub table : Table at t
   pub columns : length m ≡ 11
-  pub few : Most at l
-  pub few_total : Most at m
+  pub few : Most at m
 
 -- the lines from a position on are there, and the region b is readable
-pub record LinesThere (s : List ℕ) (at : ℕ) (b l m : List ℕ) : Type 0 where
+pub record LinesThere (s : List ℕ) (at : ℕ) (b : List ℕ) (t : List (List ℕ)) (m : List ℕ) : Type 0 where
   pub there : is_found (lines_at (length s) s at) ≡ true
   pub region : readable b ≡ true
-  pub tables : Tables s at l m
+  pub tables : Tables s at t m
 
 -- what counting them leaves, r the position after them
-pub record LinesCounted (s : List ℕ) (at : ℕ) (b l l' m m' : List ℕ) (r : ℕ) : Type 0 where
-  pub next : At r ≡ end_of (lines_at (length s) s at)
-  pub table : l' ≡ tally l (turns_of (the_list (lines_at (length s) s at)) b)
+pub record LinesCounted (s : List ℕ) (at : ℕ) (b : List ℕ) (t t' : List (List ℕ)) (m m' : List ℕ) (r : ℕ) : Type 0 where
+  pub next : Some r ≡ end_of (lines_at (length s) s at)
+  pub table : t' ≡ tally t (turns_of (the_list (lines_at (length s) s at)) b)
   pub total : m' ≡ totalled m (turns_of (the_list (lines_at (length s) s at)) b)
-  pub tables : Tables s r l' m'
+  pub tables : Tables s r t' m'
   pub within : r ≤ length s
 
 -- the lines of an accepted setup are there
-pub record SetupThere (s : List ℕ) (u : Setup) (l m : List ℕ) : Type 0 where
+pub record SetupThere (s : List ℕ) (u : Setup) (t : List (List ℕ)) (m : List ℕ) : Type 0 where
   pub accepted : setup_refusal u ≡ done
   pub there : is_found (lines_at (length s) s u.next) ≡ true
-  pub tables : Tables s u.next l m
+  pub tables : Tables s u.next t m
 
--- there are n bytes of room at position k, and a row of figures from position a on
-pub record RowRoom (n : ℕ) (out : List ℕ) (k : ℕ) (l : List ℕ) (a : ℕ) : Type 0 where
-  pub room : k + n ≤ length out
-  pub there : a + 11 ≤ length l
+-- there are n bytes of room behind the text t for a row
+pub record RowRoom (n : ℕ) (t : Text) (l : List ℕ) : Type 0 where
+  pub room : t.len + n ≤ length t.out.now
+  pub columns : length l ≡ 11
   pub few : Most 60000 l
 
--- there is room for n rows at position k, and the table l has them
-pub record RowsRoom (n : ℕ) (out : List ℕ) (k : ℕ) (l : List ℕ) : Type 0 where
-  pub room : k + 165 * n ≤ length out
-  pub there : 11 * n ≤ length l
-  pub few : Most 60000 l
+-- there is room for rows
+pub record RowsRoom (t : Text) (rs : List (List ℕ)) : Type 0 where
+  pub room : t.len + 165 * length rs ≤ length t.out.now
+  pub most : length rs ≤ 64
+  pub columns : (i : ℕ) → i < length rs → length (get_or rs i []) ≡ 11
+  pub few : (i : ℕ) → Most 60000 (get_or rs i [])
 
 -- a row's figures, and accesses per operation
 unfoldable pub figures_text : List ℕ → List ℕ
 figures_text fs = spaced fs ++ ratio_text (accesses fs) (operations fs)
 
--- n rows from row k on, as they stand in the table
-unfoldable pub table_rows : ℕ → List ℕ → ℕ → ℕ → List ℕ
-table_rows script l k zero = []
-table_rows script l k (suc n) = row_text script (suc k) (take 11 (drop (11 * k) l)) ++ table_rows script l (suc k) n
+-- rows of a script, k of whose threads stand before them
+unfoldable pub rows_text : ℕ → ℕ → List (List ℕ) → List ℕ
+rows_text script k [] = []
+rows_text script k (r ∷ rs) = row_text script (suc k) r ++ rows_text script (suc k) rs
 
 -- at 165 bytes a row: the room of a script's 64 rows, and of those of 64 scripts with the total's
 abbrev pub rows_room : ℕ
@@ -181,17 +180,17 @@ abbrev pub report_room : ℕ
 report_room = 676005
 
 -- the script from a position on is there, and its rows have room
-pub record ScriptThere (s : List ℕ) (at : ℕ) (m out : List ℕ) (a : ℕ) : Type 0 where
+pub record ScriptThere (s : List ℕ) (at : ℕ) (m : List ℕ) (t : Text) : Type 0 where
   pub there : is_found (script_at s at) ≡ true
   pub short : length s ≤ input_most
   pub columns : length m ≡ 11
   pub few : Most at m
-  pub room : a + rows_room ≤ length out
+  pub room : t.len + rows_room ≤ length t.out.now
 
--- what reporting it leaves: its rows are printed from position a on
-pub record ScriptReported (s : List ℕ) (at k : ℕ) (m m' out out' : List ℕ) (a next printed : ℕ) : Type 0 where
-  pub end : At next ≡ end_of (script_at s at)
-  pub rows : Wrote out out' a printed (the_rows k (script_at s at))
+-- what reporting it leaves: its rows are printed
+pub record ScriptReported (s : List ℕ) (at k : ℕ) (m m' : List ℕ) (t t' : Text) (next : ℕ) : Type 0 where
+  pub end : Some next ≡ end_of (script_at s at)
+  pub rows : Appends t t' (the_rows k (script_at s at))
   pub fit : length (the_rows k (script_at s at)) ≤ rows_room
   pub total : m' ≡ totalled m (the_turns (script_at s at))
   pub columns : length m' ≡ 11
@@ -199,9 +198,9 @@ pub record ScriptReported (s : List ℕ) (at k : ℕ) (m m' out out' : List ℕ)
   pub within : next ≤ length s
 
 -- all scripts can be read, and the report has room behind its heading
-pub record ScriptsThere (s out : List ℕ) (a : ℕ) : Type 0 where
+pub record ScriptsThere (s : List ℕ) (t : Text) : Type 0 where
   pub there : is_found (read_scripts s) ≡ true
-  pub room : a + report_room ≤ length out
+  pub room : t.len + report_room ≤ length t.out.now
 
 -- what the scripts print behind the heading
 unfoldable pub scripts_text : List Script → List ℕ

@@ -1,4 +1,4 @@
--- The report (document 02, request 6), whole, from the input's bytes: `report`, below all it is made of.
+-- The report, whole, from the input's bytes: `report`, below all it is made of.
 use Rattle.std.specs.Prelude.{ℕ, zero, suc, List, [], ◌∷◌, ◌++◌}
 use Rattle.script.specs.Text.{ascii, space, line_end}
 use Rattle.script.specs.Printing.{number_text}

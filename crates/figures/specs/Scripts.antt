@@ -1,17 +1,13 @@
--- Reading the input of a report (document 02, request 6): "up to 64 scripts, 60,000 bytes in all, one after another on standard input, each
+-- Reading the input of a report: "up to 64 scripts, 60,000 bytes in all, one after another on standard input, each
 -- ended by an empty line". An opening and a line are the script program's own (crates/script/specs/Reading.antt). A position counts the
 -- bytes of the whole input.
-use Rattle.std.specs.Prelude.{ℕ, zero, suc, List, [], ◌∷◌, leb, eqb, length, get_or}
-use Rattle.region.specs.Answer.{done}
+use Rattle.std.specs.Prelude.{ℕ, zero, suc, List, [], ◌∷◌, leb, eqb, length, get_or, Option, Some, None}
+use Rattle.region.specs.Refusal.{done}
 use Rattle.region.specs.Pick.{pick}
 use Rattle.script.specs.Text.{line_end}
 use Rattle.script.specs.Reading.{opening_at, read_line}
 use Rattle.script.specs.Script.{setup_refusal}
-use Rattle.script.specs.declared.reading.Line.{Line}
-use Rattle.script.specs.declared.reading.Line.TheVariants.{Read as LineRead, Unreadable as NotLine}
 use Rattle.script.specs.declared.reading.ScriptLine.{ScriptLine}
-use Rattle.script.specs.declared.reading.Opening.{Opening}
-use Rattle.script.specs.declared.reading.Opening.TheVariants.{Read as OpeningRead, Unreadable as NotOpening}
 use Rattle.script.specs.declared.reading.Setup.{Setup}
 
 -- what is read from a position on, with the position after it; or it cannot be read
@@ -24,9 +20,9 @@ found_then unfound f = unfound
 found_then (found x next) f = f x next
 
 -- a line, and the lines behind it
-abbrev pub line_and_rest : Line → (ScriptLine → Found (List ScriptLine)) → Found (List ScriptLine)
-line_and_rest NotLine rest = unfound
-line_and_rest (LineRead l) rest = found_then (rest l) λ ls next. found (l ∷ ls) next
+abbrev pub line_and_rest : Option ScriptLine → (ScriptLine → Found (List ScriptLine)) → Found (List ScriptLine)
+line_and_rest None rest = unfound
+line_and_rest (Some l) rest = found_then (rest l) λ ls next. found (l ∷ ls) next
 
 -- the lines from a position on, up to the empty line, which must be there. The first argument is the most lines there can be, that one
 -- included: each line has bytes, so as many as there are bytes leave none out (`NoLineLeftOut` in Theorems.antt).
@@ -40,9 +36,9 @@ pub record Script : Type 0 where
   pub lines : List ScriptLine
 
 -- "a refused layout" cannot be read either
-abbrev pub opening_and_lines : List ℕ → Opening → Found Script
-opening_and_lines s NotOpening = unfound
-opening_and_lines s (OpeningRead u) =
+abbrev pub opening_and_lines : List ℕ → Option Setup → Found Script
+opening_and_lines s None = unfound
+opening_and_lines s (Some u) =
     pick
     (eqb (setup_refusal u) done)
     (found_then (lines_at (length s) s u.next) λ ls next. found (record { setup = u; lines = ls }) next)

@@ -1,6 +1,6 @@
 -- The statements that hold of the report; each is proved in the file of `proofs/` with its name.
 use Rattle.std.specs.Prelude.{ℕ, ◌+◌, ◌≤◌, ◌≡◌, true, List, [], ◌∷◌, length}
-use Rattle.region.specs.Answer.{done}
+use Rattle.region.specs.Refusal.{done}
 use Rattle.access.specs.Plan.{accesses_of}
 use Rattle.readable.specs.Readable.{frame_in, readable}
 use Rattle.machine.specs.Turn.{carried_out, turn_on_answer, turn_on_bytes}

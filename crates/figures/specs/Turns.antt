@@ -1,4 +1,4 @@
--- The turns that scripts make, as the machine defines them (document 02, request 6: "a count over the turns as the machine defines them").
+-- The turns that scripts make, as the machine defines them.
 use Rattle.std.specs.Prelude.{ℕ, List, [], ◌∷◌, ◌++◌}
 use Rattle.region.specs.Shared.{thread_in}
 use Rattle.region.specs.declared.place.Place.{Place}

@@ -1,17 +1,20 @@
 // A row's figures, one after the other: accesses of the six kinds by their numbers, failed updates, operations answered. What a turn
 // adds to them.
 ghost use Rattle.std.specs.Prelude.{◌≡◌};
-ghost use Rattle.figures.specs.Inner.{RowThere, access_column, added, answer_column, counted, failed_column, took_column};
+ghost use Rattle.figures.specs.Inner.{Most, access_column, added, answer_column, counted, failed_column, took_column};
 
 use access::Plan;
 use region::{Answer, Place, Thread};
 
-// The figures of a row, and the columns behind the kinds. A turn that counts nowhere has the column after the last.
+// The figures of a row.
 pub const COLUMNS: usize = 11;
 
-const FAILED: usize = 6;
+pub type Figures = [u32; COLUMNS];
 
-const PUT: usize = 7;
+// The columns behind the kinds of access. A turn that counts nowhere has the column after the last.
+pub const FAILED: usize = 6;
+
+pub const PUT: usize = 7;
 
 const TAKE: usize = 8;
 
@@ -20,6 +23,7 @@ const LIST: usize = 9;
 const EMPTY: usize = 10;
 
 // The column of a turn's access.
+#[tactic(auto, unfolding(crate::specs::Inner::access_column, region::specs::Pick::pick))]
 fn access_column(place: Place, plan: Plan) -> usize
     ensures { result ≡ access_column place plan }
 {
@@ -36,6 +40,7 @@ fn access_column(place: Place, plan: Plan) -> usize
 }
 
 // The column of an update that failed.
+#[tactic(auto, unfolding(crate::specs::Inner::failed_column, region::specs::Pick::pick))]
 fn failed_column(place: Place, plan: Plan) -> usize
     ensures { result ≡ failed_column place plan }
 {
@@ -46,13 +51,13 @@ fn failed_column(place: Place, plan: Plan) -> usize
 }
 
 // The column of an answer took, t being the thread's record afterwards. A list is answered with its last item.
+#[tactic(auto, unfolding(crate::specs::Inner::took_column, region::specs::Pick::pick))]
 fn took_column(place: Place, t: Thread) -> usize
     ensures { result ≡ took_column place t }
 {
-    // 19 hands out
-    if place.number() != 19 {
+    let Place::HandOut = place else {
         return TAKE;
-    }
+    };
     if t.is_idle() {
         return LIST;
     }
@@ -60,6 +65,7 @@ fn took_column(place: Place, t: Thread) -> usize
 }
 
 // The column of an operation that is answered.
+#[tactic(auto, unfolding(crate::specs::Inner::answer_column))]
 fn answer_column(place: Place, plan: Plan) -> usize
     ensures { result ≡ answer_column place plan }
 {
@@ -76,22 +82,23 @@ fn answer_column(place: Place, plan: Plan) -> usize
     }
 }
 
-// Adds one in a column of the row that starts at a position, if there is such a column.
-fn add_one(figures: &mut [u32], at: usize, column: usize)
-    requires { RowThere 4294967294 figures.old at }
-    ensures { figures.new ≡ added figures.old at column }
+// Adds one in a column of a row, if there is such a column.
+#[tactic(auto, using(crate::proofs::TurnColumns::one_fits), unfolding(crate::specs::Inner::added, region::specs::Pick::pick))]
+fn add_one(figures: &mut Figures, column: usize)
+    requires { Most 4294967294 figures.old }
+    ensures { figures.new ≡ added figures.old column }
 {
     if column < COLUMNS {
-        figures[at + column] += 1;
+        figures[column] += 1;
     }
 }
 
-// Adds a turn to the row that starts at a position.
-pub fn add_turn(figures: &mut [u32], at: usize, place: Place, plan: Plan)
-    requires { RowThere 4294967292 figures.old at }
-    ensures { figures.new ≡ counted figures.old at place plan }
+// Adds a turn to a row.
+pub fn add_turn(figures: &mut Figures, place: Place, plan: Plan)
+    requires { Most 4294967292 figures.old }
+    ensures { figures.new ≡ counted figures.old place plan }
 {
-    add_one(figures, at, access_column(place, plan));
-    add_one(figures, at, failed_column(place, plan));
-    add_one(figures, at, answer_column(place, plan));
+    add_one(figures, access_column(place, plan));
+    add_one(figures, failed_column(place, plan));
+    add_one(figures, answer_column(place, plan));
 }

@@ -2,40 +2,35 @@
 ghost use Rattle.figures.specs.Turns.{turn_by, turn_made};
 ghost use Rattle.figures.specs.Inner.{Countable, LineCounted, LinesCounted, LinesThere, TurnCounted};
 
-use crate::columns::{COLUMNS, add_turn};
-use access::Plan;
-use region::Place;
-use script::{Line, What};
+use crate::columns::{Figures, add_turn};
+use region::View;
+use script::What;
 
 // The most threads of a script, each of which has a row in the table.
-const ROWS: u32 = 64;
+pub const ROWS: usize = 64;
 
 // Counts the turn that thread n, with its choice, is about to make.
-fn count_turn(region: &[u8], n: u32, choice: u32, table: &mut [u32], total: &mut [u32])
+fn count_turn(region: &[u8], n: u32, choice: u32, table: &mut [Figures; ROWS], total: &mut Figures)
     requires { Countable region.now table.old total.old }
     ensures { TurnCounted (turn_made region.now n choice) table.old table.new total.old total.new }
 {
     let f = readable::frame_of(region);
-    let t = f.load_thread(region, n);
+    let t = View::new(region, f).thread(n);
     let plan = kinds::turn_plan(f, region, n, choice);
     let place = t.place;
-    add_turn(total, 0, place, plan);
-    if region::is_between(1, n, ROWS) {
-        add_turn(table, COLUMNS * (n as usize - 1), place, plan);
+    add_turn(total, place, plan);
+    if region::is_between(1, n, 64) {
+        add_turn(&mut table[n as usize - 1], place, plan);
     }
 }
 
 // Counts the turn that a line is about to make, if it makes one.
-fn count_line(region: &[u8], what: What, n: u32, table: &mut [u32], total: &mut [u32])
+fn count_line(region: &[u8], what: What, n: u32, table: &mut [Figures; ROWS], total: &mut Figures)
     requires { Countable region.now table.old total.old }
     ensures { LineCounted (turn_by region.now what n) table.old table.new total.old total.new }
 {
-    match what {
-        What::Put(_) => {}
-        What::Take => {}
-        What::TakeList => {}
-        What::Permit(_) => {}
-        What::Turn(choice) => count_turn(region, n, choice, table, total),
+    if let What::Turn(choice) = what {
+        count_turn(region, n, choice, table, total);
     }
 }
 
@@ -44,20 +39,21 @@ pub fn count_lines(
     input: &[u8],
     start: usize,
     region: &mut [u8],
-    table: &mut [u32],
-    total: &mut [u32],
+    table: &mut [Figures; ROWS],
+    total: &mut Figures,
 ) -> usize
     requires { LinesThere input.now start region.old table.old total.old }
     ensures { LinesCounted input.now start region.old table.old table.new total.old total.new result }
 {
     let f = readable::frame_of(region);
     let mut at = start;
+    // stays: each line says where the next one starts
     while at < input.len() {
         if input[at] == b'\n' {
             return at + 1;
         }
         // all lines were read before, so this one can be read
-        let Line::Read(l) = script::line_at(input, at) else {
+        let Some(l) = script::line_at(input, at) else {
             return at;
         };
         let what = l.what;

@@ -1,7 +1,6 @@
 -- The loops of push and pop, and the ways of `lesser_child`: the invariants, one pass of each and each way out, over plain variables.
 -- The hole filled with the number to be stored always counts what the contract says. Assumes nothing.
-use Prim.Native.Nat.{ℕ, suc, ◌+◌, ◌-◌, ◌*◌, ◌/◌, ◌≤◌, ◌<◌}
-use native.Mathlib.Decide.{ℕ_discrete}
+use Prim.Native.Nat.{ℕ, suc, ◌+◌, ◌-◌, ◌/◌, ◌≤◌, ◌<◌}
 use native.Mathlib.Numerals.{add-one}
 use native.Mathlib.Omega.{arith}
 use mathlib.Core.Path.{◌≡◌, refl, sym, ap, subst, ◌∙◌}
@@ -11,7 +10,7 @@ use lib.Dec.{eqb}
 use lib.ListN.{length, get_or, set, length-set}
 use lib.Seq.{get_or-set_same, get_or-set_other}
 use Rattle.region.specs.Pick.{pick}
-use Rattle.heap.specs.Heap.{copies, Ordered, Pushed, Popped}
+use Rattle.heap.specs.Heap.{copies, Ordered, Popped}
 use Rattle.heap.specs.Inner.{LeastChild}
 use Rattle.heap.proofs.Laws.{copies_above, copies-set}
 use Rattle.heap.proofs.Holes.{Hole, FitsAbove, FitsBelow, settled, up_hole, up_below, down_hole, down_above}
@@ -68,20 +67,6 @@ module _ {h₀ : List ℕ} {n x : ℕ} {h : List ℕ} {i : ℕ} (e : Rising h₀
             moved h (n + 1) i (i / 2) x y e.some e.within (omega arith) (omega arith) e.room (λ z. omega arith)
             ∙ e.counted y;
       }
-
-  pushed : (Ordered h₀ n → FitsAbove h i x) → Pushed h₀ n x (set h i x)
-  pushed a =
-      record {
-        same_length = simp length-set e.same;
-        ordered = λ o. settled h (n + 1) i (omega arith) (e.hole o) x (a o) (e.below o);
-        counted = e.counted;
-      }
-
-  pub push_stop : 1 < i → get_or h (i / 2) 0 ≤ x → Pushed h₀ n x (set h i x)
-  push_stop l g = pushed (λ o k. g)
-
-  pub push_top : i ≤ 1 → Pushed h₀ n x (set h i x)
-  push_top l = pushed (λ o k. absurd (omega arith))
 
 -- Pop: the hole at i has sunk from the top; the last number, x, is to be stored and still stands behind the others.
 pub record Sinking (h₀ : List ℕ) (n x : ℕ) (h : List ℕ) (i : ℕ) : Type 0 where
@@ -167,33 +152,4 @@ module _ {h₀ : List ℕ} {n x : ℕ} {h : List ℕ} {i : ℕ} (e : Sinking h�
               ap (λ k. k + pick (eqb (get_or h₀ 1 0) y) 1 0)
               (moved h (n - 1) i c x y e.some e.within (omega (arith, s.child)) s.within (omega arith) (λ z. omega (arith, s.child)))
               ∙ e.counted y;
-        }
-
--- The two children of entry i.
-module _ (h : List ℕ) (m i : ℕ) where
-  -- what is not greater than both children is not greater than any child
-  of_two : (v : ℕ) → v ≤ get_or h (2 * i) 0 → v ≤ get_or h (2 * i + 1) 0 → (j : ℕ) → j / 2 ≡ i → v ≤ get_or h j 0
-  of_two v a b j e = go (ℕ_discrete j (2 * i))
-    where
-      go : Dec (j ≡ 2 * i) → v ≤ get_or h j 0
-      go (yes z) = rw z a
-      go (no z) =
-          let w : j ≡ 2 * i + 1 = omega arith in
-          rw w b
-
-  module _ (l : 2 * i + 1 ≤ m) where
-    pub right_child : get_or h (2 * i + 1) 0 < get_or h (2 * i) 0 → LeastChild h m i (2 * i + 1)
-    right_child g =
-        record {
-          child = omega arith;
-          within = omega arith;
-          least = λ j u z. of_two (get_or h (2 * i + 1) 0) (omega arith) (omega arith) j z;
-        }
-
-    pub left_child : get_or h (2 * i) 0 ≤ get_or h (2 * i + 1) 0 → LeastChild h m i (2 * i)
-    left_child g =
-        record {
-          child = omega arith;
-          within = omega arith;
-          least = λ j u z. of_two (get_or h (2 * i) 0) (omega arith) g j z;
         }

@@ -1,7 +1,7 @@
 -- The places of a put of v, I1 to I8 (document 01, The sixteen places; Listing 1, insert and findInsertPoint, lines 2 to 20). v is the
 -- thread's item. Each answers a plan from the shape, shared memory and the thread's record.
 use Rattle.std.specs.Prelude.{ℕ, ◌+◌, ◌-◌, ◌/◌, ◌%◌, ◌^◌, min, Bool, ◌&&◌, ◌||◌, ltb, eqb}
-use Rattle.region.specs.Answer.{unreadable, counter_spent}
+use Rattle.region.specs.declared.refusal.Refusal.TheVariants.{Unreadable, CounterSpent}
 use Rattle.region.specs.Level.{ancestor, level}
 use Rattle.region.specs.Pick.{pick}
 use Rattle.region.specs.Shape.{between}
@@ -38,7 +38,7 @@ search_on t =
     (pick
     (between 1 t.search_state.hi (level t.search_state.leaf))
     (on_to (with_node t (ancestor t.search_state.leaf t.search_state.hi)) ReadTarget)
-    (refused t unreadable))
+    (refused t Unreadable))
 
 -- "leaf = 2^(d−1) + (choice mod 2^(d−1))" (lines 17 and 20)
 unfoldable pub leaf_of : ℕ → ℕ → ℕ
@@ -99,7 +99,7 @@ read_leaf s m t choice =
     pick
     (is_level s t.depth)
     (after_leaf_read s t (leaf_to_read s t choice) (read_node m (leaf_to_read s t choice)))
-    (refused t unreadable)
+    (refused t Unreadable)
 
 -- "val ≥ v sets hi to it, else lo to it + 1."
 unfoldable pub after_ancestor_read : Thread → ℕ → NodeCopy → Plan
@@ -130,7 +130,7 @@ read_ancestor m t =
     pick
     (has_middle t)
     (after_ancestor_read t (middle_level t) (read_node m (ancestor t.search_state.leaf (middle_level t))))
-    (refused t unreadable)
+    (refused t Unreadable)
 
 -- I4 "CAS depth from d to d + 1; to I1 either way." (line 19); refused 7 where d or d + 1 is no level
 unfoldable pub grow_depth : Shape → Shared → Thread → Plan
@@ -138,7 +138,7 @@ grow_depth s m t =
     pick
     (is_level s t.depth && is_level s (t.depth + 1))
     (pick (eqb m.depth t.depth) (plan (Grow (t.depth + 1)) (at_place t ReadDepth) Moved) (on_to t ReadDepth))
-    (refused t unreadable)
+    (refused t Unreadable)
 
 -- "val < v: I1. Root: I6. Else I7."
 unfoldable pub target_place : Thread → NodeCopy → Place
@@ -151,7 +151,7 @@ unfolding target_place
 read_target m t =
     pick
     (eqb t.node 0)
-    (refused t unreadable)
+    (refused t Unreadable)
     (on_to (with_first t (read_node m t.node)) (target_place t (read_node m t.node)))
 
 -- the update of I6 and I8 at node n; `holds` says whether its comparison held: "own cell as new head. Failure: I1.", "A put keeps the dirty bit
@@ -162,7 +162,7 @@ insert_at t n holds =
     holds
     (pick
     (is_spent t.copies.first.node)
-    (refused t counter_spent)
+    (refused t CounterSpent)
     (plan
     (Push n (updated t.copies.first.node t.own t.copies.first.node.dirty) t.own t.copies.first.node.first)
     (gone_idle t)
@@ -175,7 +175,7 @@ unfolding insert_at
 insert_at_root m t =
     pick
     (eqb t.own 0)
-    (refused t unreadable)
+    (refused t Unreadable)
     (insert_at t 1 (same_node (m.node 1) t.copies.first.node))
 
 -- I7 "READ parent. val > v: I1. Else I8." (lines 10 and 11); node 0 or 1 is refused 7
@@ -183,7 +183,7 @@ unfoldable pub read_parent : Shared → Thread → Plan
 read_parent m t =
     pick
     (ltb t.node 2)
-    (refused t unreadable)
+    (refused t Unreadable)
     (on_to
     (with_second t (read_node m (t.node / 2)))
     (pick (item_lt t.item (value_of (read_node m (t.node / 2)))) ReadDepth InsertBelow))
@@ -197,4 +197,4 @@ node_and_parent_same m t =
 unfoldable pub insert_below : Shared → Thread → Plan
 unfolding insert_at node_and_parent_same
 insert_below m t =
-    pick (ltb t.node 2 || eqb t.own 0) (refused t unreadable) (insert_at t t.node (node_and_parent_same m t))
+    pick (ltb t.node 2 || eqb t.own 0) (refused t Unreadable) (insert_at t t.node (node_and_parent_same m t))

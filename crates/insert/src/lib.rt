@@ -2,25 +2,27 @@
 #![tactic(auto)]
 
 ghost use Rattle.std.specs.Prelude.{◌≡◌, ◌≤◌, true, length};
-ghost use Rattle.region.specs.Inner.{Within};
+ghost use Rattle.region.specs.Held.{viewed};
 ghost use Rattle.region.specs.Shared.{shared_in};
 ghost use Rattle.insert.specs.Insert.{after_ancestor_read, node_and_parent_same, failed_place, grow_depth, has_middle, has_tried_deepest, insert_at, insert_at_root, insert_below, is_leaf_of, leaf_after_failed_try, after_failed_try, leaf_of, leaf_to_read, after_leaf_read, middle_level, next_tries, read_ancestor, read_depth, read_leaf, read_parent, read_target, search_on, target_place};
 
 use access::{Effect, Plan};
-use region::{Answer, COUNTER_SPENT, Frame, NodeCopy, Place, Search, Shape, Thread, UNREADABLE};
+use region::{Answer, NodeCopy, Place, Refusal, Search, Shape, Thread, View};
 
 // I1
-pub fn read_depth(f: Frame, b: &[u8], t: Thread) -> Plan
-    requires { Within f (length b.now) }
-    ensures { result ≡ read_depth (shared_in f b.now) t }
+#[tactic(auto, unfolding(crate::specs::Insert::read_depth, region::specs::Shared::shared_in))]
+#[inline(always)]
+pub fn read_depth(view: View, t: Thread) -> Plan
+    ensures { result ≡ read_depth (viewed view.entry) t }
 {
-    let depth = f.load_depth(b);
+    let depth = view.depth();
     let old = t.search_state;
     let search = Search { tries: 0, ..old };
     access::on_to(t.with_depth(depth).with_search(search), Place::ReadLeaf)
 }
 
 // The search goes on, or the insertion point is found.
+#[tactic(auto, using(crate::proofs::Ways::some_level), unfolding(crate::specs::Insert::search_on, region::specs::Pick::pick, region::specs::Shape::between))]
 fn search_on(t: Thread) -> Plan
     ensures { result ≡ search_on t }
 {
@@ -30,7 +32,7 @@ fn search_on(t: Thread) -> Plan
         return access::on_to(t, Place::ReadAncestor);
     }
     if !region::is_between(1, hi, region::level_of(leaf)) {
-        return access::refused(t, UNREADABLE);
+        return access::refused(t, Refusal::Unreadable);
     }
     access::on_to(
         t.with_node(region::ancestor_at(leaf, hi)),
@@ -39,6 +41,7 @@ fn search_on(t: Thread) -> Plan
 }
 
 // The leaf that a choice names at depth d.
+#[tactic(auto, using(crate::proofs::Ways::leaf_named))]
 fn leaf_of(d: u32, choice: u32) -> u32
     requires { (1 ≤ d) × (d ≤ 12) }
     ensures { result ≡ leaf_of d choice }
@@ -48,6 +51,7 @@ fn leaf_of(d: u32, choice: u32) -> u32
 }
 
 // Whether this is a leaf of level d.
+#[tactic(auto, using(crate::proofs::Ways::leaf_tested))]
 fn is_leaf_of(d: u32, leaf: u32) -> bool
     requires { (1 ≤ d) × (d ≤ 12) }
     ensures { result ≡ is_leaf_of d leaf }
@@ -56,17 +60,16 @@ fn is_leaf_of(d: u32, leaf: u32) -> bool
 }
 
 // Whether the put has tried a leaf of the greatest depth.
+#[tactic(auto, unfolding(crate::specs::Insert::has_tried_deepest))]
 fn has_tried_deepest(shape: Shape, t: Thread) -> bool
     requires { (1 ≤ t.depth) × (t.depth ≤ 12) }
     ensures { result ≡ has_tried_deepest shape t }
 {
-    if t.depth != shape.depth {
-        return false;
-    }
-    is_leaf_of(t.depth, t.search_state.leaf)
+    t.depth == shape.depth && is_leaf_of(t.depth, t.search_state.leaf)
 }
 
 // The leaf to read: the one in the leaf word, or the one that the choice names. A leaf's own number names that leaf.
+#[tactic(auto, using(crate::proofs::Ways::leaf_word_counts, crate::proofs::Ways::choice_counts))]
 fn leaf_to_read(shape: Shape, t: Thread, choice: u32) -> u32
     requires { (1 ≤ t.depth) × (t.depth ≤ 12) }
     ensures { result ≡ leaf_to_read shape t choice }
@@ -78,6 +81,7 @@ fn leaf_to_read(shape: Shape, t: Thread, choice: u32) -> u32
 }
 
 // The leaf word after a failed try: the number behind a leaf names the next one, and behind the last the first.
+#[tactic(auto, using(crate::proofs::Ways::leaf_moves, crate::proofs::Ways::leaf_stays, crate::proofs::Ways::next_fits))]
 fn leaf_after_failed_try(shape: Shape, t: Thread, leaf: u32) -> u32
     requires { (1 ≤ t.depth) × (t.depth ≤ 12) × (is_leaf_of t.depth leaf ≡ true) }
     ensures { result ≡ leaf_after_failed_try shape t leaf }
@@ -89,17 +93,15 @@ fn leaf_after_failed_try(shape: Shape, t: Thread, leaf: u32) -> u32
 }
 
 // The tries after one more, at most the threshold.
+#[tactic(auto, unfolding(crate::specs::Insert::next_tries))]
 fn next_tries(shape: Shape, t: Thread) -> u32
     ensures { result ≡ next_tries shape t }
 {
-    let tries = t.search_state.tries;
-    if tries < shape.threshold {
-        return tries + 1;
-    }
-    shape.threshold
+    t.search_state.tries.saturating_add(1).min(shape.threshold)
 }
 
 // The place after a leaf whose value is below the item.
+#[tactic(auto, unfolding(crate::specs::Insert::failed_place, region::specs::Pick::pick))]
 fn failed_place(shape: Shape, t: Thread) -> Place
     ensures { result ≡ failed_place shape t }
 {
@@ -113,6 +115,7 @@ fn failed_place(shape: Shape, t: Thread) -> Place
 }
 
 // The leaf's value is below the item.
+#[tactic(auto, unfolding(crate::specs::Insert::after_failed_try))]
 fn after_failed_try(shape: Shape, t: Thread, leaf: u32, q: NodeCopy) -> Plan
     requires { (1 ≤ t.depth) × (t.depth ≤ 12) × (is_leaf_of t.depth leaf ≡ true) }
     ensures { result ≡ after_failed_try shape t leaf q }
@@ -121,13 +124,13 @@ fn after_failed_try(shape: Shape, t: Thread, leaf: u32, q: NodeCopy) -> Plan
     let search = Search {
         leaf: leaf_after_failed_try(shape, t, leaf),
         tries: next_tries(shape, t),
-        lo: old.lo,
-        hi: old.hi,
+        ..old
     };
     access::on_to(t.with_search(search).with_first(q), failed_place(shape, t))
 }
 
 // The leaf was read: the search begins, or the try failed.
+#[tactic(auto, unfolding(crate::specs::Insert::after_leaf_read, region::specs::Pick::pick))]
 fn after_leaf_read(shape: Shape, t: Thread, leaf: u32, q: NodeCopy) -> Plan
     requires { (1 ≤ t.depth) × (t.depth ≤ 12) × (is_leaf_of t.depth leaf ≡ true) }
     ensures { result ≡ after_leaf_read shape t leaf q }
@@ -135,92 +138,93 @@ fn after_leaf_read(shape: Shape, t: Thread, leaf: u32, q: NodeCopy) -> Plan
     if !access::item_le(t.item, access::value_of(q)) {
         return after_failed_try(shape, t, leaf, q);
     }
+    let old = t.search_state;
     let search = Search {
         leaf,
-        tries: t.search_state.tries,
         lo: 1,
         hi: t.depth,
-    };
-    search_on(t.with_search(search).with_first(q))
-}
-
-// I2
-pub fn read_leaf(f: Frame, b: &[u8], t: Thread, choice: u32) -> Plan
-    requires { Within f (length b.now) }
-    ensures { result ≡ read_leaf f.shape (shared_in f b.now) t choice }
-{
-    let shape = f.shape;
-    if !access::is_level(shape, t.depth) {
-        return access::refused(t, UNREADABLE);
-    }
-    let leaf = leaf_to_read(shape, t, choice);
-    after_leaf_read(shape, t, leaf, access::read_node(f, b, leaf))
-}
-
-// The ancestor at this level was read: one of the levels between which the search looks moves.
-fn after_ancestor_read(t: Thread, middle: u32, q: NodeCopy) -> Plan
-    requires { middle ≤ 32 }
-    ensures { result ≡ after_ancestor_read t middle q }
-{
-    let old = t.search_state;
-    if access::item_le(t.item, access::value_of(q)) {
-        let search = Search { hi: middle, ..old };
-        return search_on(t.with_search(search).with_first(q));
-    }
-    let search = Search {
-        lo: middle + 1,
         ..old
     };
     search_on(t.with_search(search).with_first(q))
 }
 
+// I2
+#[tactic(auto, unfolding(crate::specs::Insert::read_leaf, region::specs::Pick::pick, access::specs::Read::is_level, region::specs::Shape::between, region::specs::Shared::shared_in))]
+#[inline(always)]
+pub fn read_leaf(view: View, t: Thread, choice: u32) -> Plan
+    ensures { result ≡ read_leaf view.entry.frame.shape (viewed view.entry) t choice }
+{
+    let shape = view.frame.shape;
+    if !access::is_level(shape, t.depth) {
+        return access::refused(t, Refusal::Unreadable);
+    }
+    let leaf = leaf_to_read(shape, t, choice);
+    after_leaf_read(shape, t, leaf, access::read_node(view, leaf))
+}
+
+// The ancestor at this level was read: one of the levels between which the search looks moves.
+#[tactic(auto, unfolding(crate::specs::Insert::after_ancestor_read, region::specs::Pick::pick))]
+fn after_ancestor_read(t: Thread, middle: u32, q: NodeCopy) -> Plan
+    requires { middle ≤ 32 }
+    ensures { result ≡ after_ancestor_read t middle q }
+{
+    let old = t.search_state;
+    let search = if access::item_le(t.item, access::value_of(q)) {
+        Search { hi: middle, ..old }
+    } else {
+        Search {
+            lo: middle + 1,
+            ..old
+        }
+    };
+    search_on(t.with_search(search).with_first(q))
+}
+
 // The level halfway between those of the search.
+#[tactic(auto, unfolding(crate::specs::Insert::middle_level))]
 fn middle_level(t: Thread) -> u32
     ensures { result ≡ middle_level t }
 {
     let lo = t.search_state.lo as usize;
     let hi = t.search_state.hi as usize;
-    let middle = (lo + hi) / 2;
-    middle as u32
+    ((lo + hi) / 2) as u32
 }
 
 // Whether the search goes on, and the level halfway is one that the leaf has.
+#[tactic(auto, unfolding(crate::specs::Insert::has_middle))]
 fn has_middle(t: Thread) -> bool
     ensures { result ≡ has_middle t }
 {
-    if t.search_state.hi <= t.search_state.lo {
-        return false;
-    }
-    region::is_between(1, middle_level(t), region::level_of(t.search_state.leaf))
+    t.search_state.lo < t.search_state.hi
+        && region::is_between(1, middle_level(t), region::level_of(t.search_state.leaf))
 }
 
 // I3
-pub fn read_ancestor(f: Frame, b: &[u8], t: Thread) -> Plan
-    requires { Within f (length b.now) }
-    ensures { result ≡ read_ancestor (shared_in f b.now) t }
+#[tactic(auto, using(crate::proofs::Ways::middle_most), unfolding(crate::specs::Insert::read_ancestor, crate::specs::Insert::has_middle, region::specs::Pick::pick, region::specs::Shape::between, region::specs::Shared::shared_in))]
+#[inline(always)]
+pub fn read_ancestor(view: View, t: Thread) -> Plan
+    ensures { result ≡ read_ancestor (viewed view.entry) t }
 {
     if !has_middle(t) {
-        return access::refused(t, UNREADABLE);
+        return access::refused(t, Refusal::Unreadable);
     }
     let middle = middle_level(t);
     let node = region::ancestor_at(t.search_state.leaf, middle);
-    after_ancestor_read(t, middle, access::read_node(f, b, node))
+    after_ancestor_read(t, middle, access::read_node(view, node))
 }
 
 // I4
-pub fn grow_depth(f: Frame, b: &[u8], t: Thread) -> Plan
-    requires { Within f (length b.now) }
-    ensures { result ≡ grow_depth f.shape (shared_in f b.now) t }
+#[tactic(auto, unfolding(crate::specs::Insert::grow_depth, region::specs::Pick::pick, access::specs::Read::is_level, region::specs::Shape::between, region::specs::Shared::shared_in))]
+#[inline(always)]
+pub fn grow_depth(view: View, t: Thread) -> Plan
+    ensures { result ≡ grow_depth view.entry.frame.shape (viewed view.entry) t }
 {
-    let shape = f.shape;
+    let shape = view.frame.shape;
     let d = t.depth;
-    if !access::is_level(shape, d) {
-        return access::refused(t, UNREADABLE);
+    if !access::is_level(shape, d) || !access::is_level(shape, d + 1) {
+        return access::refused(t, Refusal::Unreadable);
     }
-    if !access::is_level(shape, d + 1) {
-        return access::refused(t, UNREADABLE);
-    }
-    if f.load_depth(b) == d {
+    if view.depth() == d {
         return access::plan_of(
             Effect::Grow(d + 1),
             t.at_place(Place::ReadDepth),
@@ -231,6 +235,7 @@ pub fn grow_depth(f: Frame, b: &[u8], t: Thread) -> Plan
 }
 
 // The place after reading the node to insert at.
+#[tactic(auto, unfolding(crate::specs::Insert::target_place, region::specs::Pick::pick))]
 fn target_place(t: Thread, q: NodeCopy) -> Place
     ensures { result ≡ target_place t q }
 {
@@ -244,18 +249,21 @@ fn target_place(t: Thread, q: NodeCopy) -> Place
 }
 
 // I5
-pub fn read_target(f: Frame, b: &[u8], t: Thread) -> Plan
-    requires { Within f (length b.now) }
-    ensures { result ≡ read_target (shared_in f b.now) t }
+#[tactic(auto, unfolding(crate::specs::Insert::read_target, region::specs::Pick::pick, region::specs::Shared::shared_in))]
+#[inline(always)]
+pub fn read_target(view: View, t: Thread) -> Plan
+    ensures { result ≡ read_target (viewed view.entry) t }
 {
     if t.node == 0 {
-        return access::refused(t, UNREADABLE);
+        return access::refused(t, Refusal::Unreadable);
     }
-    let q = access::read_node(f, b, t.node);
+    let q = access::read_node(view, t.node);
     access::on_to(t.with_first(q), target_place(t, q))
 }
 
 // The update of I6 and I8 at node n; `holds` says whether its comparison held.
+// stays: holds is what the comparison found, and no caller chooses it.
+#[tactic(auto, unfolding(crate::specs::Insert::insert_at, region::specs::Pick::pick))]
 fn insert_at(t: Thread, n: u32, holds: bool) -> Plan
     ensures { result ≡ insert_at t n holds }
 {
@@ -264,7 +272,7 @@ fn insert_at(t: Thread, n: u32, holds: bool) -> Plan
     }
     let node = t.copies.first.node;
     if access::is_spent(node) {
-        return access::refused(t, COUNTER_SPENT);
+        return access::refused(t, Refusal::CounterSpent);
     }
     let effect = Effect::Push {
         node: n,
@@ -276,56 +284,53 @@ fn insert_at(t: Thread, n: u32, holds: bool) -> Plan
 }
 
 // I6
-pub fn insert_at_root(f: Frame, b: &[u8], t: Thread) -> Plan
-    requires { Within f (length b.now) }
-    ensures { result ≡ insert_at_root (shared_in f b.now) t }
+#[tactic(auto, unfolding(crate::specs::Insert::insert_at_root, region::specs::Pick::pick, access::specs::Read::same_node, region::specs::Shared::shared_in))]
+#[inline(always)]
+pub fn insert_at_root(view: View, t: Thread) -> Plan
+    ensures { result ≡ insert_at_root (viewed view.entry) t }
 {
     if t.own == 0 {
-        return access::refused(t, UNREADABLE);
+        return access::refused(t, Refusal::Unreadable);
     }
-    insert_at(
-        t,
-        1,
-        access::same_node(f.load_node(b, 1), t.copies.first.node),
-    )
+    insert_at(t, 1, access::same_node(view.node(1), t.copies.first.node))
 }
 
 // I7
-pub fn read_parent(f: Frame, b: &[u8], t: Thread) -> Plan
-    requires { Within f (length b.now) }
-    ensures { result ≡ read_parent (shared_in f b.now) t }
+#[tactic(auto, unfolding(crate::specs::Insert::read_parent, region::specs::Pick::pick, access::specs::Order::item_lt, access::specs::Order::item_le, region::specs::Shared::shared_in))]
+#[inline(always)]
+pub fn read_parent(view: View, t: Thread) -> Plan
+    ensures { result ≡ read_parent (viewed view.entry) t }
 {
     if t.node < 2 {
-        return access::refused(t, UNREADABLE);
+        return access::refused(t, Refusal::Unreadable);
     }
-    let q = access::read_node(f, b, t.node / 2);
-    if access::item_lt(t.item, access::value_of(q)) {
-        return access::on_to(t.with_second(q), Place::ReadDepth);
-    }
-    access::on_to(t.with_second(q), Place::InsertBelow)
+    let q = access::read_node(view, t.node / 2);
+    let next = if access::item_lt(t.item, access::value_of(q)) {
+        Place::ReadDepth
+    } else {
+        Place::InsertBelow
+    };
+    access::on_to(t.with_second(q), next)
 }
 
 // Whether the node and its parent are as they were copied.
-fn node_and_parent_same(f: Frame, b: &[u8], t: Thread) -> bool
-    requires { Within f (length b.now) }
-    ensures { result ≡ node_and_parent_same (shared_in f b.now) t }
+#[tactic(auto, unfolding(crate::specs::Insert::node_and_parent_same, access::specs::Read::same_node, region::specs::Shared::shared_in))]
+#[inline(always)]
+fn node_and_parent_same(view: View, t: Thread) -> bool
+    ensures { result ≡ node_and_parent_same (viewed view.entry) t }
 {
-    if !access::same_node(f.load_node(b, t.node), t.copies.first.node) {
-        return false;
-    }
-    access::same_node(f.load_node(b, t.node / 2), t.copies.second.node)
+    access::same_node(view.node(t.node), t.copies.first.node)
+        && access::same_node(view.node(t.node / 2), t.copies.second.node)
 }
 
 // I8
-pub fn insert_below(f: Frame, b: &[u8], t: Thread) -> Plan
-    requires { Within f (length b.now) }
-    ensures { result ≡ insert_below (shared_in f b.now) t }
+#[tactic(auto, unfolding(crate::specs::Insert::insert_below, crate::specs::Insert::node_and_parent_same, region::specs::Pick::pick, access::specs::Read::same_node, region::specs::Shared::shared_in))]
+#[inline(always)]
+pub fn insert_below(view: View, t: Thread) -> Plan
+    ensures { result ≡ insert_below (viewed view.entry) t }
 {
-    if t.node < 2 {
-        return access::refused(t, UNREADABLE);
+    if t.node < 2 || t.own == 0 {
+        return access::refused(t, Refusal::Unreadable);
     }
-    if t.own == 0 {
-        return access::refused(t, UNREADABLE);
-    }
-    insert_at(t, t.node, node_and_parent_same(f, b, t))
+    insert_at(t, t.node, node_and_parent_same(view, t))
 }

@@ -1,4 +1,3 @@
--- What the crates above cite of `kinds` beside its contracts, and the ways out of its functions.
+-- What the crates above cite of `kinds` beside its contracts.
 pub mod FailedIsComparison
 pub mod TableIsKinds
-mod Ways

@@ -11,7 +11,7 @@ use lib.ListN.{length, get_or}
 use Rattle.words.specs.Word.{word, set_words}
 use Rattle.words.specs.Inner.{Fit}
 use Rattle.words.proofs.Laws.{word_stored, length-set_words}
-use Rattle.region.specs.Answer.{done}
+use Rattle.region.specs.Refusal.{done}
 use Rattle.region.specs.Frame.{frame_of, frame_of_width}
 use Rattle.region.specs.Pick.{pick}
 use Rattle.region.specs.Record.{counter_size, cell_size}

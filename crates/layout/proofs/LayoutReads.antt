@@ -10,7 +10,7 @@ use borrow.Author.Tests.{eq-eqb, ne_eqb, lt-ltb, le-ltb, le-leb, ltb-true}
 use lib.Dec.{leb, ltb}
 use lib.ListN.{length, get_or, replicate}
 use Rattle.words.specs.Word.{word, words_at}
-use Rattle.region.specs.Answer.{done}
+use Rattle.region.specs.Refusal.{done}
 use Rattle.region.specs.Frame.{frame_of, frame_of_width, nodes_of}
 use Rattle.region.specs.Pick.{pick}
 use Rattle.region.specs.Record.{counter_size, node_size, cell_size, node_of, node_at, empty_node, cell_at, zero_item}

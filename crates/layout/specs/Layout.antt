@@ -2,7 +2,8 @@
 -- keys and tags 0; thread words 0 but the permission."
 use Rattle.std.specs.Prelude.{ℕ, zero, suc, ◌+◌, ◌-◌, ◌*◌, ◌/◌, ◌%◌, ◌≡◌, Bool, true, ◌&&◌, List, [], ◌∷◌, leb, ltb, eqb, length, get_or}
 use Rattle.words.specs.Word.{set_words}
-use Rattle.region.specs.Answer.{done, bad_shape, bad_length, ◌unless◌otherwise◌}
+use Rattle.region.specs.Refusal.{Checked, granted, code_of, done, ◌unless◌otherwise◌}
+use Rattle.region.specs.declared.refusal.Refusal.TheVariants.{BadShape, BadLength}
 use Rattle.region.specs.Frame.{frame_of, frame_of_width}
 use Rattle.region.specs.Pick.{pick}
 use Rattle.region.specs.Record.{counter_size, cell_size}
@@ -20,13 +21,16 @@ unfoldable pub permissions_fit : Shape → List ℕ → Bool
 unfolding at_most
 permissions_fit s ps = eqb (length ps) s.threads && at_most greatest_permission ps
 
--- "layout 1, 2": "1: layout shape outside the ranges, or a permission list not of T bytes of 0..3. 2: layout slice not of the exact
--- length."; l is the slice's length in bytes
+-- what a layout is refused for: a shape outside the ranges, or a permission list that is not a byte of 0 to 3 for each thread; then a slice not of
+-- the exact length. l is the slice's length in bytes
+abbrev pub layout_check : Shape → List ℕ → ℕ → Checked
+layout_check s ps l =
+    BadShape unless shape_fits s && permissions_fit s ps
+    otherwise BadLength unless eqb l (4 * region_words s)
+    otherwise granted
+
 unfoldable pub layout_refusal : Shape → List ℕ → ℕ → ℕ
-layout_refusal s ps l =
-    bad_shape unless shape_fits s && permissions_fit s ps
-    otherwise bad_length unless eqb l (4 * region_words s)
-    otherwise done
+layout_refusal s ps l = code_of (layout_check s ps l)
 
 -- which word of a cell is the next cell: "key, tag, next cell (0 ends)"
 abbrev pub next_word : ℕ

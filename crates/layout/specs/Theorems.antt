@@ -1,7 +1,7 @@
 -- A laid-out region, read as nodes, cells and threads. The statement is proved in the file of `proofs/` with its name.
 use Rattle.std.specs.Prelude.{ℕ, ◌+◌, ◌-◌, ◌*◌, ◌≤◌, ◌<◌, ◌≡◌, List, [], ◌∷◌, length, get_or}
 use Rattle.words.specs.Word.{words_at}
-use Rattle.region.specs.Answer.{done}
+use Rattle.region.specs.Refusal.{done}
 use Rattle.region.specs.Frame.{frame_of}
 use Rattle.region.specs.Record.{empty_node, zero_item}
 use Rattle.region.specs.Shape.{region_words}

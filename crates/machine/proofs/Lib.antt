@@ -1,3 +1,4 @@
--- How each place's plan ends, and the ways out of the functions.
+-- How each place's plan ends, of which kind its effect is, and the ways out of the functions.
 pub mod PlaceEffects
+pub mod PlaceKinds
 mod Ways

@@ -1,6 +1,5 @@
 -- What only the contracts of inner functions and the proofs need. A reader of the result may skip this file.
-use Rattle.std.specs.Prelude.{ℕ, ◌≡◌, Bool, true, false, List, length}
-use Rattle.region.specs.Inner.{Within}
+use Rattle.std.specs.Prelude.{ℕ, ◌≡◌, Bool, true, false, List}
 use Rattle.region.specs.Shared.{shared_in, thread_in}
 use Rattle.region.specs.declared.answer.Answer.{Answer}
 use Rattle.region.specs.declared.answer.Answer.TheVariants.{Moved, Idle, Inserted, Took, Empty, Refused, Withdrawn}
@@ -24,7 +23,6 @@ pub record Placed (f : Frame) (b b' : List ℕ) (t c : ℕ) (r : Answer) : Type 
   pub bytes : is_withdrawn r ≡ false → b' ≡ carried_out f b t (decide f.shape (shared_in f b) (thread_in f b t) c)
   pub withdrawn : is_withdrawn r ≡ true → (decide f.shape (shared_in f b) (thread_in f b t) c ≡ withdrawal (thread_in f b t)) × (b' ≡ b)
 
--- thread t stands at place z, and the frame lies within the region
+-- thread t stands at place z
 pub record Stands (f : Frame) (b : List ℕ) (t : ℕ) (z : Place) : Type 0 where
-  pub within : Within f (length b)
   pub there : z ≡ (thread_in f b t).place

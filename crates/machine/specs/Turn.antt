@@ -1,6 +1,6 @@
 -- One turn: "A turn makes that place's access and all local work up to the next" (document 01, The sixteen places).
 use Rattle.std.specs.Prelude.{ℕ, ◌≡◌, List}
-use Rattle.region.specs.Answer.{bad_thread, unreadable}
+use Rattle.region.specs.declared.refusal.Refusal.TheVariants.{BadThread, Unreadable}
 use Rattle.region.specs.Pick.{pick}
 use Rattle.region.specs.Shape.{between}
 use Rattle.region.specs.Shared.{Shared, shared_in, thread_in, set_thread_in}
@@ -57,7 +57,7 @@ turn_plan f b t c =
     pick
     (between 1 t f.shape.threads)
     (decide f.shape (shared_in f b) (thread_in f b t) c)
-    (refused (idle_thread 0) bad_thread)
+    (refused (idle_thread 0) BadThread)
 
 unfoldable pub turn_answer : Frame → List ℕ → ℕ → ℕ → Answer
 unfolding turn_plan
@@ -79,7 +79,7 @@ pub record Turned (f : Frame) (b b' : List ℕ) (t c : ℕ) (r : Answer) : Type 
 -- a turn by itself on a whole region that holds one queue: "7: region not readable", then as above
 unfoldable pub turn_on_answer : List ℕ → ℕ → ℕ → Answer
 unfolding turn_answer
-turn_on_answer b t c = pick (readable b) (turn_answer (frame_in b) b t c) (Refused unreadable)
+turn_on_answer b t c = pick (readable b) (turn_answer (frame_in b) b t c) (Refused Unreadable)
 
 unfoldable pub turn_on_bytes : List ℕ → ℕ → ℕ → List ℕ
 unfolding turn_bytes

@@ -4,9 +4,12 @@ use native.Mathlib.Omega.{arith}
 use mathlib.Core.Path.{◌≡◌, ap, ◌∙◌}
 use mathlib.Core.List.{List}
 use lib.ListN.{length}
+use Rattle.std.specs.Prelude.{Result}
+use Rattle.region.specs.Refusal.{code_of}
+use Rattle.region.specs.declared.refusal.Refusal.{Refusal}
 use Rattle.run.specs.Run.{run_refusal, run_result}
-use Rattle.run.specs.Inner.{Ran}
-use Rattle.run.specs.declared.Outcome.{Outcome}
+use Rattle.run.specs.Inner.{Ran, counts_of}
+use Rattle.run.specs.declared.Counts.{Counts}
 use Rattle.run.proofs.Laws.{refusal_most, counts_most}
 use Rattle.mound.specs.Calls.{RunDone, packed, run_answer}
 use Rattle.mound.specs.Inner.{Packable}
@@ -20,8 +23,8 @@ module _ (b s : List ℕ) (limit : ℕ) (a : List ℕ) where
         few_accesses = (counts_most b s limit a).accesses;
       }
 
-  module _ (b' a' : List ℕ) (o : Outcome) (h : Ran b b' s limit a a' o) where
-    pub fits_outcome : Packable o.refusal o.counts.turns o.counts.accesses
+  module _ (b' a' : List ℕ) (o : Result Counts Refusal) (h : Ran b b' s limit a a' o) where
+    pub fits_outcome : Packable (code_of o) (counts_of o).turns (counts_of o).accesses
     fits_outcome =
         record {
           known = omega (arith, h.refusal, answer_fits.known);
@@ -34,7 +37,7 @@ module _ (b s : List ℕ) (limit : ℕ) (a : List ℕ) where
           );
         }
 
-    pub run_done : (r : ℕ) → r ≡ packed o.refusal o.counts.turns o.counts.accesses → RunDone b b' s limit a a' r
+    pub run_done : (r : ℕ) → r ≡ packed (code_of o) (counts_of o).turns (counts_of o).accesses → RunDone b b' s limit a a' r
     unfolding run_answer
     run_done r e =
         record {

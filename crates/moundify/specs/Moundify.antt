@@ -1,7 +1,7 @@
 -- The places of mending n, M1 to M6 (document 01, The sixteen places; Listing 1, moundify, lines 32 to 56). n is the thread's node, w the
 -- waiting levels that its place carries.
 use Rattle.std.specs.Prelude.{ℕ, ◌+◌, ◌-◌, ◌*◌, Bool, not, ◌&&◌, ◌||◌, ltb, eqb}
-use Rattle.region.specs.Answer.{unreadable, counter_spent}
+use Rattle.region.specs.declared.refusal.Refusal.TheVariants.{Unreadable, CounterSpent}
 use Rattle.region.specs.Level.{ancestor, level, mark}
 use Rattle.region.specs.Pick.{pick}
 use Rattle.region.specs.Shared.{Shared}
@@ -46,7 +46,7 @@ returning e t w = plan e (returned t w) (return_answer t w)
 -- M1 "READ n." (line 33); node 0 is refused 7
 unfoldable pub mend_read_node : Shared → Thread → ℕ → Plan
 mend_read_node m t w =
-    pick (eqb t.node 0) (refused t unreadable) (on_to (with_first t (read_node m t.node)) (MendReadDepth w))
+    pick (eqb t.node 0) (refused t Unreadable) (on_to (with_first t (read_node m t.node)) (MendReadDepth w))
 
 -- "clean returns; level d goes to M6; else M3" (lines 35 and 36). A clean copy returns whatever the node; only a dirty one asks for the
 -- node's level, and node 0 has none: refused 7
@@ -57,7 +57,7 @@ after_depth_read t d w =
     (is_dirty t.copies.first.node)
     (pick
     (eqb t.node 0)
-    (refused t unreadable)
+    (refused t Unreadable)
     (pick (eqb (level t.node) d) (on_to (with_depth t d) (MendClean w)) (on_to (with_depth t d) (MendReadLeft w))))
     (returning Nothing (with_depth t d) w)
 
@@ -72,7 +72,7 @@ mend_read_left s m t w =
     pick
     (is_node s (2 * t.node))
     (on_to (with_second t (read_node m (2 * t.node))) (MendReadRight w))
-    (refused t unreadable)
+    (refused t Unreadable)
 
 -- "n's level waits": its mark joins those of the levels above
 unfoldable pub marked : ℕ → ℕ → ℕ
@@ -106,7 +106,7 @@ mend_read_right s m t w =
     pick
     (not (eqb t.node 0) && is_node s (2 * t.node + 1))
     (after_children_read (with_third t (read_node m (2 * t.node + 1))) w)
-    (refused t unreadable)
+    (refused t Unreadable)
 
 -- "n gets the child's list, clean; the child gets n's list, dirty. Success: mend the child. Failure: M1." c is the child, k its copied
 -- node; `holds` says whether the comparison held (lines 46 to 54)
@@ -116,7 +116,7 @@ exchange_at t w c k holds =
     holds
     (pick
     (is_spent t.copies.first.node || is_spent k)
-    (refused t counter_spent)
+    (refused t CounterSpent)
     (plan
     (Exchange t.node (updated t.copies.first.node k.first 0) c (updated k t.copies.first.node.first 1))
     (mending t c w)
@@ -134,7 +134,7 @@ exchange_with s m t w c k =
     pick
     (not (eqb t.node 0) && is_node s c)
     (exchange_at t w c k (node_and_child_same m t c k))
-    (refused t unreadable)
+    (refused t Unreadable)
 
 -- M5 "DCAS (left child if left val ≤ right val, else right)"
 unfoldable pub mend_swap : Shape → Shared → Thread → ℕ → Plan
@@ -151,7 +151,7 @@ unfolding returning
 clean_at t w =
     pick
     (is_spent t.copies.first.node)
-    (refused t counter_spent)
+    (refused t CounterSpent)
     (returning (Clean t.node (updated t.copies.first.node t.copies.first.node.first 0)) t w)
 
 -- M6 "CAS n to clean. Success returns. Failure: M1." (line 56, and line 36 as corrected)
@@ -160,5 +160,5 @@ unfolding clean_at
 mend_clean m t w =
     pick
     (eqb t.node 0)
-    (refused t unreadable)
+    (refused t Unreadable)
     (pick (same_node (m.node t.node) t.copies.first.node) (clean_at t w) (on_to t (MendReadNode w)))

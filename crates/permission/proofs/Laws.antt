@@ -6,7 +6,7 @@ use mathlib.Core.Path.{◌≡◌, refl, sym, ap, ◌∙◌}
 use mathlib.Core.Bool.{Bool, true, false, not, ◌&&◌, ◌||◌, true≢false}
 use mathlib.Core.List.{List}
 use lib.Dec.{eqb}
-use Rattle.region.specs.Answer.{done}
+use Rattle.region.specs.Refusal.{done}
 use Rattle.region.specs.Pick.{pick}
 use Rattle.region.specs.Place.{place_number}
 use Rattle.region.specs.Shared.{set_permission_in}
@@ -15,7 +15,7 @@ use Rattle.region.specs.declared.thread.Thread.{Thread}
 use Rattle.region.proofs.Shapes.{below, between_most}
 use Rattle.readable.specs.Readable.{frame_in, readable}
 use Rattle.permission.specs.Grants.{may_put, may_take}
-use Rattle.permission.specs.Permit.{permit_bytes, permit_bytes_in, permit_refusal, permit_refusal_in}
+use Rattle.permission.specs.Permit.{permit_bytes, permit_bytes_in, permit_check, permit_check_in, permit_refusal, permit_refusal_in}
 use Rattle.permission.specs.Withdraw.{is_put_place, is_take_place, lacks_permission}
 
 -- "0 is the empty list and grants nothing"
@@ -57,8 +57,12 @@ module _ (t : Thread) where
   none_lacks h g = rw (h, g) refl
 
 module _ (b : List ℕ) (e : readable b ≡ true) (t p : ℕ) where
+  pub permit_check_in_lem : permit_check b t p ≡ permit_check_in (frame_in b) t p
+  unfolding pick
+  permit_check_in_lem = rw e refl
+
   pub permit_refusal_in_lem : permit_refusal b t p ≡ permit_refusal_in (frame_in b) t p
-  unfolding permit_refusal pick
+  unfolding permit_refusal permit_refusal_in pick
   permit_refusal_in_lem = rw e refl
 
   pub permit_bytes_in_lem : permit_bytes b t p ≡ permit_bytes_in (frame_in b) b t p

@@ -1,3 +1,2 @@
--- What the crates above cite of `permission` beside its contracts, and the ways out of its functions.
+-- What the crates above cite of `permission` beside its contracts.
 pub mod Laws
-mod Ways

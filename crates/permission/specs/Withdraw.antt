@@ -1,13 +1,13 @@
 -- Permission at the deciding turn (document 02, request 5): "a permission must still be there when the operation takes effect". `permitted`
 -- alone says when a turn is withdrawn; it stands around the places, whose own definitions do not look at the permission.
-use Rattle.std.specs.Prelude.{Bool, false, not, ◌&&◌, ◌||◌, eqb}
-use Rattle.region.specs.Answer.{unreadable}
+use Rattle.std.specs.Prelude.{Bool, true, false, not, ◌&&◌, ◌||◌, eqb}
+use Rattle.region.specs.declared.refusal.Refusal.TheVariants.{Unreadable}
 use Rattle.region.specs.Pick.{pick}
 use Rattle.region.specs.Place.{place_number}
 use Rattle.region.specs.Shape.{between}
 use Rattle.region.specs.Thread.{gone_idle}
 use Rattle.region.specs.declared.answer.Answer.{Answer}
-use Rattle.region.specs.declared.answer.Answer.TheVariants.{Moved, Idle, Inserted, Took, Empty, Refused, Withdrawn}
+use Rattle.region.specs.declared.answer.Answer.TheVariants.{Refused, Withdrawn}
 use Rattle.region.specs.declared.place.Place.{Place}
 use Rattle.region.specs.declared.place.Place.TheVariants.{ReadDepth, InsertBelow, ReadRoot, RemoveHead, ListReadRoot, RemoveList}
 use Rattle.region.specs.declared.thread.Thread.{Thread}
@@ -37,17 +37,13 @@ unfolding is_put_place
 withdrawal t =
     pick
     (is_put_place t.place)
-    (pick (eqb t.own 0) (refused t unreadable) (plan (Free t.own) (gone_idle t) Withdrawn))
+    (pick (eqb t.own 0) (refused t Unreadable) (plan (Free t.own) (gone_idle t) Withdrawn))
     (plan Nothing (gone_idle t) Withdrawn)
 
+-- refused as unreadable
 abbrev pub is_unreadable : Answer → Bool
-is_unreadable Moved = false
-is_unreadable Idle = false
-is_unreadable Inserted = false
-is_unreadable (Took i) = false
-is_unreadable Empty = false
-is_unreadable (Refused n) = eqb n unreadable
-is_unreadable Withdrawn = false
+is_unreadable (Refused Unreadable) = true
+is_unreadable a = false
 
 -- "this is looked at after 7 and before 11": p is the plan of the same turn with the permission there
 unfoldable pub permitted : Thread → Plan → Plan

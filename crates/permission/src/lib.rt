@@ -1,21 +1,24 @@
 // A thread's permission: what it grants, the call that sets it, and what a turn does whose operation lacks it.
 #![tactic(auto)]
 
-ghost use Rattle.std.specs.Prelude.{◌≡◌, length};
-ghost use Rattle.region.specs.Inner.{Within};
+ghost use Rattle.std.specs.Prelude.{◌≡◌};
+ghost use Rattle.region.specs.Held.{Stays};
+ghost use Rattle.region.specs.Refusal.{code_of};
 ghost use Rattle.permission.specs.Grants.{may_put, may_take};
-ghost use Rattle.permission.specs.Permit.{PermitSet, PermitSetIn, permit_refusal_in};
+ghost use Rattle.permission.specs.Permit.{PermitSet, PermitSetIn, permit_check_in};
 ghost use Rattle.permission.specs.Withdraw.{is_put_place, is_take_place, is_unreadable, lacks_permission, permitted, withdrawal};
 
 use access::{Effect, Plan};
-use region::{Answer, BAD_SHAPE, BAD_THREAD, DONE, Frame, Place, Thread, UNREADABLE};
+use region::{Answer, Frame, Place, Queue, Refusal, Thread, require};
 
+#[tactic(auto, unfolding(crate::specs::Grants::may_put))]
 pub fn may_put(t: Thread) -> bool
     ensures { result ≡ may_put t }
 {
     t.permission % 2 == 1
 }
 
+#[tactic(auto, unfolding(crate::specs::Grants::may_take))]
 pub fn may_take(t: Thread) -> bool
     ensures { result ≡ may_take t }
 {
@@ -23,6 +26,7 @@ pub fn may_take(t: Thread) -> bool
 }
 
 // I1 to I8.
+#[tactic(auto, unfolding(crate::specs::Withdraw::is_put_place))]
 fn is_put_place(place: Place) -> bool
     ensures { result ≡ is_put_place place }
 {
@@ -30,6 +34,7 @@ fn is_put_place(place: Place) -> bool
 }
 
 // E1, E2, 17 and 18.
+#[tactic(auto, unfolding(crate::specs::Withdraw::is_take_place))]
 fn is_take_place(place: Place) -> bool
     ensures { result ≡ is_take_place place }
 {
@@ -41,35 +46,23 @@ fn is_take_place(place: Place) -> bool
 }
 
 // Whether the thread stands at a place of an operation for which it has no permission.
+#[tactic(auto, unfolding(crate::specs::Withdraw::lacks_permission))]
 fn lacks_permission(t: Thread) -> bool
     ensures { result ≡ lacks_permission t }
 {
     let place = t.place;
-    if is_put_place(place) {
-        return !may_put(t);
-    }
-    if is_take_place(place) {
-        return !may_take(t);
-    }
-    false
+    (is_put_place(place) && !may_put(t)) || (is_take_place(place) && !may_take(t))
 }
 
-// Whether a turn is refused 7, which comes before its withdrawal.
+// Whether a turn is refused as unreadable, which comes before its withdrawal.
 pub fn is_unreadable(answer: Answer) -> bool
     ensures { result ≡ is_unreadable answer }
 {
-    match answer {
-        Answer::Moved => false,
-        Answer::Idle => false,
-        Answer::Inserted => false,
-        Answer::Took(_) => false,
-        Answer::Empty => false,
-        Answer::Refused(n) => n == UNREADABLE,
-        Answer::Withdrawn => false,
-    }
+    matches!(answer, Answer::Refused(Refusal::Unreadable))
 }
 
 // The plan of a withdrawn turn: a put's own cell is freed, and the thread goes idle.
+#[tactic(auto, unfolding(crate::specs::Withdraw::withdrawal, region::specs::Pick::pick))]
 pub fn withdrawal(t: Thread) -> Plan
     ensures { result ≡ withdrawal t }
 {
@@ -79,12 +72,13 @@ pub fn withdrawal(t: Thread) -> Plan
         return access::plan_of(Effect::Nothing, t.gone_idle(), Answer::Withdrawn);
     }
     if own == 0 {
-        return access::refused(t, UNREADABLE);
+        return access::refused(t, Refusal::Unreadable);
     }
     access::plan_of(Effect::Free(own), t.gone_idle(), Answer::Withdrawn)
 }
 
 // The plan of a turn, from its place's plan: that plan, or the withdrawal where the permission is lacking.
+#[tactic(auto, unfolding(crate::specs::Withdraw::permitted, region::specs::Pick::pick))]
 pub fn permitted(t: Thread, plan: Plan) -> Plan
     ensures { result ≡ permitted t plan }
 {
@@ -98,39 +92,37 @@ pub fn permitted(t: Thread, plan: Plan) -> Plan
     withdrawal(t)
 }
 
-// The refusal of the call under a frame, or done.
-fn permit_refusal(f: Frame, thread: u32, permission: u32) -> u32
-    ensures { result ≡ permit_refusal_in f thread permission }
+// What the call is refused for, if anything.
+#[tactic(auto, unfolding(region::specs::Pick::pick))]
+fn permit_check(frame: Frame, thread: u32, permission: u32) -> Result<(), Refusal>
+    ensures { result ≡ permit_check_in frame thread permission }
 {
-    let shape = f.shape;
-    if !region::is_between(1, thread, shape.threads) {
-        return BAD_THREAD;
-    }
-    if 3 < permission {
-        return BAD_SHAPE;
-    }
-    DONE
+    let shape = frame.shape;
+    require(
+        region::is_between(1, thread, shape.threads),
+        Refusal::BadThread,
+    )?;
+    require(permission <= 3, Refusal::BadShape)
 }
 
-// Sets a thread's permission under a frame: 0 if set, else the refusal (3, 1). The thread may be busy.
-pub fn permit_in(f: Frame, b: &mut [u8], thread: u32, permission: u32) -> u32
-    requires { Within f (length b.old) }
-    ensures { PermitSetIn f b.old b.new thread permission result }
+// Sets a thread's permission, or refuses (3, 1) and changes no byte. The thread may be busy.
+#[tactic(auto, unfolding(crate::specs::Permit::permit_bytes_in, crate::specs::Permit::permit_refusal_in, region::specs::Pick::pick))]
+pub fn permit_in(queue: &mut Queue, thread: u32, permission: u32) -> Result<(), Refusal>
+    ensures same { Stays queue.old queue.new }
+    ensures permission { PermitSetIn queue.old.frame queue.old.bytes.now queue.new.bytes.now thread permission result }
 {
-    let refused = permit_refusal(f, thread, permission);
-    if refused == DONE {
-        f.store_permission(b, thread, permission);
-    }
-    refused
+    permit_check(queue.frame, thread, permission)?;
+    queue.set_permission(thread, permission);
+    Ok(())
 }
 
-// Sets a thread's permission: 0 if set, else the refusal (7, 3, 1).
-pub fn permit(b: &mut [u8], thread: u32, permission: u32) -> u32
-    ensures { PermitSet b.old b.new thread permission result }
+// Sets a thread's permission on a region that holds one queue, or refuses (7, 3, 1) and changes no byte.
+#[tactic(auto, unfolding(crate::specs::Permit::permit_bytes, crate::specs::Permit::permit_bytes_in, crate::specs::Permit::permit_refusal, crate::specs::Permit::permit_refusal_in, region::specs::Pick::pick))]
+pub fn permit(b: &mut [u8], thread: u32, permission: u32) -> Result<(), Refusal>
+    ensures { PermitSet b.old b.new thread permission (code_of result) }
 {
-    if !readable::is_readable(b) {
-        return UNREADABLE;
-    }
+    require(readable::is_readable(b), Refusal::Unreadable)?;
     let f = readable::frame_of(b);
-    permit_in(f, b, thread, permission)
+    let mut queue = Queue::new(b, f);
+    permit_in(&mut queue, thread, permission)
 }

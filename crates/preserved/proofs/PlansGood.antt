@@ -7,7 +7,7 @@ use mathlib.Core.Bool.{Bool, true, false, not, ◌&&◌, ◌||◌, true≢false}
 use borrow.Author.Tests.{ltb-true, ltb-false, eqb-false, not-true}
 use lib.Dec.{ltb, eqb}
 use lib.Pow.{pow_mono}
-use Rattle.region.specs.Answer.{unreadable, counter_spent}
+use Rattle.region.specs.declared.refusal.Refusal.TheVariants.{Unreadable, CounterSpent}
 use Rattle.region.specs.Level.{ancestor, level}
 use Rattle.region.specs.Pick.{pick}
 use Rattle.region.specs.Record.{counter_size, greatest_tag}
@@ -22,6 +22,7 @@ use Rattle.region.specs.declared.place.Place.TheVariants.{Idle as AtRest, ReadDe
 use Rattle.region.specs.declared.record.Item.{Item}
 use Rattle.region.specs.declared.record.Node.{Node}
 use Rattle.region.specs.declared.record.NodeCopy.{NodeCopy}
+use Rattle.region.specs.declared.refusal.Refusal.{Refusal}
 use Rattle.region.specs.declared.shape.Shape.{Shape}
 use Rattle.region.specs.declared.thread.Search.{Search}
 use Rattle.region.specs.declared.thread.Thread.{Thread}
@@ -160,7 +161,7 @@ pub mending_good : {width : ℕ} (s : Shape) (t : Thread) → FieldsGood width s
 unfolding mending with_node
 mending_good s t g n w hn hw = at_good s (with_node t n) (fields_node s t g n hn) (MendReadNode w) hw
 
-pub refused_good : {width : ℕ} (s : Shape) (t : Thread) → ThreadGood width s t → (n : ℕ) → PlanGood width s (refused t n)
+pub refused_good : {width : ℕ} (s : Shape) (t : Thread) → ThreadGood width s t → (n : Refusal) → PlanGood width s (refused t n)
 unfolding refused
 refused_good s t g n = record { effect = tt; thread = g }
 
@@ -232,7 +233,7 @@ module _ {width : ℕ} (s : Shape) (r : InRange s) (m : Shared) (sm : SharedGood
         pick_good (PlanGood width s) (ltb u.search_state.lo u.search_state.hi) (λ h. on_to_good s u f ReadAncestor tt)
         (λ h. pick_good (PlanGood width s) (between 1 u.search_state.hi (level u.search_state.leaf))
         (λ k. on_to_good s _ (fields_node s u f _ (ancestor_few u.search_state.leaf u.search_state.hi f.leaf)) ReadTarget tt)
-        (λ k. refused_good s u gu unreadable))
+        (λ k. refused_good s u gu Unreadable))
 
     -- I2
     module _ (at_level : is_level s t.depth ≡ true) (leaf : ℕ) (h : LeafOf t.depth leaf) (q : NodeCopy) (hq : CopyGood width s.cells q) where
@@ -269,7 +270,7 @@ module _ {width : ℕ} (s : Shape) (r : InRange s) (m : Shared) (sm : SharedGood
         let leaf = leaf_to_read s t c in
         pick_good (PlanGood width s) (is_level s t.depth)
         (λ h. after_leaf_read_good h leaf (read_leaf_lem s t (between_least 1 t.depth s.depth h) c) _ (read_good leaf))
-        (λ h. refused_good s t gt unreadable)
+        (λ h. refused_good s t gt Unreadable)
 
     -- I3: the middle lies below hi
     middle_few : has_middle t ≡ true → middle_level t + 1 ≤ s.depth
@@ -290,7 +291,7 @@ module _ {width : ℕ} (s : Shape) (r : InRange s) (m : Shared) (sm : SharedGood
     unfolding read_ancestor
     read_ancestor_good =
         pick_good (PlanGood width s) (has_middle t) (λ h. after_ancestor_read_good (middle_level t) (middle_few h) _ (read_good _))
-        (λ h. refused_good s t gt unreadable)
+        (λ h. refused_good s t gt Unreadable)
 
     -- I4
     pub grow_depth_good : PlanGood width s (grow_depth s m t)
@@ -303,14 +304,14 @@ module _ {width : ℕ} (s : Shape) (r : InRange s) (m : Shared) (sm : SharedGood
         (between_least 1 (t.depth + 1) s.depth k, between_most 1 (t.depth + 1) s.depth k)
         (at_good s t g ReadDepth tt))
         (λ e. on_to_good s t g ReadDepth tt))
-        (λ h. refused_good s t gt unreadable)
+        (λ h. refused_good s t gt Unreadable)
 
     -- I5 and I7
     pub read_target_good : PlanGood width s (read_target m t)
     unfolding read_target target_place
     read_target_good =
         let q = read_node m t.node in
-        pick_good (PlanGood width s) (eqb t.node 0) (λ h. refused_good s t gt unreadable)
+        pick_good (PlanGood width s) (eqb t.node 0) (λ h. refused_good s t gt Unreadable)
         (λ h. on_to_good s (with_first t q) (fields_first s t g q (read_good t.node)) (target_place t q)
         (pick_good (PlaceGood s (with_first t q)) (item_lt (value_of q) t.item) (λ k. tt)
         (λ k. pick_good (PlaceGood s (with_first t q)) (eqb t.node 1) (λ e. tt) (λ e. tt))))
@@ -320,7 +321,7 @@ module _ {width : ℕ} (s : Shape) (r : InRange s) (m : Shared) (sm : SharedGood
     read_parent_good =
         let q = read_node m (t.node / 2) in
         let p = pick (item_lt t.item (value_of q)) ReadDepth InsertBelow in
-        pick_good (PlanGood width s) (ltb t.node 2) (λ h. refused_good s t gt unreadable)
+        pick_good (PlanGood width s) (ltb t.node 2) (λ h. refused_good s t gt Unreadable)
         (λ h. on_to_good s (with_second t q) (fields_second s t g q (read_good (t.node / 2))) p
         (pick_good (PlaceGood s (with_second t q)) (item_lt t.item (value_of q)) (λ k. tt) (λ k. tt)))
 
@@ -330,7 +331,7 @@ module _ {width : ℕ} (s : Shape) (r : InRange s) (m : Shared) (sm : SharedGood
     insert_at_good n hn hc holds =
         let q = t.copies.first.node in
         pick_good (PlanGood width s) holds
-        (λ h. pick_good (PlanGood width s) (is_spent q) (λ k. refused_good s t gt counter_spent)
+        (λ h. pick_good (PlanGood width s) (is_spent q) (λ k. refused_good s t gt CounterSpent)
         (λ k. plan_good s (Push n (updated q t.own q.dirty) t.own q.first) (gone_idle t) _
         (hn, hc, updated_good q t.own q.dirty g.first.node k g.own g.first.node.dirty, g.first.node.first)
         (gone_good s t g)))
@@ -342,13 +343,13 @@ module _ {width : ℕ} (s : Shape) (r : InRange s) (m : Shared) (sm : SharedGood
     pub insert_at_root_good : PlanGood width s (insert_at_root m t)
     unfolding insert_at_root
     insert_at_root_good =
-        pick_good (PlanGood width s) (eqb t.own 0) (λ h. refused_good s t gt unreadable)
+        pick_good (PlanGood width s) (eqb t.own 0) (λ h. refused_good s t gt Unreadable)
         (λ h. insert_at_good 1 (omega arith, some_nodes) (own_cell (eqb-false t.own 0 h)) _)
 
     pub insert_below_good : PlanGood width s (insert_below m t)
     unfolding insert_below
     insert_below_good =
-        pick_good (PlanGood width s) (ltb t.node 2 || eqb t.own 0) (λ h. refused_good s t gt unreadable)
+        pick_good (PlanGood width s) (ltb t.node 2 || eqb t.own 0) (λ h. refused_good s t gt Unreadable)
         (λ h. insert_at_good t.node
         (omega (arith, ltb-false t.node 2 (or_left (ltb t.node 2) (eqb t.own 0) h)), g.node)
         (own_cell (eqb-false t.own 0 (or_right (ltb t.node 2) (eqb t.own 0) h)))
@@ -382,8 +383,8 @@ module _ {width : ℕ} (s : Shape) (r : InRange s) (m : Shared) (sm : SharedGood
     cas_root_good back hb removed hr =
         let q = t.copies.first in
         pick_good (PlanGood width s) (same_node (m.node 1) q.node)
-        (λ k. pick_good (PlanGood width s) (eqb q.node.first 0) (λ h. refused_good s t gt unreadable)
-        (λ h. pick_good (PlanGood width s) (is_spent q.node) (λ e. refused_good s t gt counter_spent)
+        (λ k. pick_good (PlanGood width s) (eqb q.node.first 0) (λ h. refused_good s t gt Unreadable)
+        (λ h. pick_good (PlanGood width s) (is_spent q.node) (λ e. refused_good s t gt CounterSpent)
         (λ e. hr (eqb-false q.node.first 0 h) e)))
         (λ k. on_to_good s t g back hb)
 
@@ -413,7 +414,7 @@ module _ {width : ℕ} (s : Shape) (r : InRange s) (m : Shared) (sm : SharedGood
     hand_out_good =
         let c = m.cell t.own in
         let f = fields_own s t g c.next (sm.cell t.own).next in
-        pick_good (PlanGood width s) (eqb t.own 0) (λ h. refused_good s t gt unreadable)
+        pick_good (PlanGood width s) (eqb t.own 0) (λ h. refused_good s t gt Unreadable)
         (λ h. plan_good s (Free t.own) _ _ (own_cell (eqb-false t.own 0 h))
         (pick_good (ThreadGood width s) (eqb c.next 0) (λ k. gone_good s t g) (λ k. at_good s (with_own t c.next) f HandOut tt)))
 
@@ -422,7 +423,7 @@ module _ {width : ℕ} (s : Shape) (r : InRange s) (m : Shared) (sm : SharedGood
     unfolding withdrawal
     withdrawal_good =
         pick_good (PlanGood width s) (is_put_place t.place)
-        (λ p. pick_good (PlanGood width s) (eqb t.own 0) (λ h. refused_good s t gt unreadable)
+        (λ p. pick_good (PlanGood width s) (eqb t.own 0) (λ h. refused_good s t gt Unreadable)
         (λ h. plan_good s (Free t.own) _ Withdrawn (own_cell (eqb-false t.own 0 h)) (gone_good s t g)))
         (λ p. plan_good s Nothing _ Withdrawn tt (gone_good s t g))
 
@@ -454,7 +455,7 @@ module _ {width : ℕ} (s : Shape) (r : InRange s) (m : Shared) (sm : SharedGood
       unfolding mend_read_node with_first
       mend_read_node_good =
           let q = read_node m t.node in
-          pick_good (PlanGood width s) (eqb t.node 0) (λ h. refused_good s t gt unreadable)
+          pick_good (PlanGood width s) (eqb t.node 0) (λ h. refused_good s t gt Unreadable)
           (λ h. on_to_good s (with_first t q) (fields_first s t g q (read_good t.node)) (MendReadDepth w) hw)
 
       -- M2
@@ -464,7 +465,7 @@ module _ {width : ℕ} (s : Shape) (r : InRange s) (m : Shared) (sm : SharedGood
           let u = with_depth t m.depth in
           let f = fields_depth s t g m.depth sm.depth_most in
           pick_good (PlanGood width s) (is_dirty t.copies.first.node)
-          (λ k. pick_good (PlanGood width s) (eqb t.node 0) (λ h. refused_good s t gt unreadable)
+          (λ k. pick_good (PlanGood width s) (eqb t.node 0) (λ h. refused_good s t gt Unreadable)
           (λ h. pick_good (PlanGood width s) (eqb (level t.node) m.depth) (λ e. on_to_good s u f (MendClean w) hw)
           (λ e. on_to_good s u f (MendReadLeft w) hw)))
           (λ k. returning_good Nothing tt u f refl)
@@ -476,7 +477,7 @@ module _ {width : ℕ} (s : Shape) (r : InRange s) (m : Shared) (sm : SharedGood
           let q = read_node m (2 * t.node) in
           pick_good (PlanGood width s) (is_node s (2 * t.node))
           (λ h. on_to_good s (with_second t q) (fields_second s t g q (read_good (2 * t.node))) (MendReadRight w) hw)
-          (λ h. refused_good s t gt unreadable)
+          (λ h. refused_good s t gt Unreadable)
 
       -- M4
       pub after_children_read_good : (u : Thread) → FieldsGood width s u → u.node ≡ t.node → 1 ≤ t.node → 2 * t.node + 1 ≤ node_count s
@@ -503,7 +504,7 @@ module _ {width : ℕ} (s : Shape) (r : InRange s) (m : Shared) (sm : SharedGood
           (λ h. let ne = eqb-false t.node 0 (not-true (eqb t.node 0) (and_left (not (eqb t.node 0)) (is_node s c) h)) in
           after_children_read_good (with_third t q) (fields_third s t g q (read_good c)) refl (omega arith)
           (between_most 1 c (node_count s) (and_right (not (eqb t.node 0)) (is_node s c) h)))
-          (λ h. refused_good s t gt unreadable)
+          (λ h. refused_good s t gt Unreadable)
 
       -- M5
       pub exchange_with_good : (c : ℕ) (k : Node) → 2 * t.node ≤ c → c ≤ 2 * t.node + 1 → NodeGood width s.cells k
@@ -516,7 +517,7 @@ module _ {width : ℕ} (s : Shape) (r : InRange s) (m : Shared) (sm : SharedGood
           let cl = between_least 1 c (node_count s) (and_right (not (eqb t.node 0)) (is_node s c) h) in
           let cu = between_most 1 c (node_count s) (and_right (not (eqb t.node 0)) (is_node s c) h) in
           pick_good (PlanGood width s) (node_and_child_same m t c k)
-          (λ y. pick_good (PlanGood width s) (is_spent n || is_spent k) (λ e. refused_good s t gt counter_spent)
+          (λ y. pick_good (PlanGood width s) (is_spent n || is_spent k) (λ e. refused_good s t gt CounterSpent)
           (λ e. plan_good s (Exchange t.node (updated n k.first 0) c (updated k n.first 1)) (mending t c w) Moved (
             (omega arith, g.node),
             (cl, cu),
@@ -527,7 +528,7 @@ module _ {width : ℕ} (s : Shape) (r : InRange s) (m : Shared) (sm : SharedGood
           )
           (mending_good s t g c w cu (waits_at_child t.node c w (omega arith) lo hi (omega (arith, cu, few_nodes)) hw))))
           (λ y. on_to_good s t g (MendReadNode w) hw))
-          (λ h. refused_good s t gt unreadable)
+          (λ h. refused_good s t gt Unreadable)
 
       pub mend_swap_good : PlanGood width s (mend_swap s m t w)
       unfolding mend_swap
@@ -541,10 +542,10 @@ module _ {width : ℕ} (s : Shape) (r : InRange s) (m : Shared) (sm : SharedGood
       unfolding mend_clean clean_at
       mend_clean_good =
           let n = t.copies.first.node in
-          pick_good (PlanGood width s) (eqb t.node 0) (λ h. refused_good s t gt unreadable)
+          pick_good (PlanGood width s) (eqb t.node 0) (λ h. refused_good s t gt Unreadable)
           (λ h. let ne = eqb-false t.node 0 h in
           pick_good (PlanGood width s) (same_node (m.node t.node) n)
-          (λ k. pick_good (PlanGood width s) (is_spent n) (λ e. refused_good s t gt counter_spent)
+          (λ k. pick_good (PlanGood width s) (is_spent n) (λ e. refused_good s t gt CounterSpent)
           (λ e. returning_good (Clean t.node (updated n n.first 0))
           ((omega arith, g.node), updated_good n n.first 0 g.first.node e g.first.node.first (omega arith))
           t g refl))

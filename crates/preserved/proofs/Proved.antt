@@ -11,7 +11,8 @@ use lib.Dec.{leb, eqb}
 use lib.ListN.{length}
 use Rattle.words.specs.Word.{word, set_word}
 use Rattle.words.proofs.Laws.{word_other, word_same, length-set_word}
-use Rattle.region.specs.Answer.{done, bad_thread}
+use Rattle.region.specs.Refusal.{done}
+use Rattle.region.specs.declared.refusal.Refusal.TheVariants.{BadThread}
 use Rattle.region.specs.Frame.{frame_of_width, threads_of}
 use Rattle.region.specs.Inner.{Framed, InRange, ThreadFits}
 use Rattle.region.specs.Pick.{pick}
@@ -25,10 +26,12 @@ use Rattle.region.specs.declared.place.Place.{Place}
 use Rattle.region.specs.declared.place.Place.TheVariants.{Idle, ReadDepth, ReadLeaf, ReadAncestor, GrowDepth, ReadTarget, InsertAtRoot, ReadParent, InsertBelow, ReadRoot, RemoveHead, MendReadNode, MendReadDepth, MendReadLeft, MendReadRight, MendSwap, MendClean, ListReadRoot, RemoveList, HandOut}
 use Rattle.region.specs.declared.record.Cell.{Cell}
 use Rattle.region.specs.declared.record.Item.{Item}
+use Rattle.region.specs.declared.refusal.Refusal.{Refusal}
 use Rattle.region.specs.declared.shape.Shape.{Shape}
 use Rattle.region.specs.declared.thread.Thread.{Thread}
 use Rattle.region.proofs.Entries.{entry_end}
 use Rattle.region.proofs.Picks.{pick_good, upd_other}
+use Rattle.region.proofs.Refusals.{passes}
 use Rattle.region.proofs.Shapes.{and_left, and_right, between_least, between_most}
 use Rattle.region.proofs.Views.{length-set_cell_in, length-set_thread_in, others_set_permission, outside_word, permission_there, shared_set_cell, shared_set_free, threads_kept, threads_outside, threads_set_cell, threads_set_free, threads_set_thread, word_set_cell, word-set_cell_in, word_set_node, word_set_permission, word_set_thread}
 use Rattle.access.specs.Effect.{effect_bytes, freed_bytes, push_bytes}
@@ -98,7 +101,7 @@ module _ {width : ℕ} (f : Frame) (b : List ℕ) (g : GoodOfWidth width f b) (t
       (λ e. keeps_more record_keeps
       (keeps_effect f (set_thread_in f b t p.thread) record_keeps.good p.effect ge))
 
-pub refused_stays : (f : Frame) (b : List ℕ) (t : ℕ) (v : Thread) (n : ℕ) → carried_out f b t (refused v n) ≡ b
+pub refused_stays : (f : Frame) (b : List ℕ) (t : ℕ) (v : Thread) (n : Refusal) → carried_out f b t (refused v n) ≡ b
 unfolding carried_out refused pick
 refused_stays f b t v n = refl
 
@@ -114,7 +117,7 @@ module _ (f : Frame) (b : List ℕ) (g : Good f b) (t c : ℕ) where
       let p = plan_in_range f b g t c in
       pick_good (λ p. Keeps f b (carried_out f b t p)) (between 1 t f.shape.threads)
       (λ e. carried_keeps f b g t (between_least 1 t f.shape.threads e) (between_most 1 t f.shape.threads e) _ p p.effect)
-      (λ e. subst (Keeps f b) (sym (refused_stays f b t (idle_thread 0) bad_thread)) (keeps_same g))
+      (λ e. subst (Keeps f b) (sym (refused_stays f b t (idle_thread 0) BadThread)) (keeps_same g))
 
 pub turn_keeps_readable : TurnKeepsReadable
 turn_keeps_readable b e t c = readable_kept b _ e (turn_keeps (frame_in b) b (good b e) t c)
@@ -122,12 +125,7 @@ turn_keeps_readable b e t c = readable_kept b _ e (turn_keeps (frame_in b) b (go
 pub turn_keeps_shape : TurnKeepsShape
 turn_keeps_shape b e t c = shape_kept b _ e (turn_keeps (frame_in b) b (good b e) t c)
 
--- Beginnings. Where no refusal applies, the first test holds and none of the other refusals applies
-in_order : (q : Bool) (a n : ℕ) → (n ≡ 0 → ⊥) → pick q a n ≡ 0 → (q ≡ true) × (a ≡ 0)
-unfolding pick
-in_order true a n h e = (refl, e)
-in_order false a n h e = absurd (h e)
-
+-- Beginnings.
 -- A take: what one that is not refused passed
 pub record TakePassed (f : Frame) (b : List ℕ) (t : ℕ) : Type 0 where
   pub thread : between 1 t f.shape.threads ≡ true
@@ -138,9 +136,9 @@ pub take_passed : (f : Frame) (b : List ℕ) (t : ℕ) → take_refusal_in f b t
 unfolding take_refusal_in
 take_passed f b t e =
     let x = thread_in f b t in
-    let thread = in_order (between 1 t f.shape.threads) _ 3 (λ z. omega arith) e in
-    let permitted = in_order (may_take x) _ 8 (λ z. omega arith) thread.1 in
-    let idle = in_order (is_idle x) _ 9 (λ z. omega arith) permitted.1 in
+    let thread = passes (between 1 t f.shape.threads) _ _ e in
+    let permitted = passes (may_take x) _ _ thread.1 in
+    let idle = passes (is_idle x) _ _ permitted.1 in
     record { thread = thread.0; permitted = permitted.0; idle = idle.0 }
 
 pub begun_take_good : {width : ℕ} (s : Shape) (t : Thread) → ThreadGood width s t → (p : Place) → BeginsAt p → ThreadGood width s (at_place t p)
@@ -233,11 +231,11 @@ pub put_passed : (f : Frame) (b : List ℕ) (t : ℕ) (i : Item) → put_refusal
 unfolding put_refusal_in
 put_passed f b t i e =
     let x = thread_in f b t in
-    let thread = in_order (between 1 t f.shape.threads) _ 3 (λ z. omega arith) e in
-    let item = in_order (is_item i) _ 4 (λ z. omega arith) thread.1 in
-    let permitted = in_order (may_put x) _ 8 (λ z. omega arith) item.1 in
-    let idle = in_order (is_idle x) _ 9 (λ z. omega arith) permitted.1 in
-    let cell = in_order (has_free_cell f b) _ 10 (λ z. omega arith) idle.1 in
+    let thread = passes (between 1 t f.shape.threads) _ _ e in
+    let item = passes (is_item i) _ _ thread.1 in
+    let permitted = passes (may_put x) _ _ item.1 in
+    let idle = passes (is_idle x) _ _ permitted.1 in
+    let cell = passes (has_free_cell f b) _ _ idle.1 in
     record { thread = thread.0; item = item.0; permitted = permitted.0; idle = idle.0; cell = cell.0 }
 
 pub begun_put_good : {width : ℕ} (s : Shape) (t : Thread) → ThreadGood width s t → (i : Item) → i.key < 2 ^ 32 → i.tag ≤ greatest_tag → (own : ℕ)
@@ -331,8 +329,8 @@ pub record PermitPassed (f : Frame) (t p : ℕ) : Type 0 where
 pub permit_passed : (f : Frame) (t p : ℕ) → permit_refusal_in f t p ≡ done → PermitPassed f t p
 unfolding permit_refusal_in
 permit_passed f t p e =
-    let thread = in_order (between 1 t f.shape.threads) _ 3 (λ z. omega arith) e in
-    let permission = in_order (leb p greatest_permission) _ 1 (λ z. omega arith) thread.1 in
+    let thread = passes (between 1 t f.shape.threads) _ _ e in
+    let permission = passes (leb p greatest_permission) _ _ thread.1 in
     record { thread = thread.0; permission = leb-true p greatest_permission permission.0 }
 
 module _ (f : Frame) (t p : ℕ) (passed : PermitPassed f t p) where
@@ -433,7 +431,7 @@ module _ (f : Frame) (b : List ℕ) (g : Good f b) where
       pick_good (λ p. thread_in f (carried_out f b t p) u ≡ thread_in f b u) (between 1 t f.shape.threads)
       (λ e. carried_others t (between_least 1 t f.shape.threads e) (between_most 1 t f.shape.threads e) _
       (plan_in_range f b g t c) u n)
-      (λ e. ap (λ x. thread_in f x u) (refused_stays f b t (idle_thread 0) bad_thread))
+      (λ e. ap (λ x. thread_in f x u) (refused_stays f b t (idle_thread 0) BadThread))
 
 pub turn_leaves_others : TurnLeavesOthers
 turn_leaves_others b e t c u n = turn_others (frame_in b) b (good b e) t c u n

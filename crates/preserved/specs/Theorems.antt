@@ -2,7 +2,7 @@
 -- proved under its name in proofs/Proved.antt, the first in proofs/LaidOutIsReadable.antt.
 use Rattle.std.specs.Prelude.{ℕ, ◌+◌, ◌≤◌, ◌<◌, ◌≡◌, ◌⊎◌, true, List, length}
 use Rattle.words.specs.Word.{word}
-use Rattle.region.specs.Answer.{done}
+use Rattle.region.specs.Refusal.{done}
 use Rattle.region.specs.Frame.{nodes_of, cells_of, threads_of}
 use Rattle.region.specs.Record.{counter_size, node_size, cell_size}
 use Rattle.region.specs.Shared.{cell_in, entry, thread_in}

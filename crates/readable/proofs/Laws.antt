@@ -2,9 +2,9 @@
 use Prim.Native.Nat.{ℕ, zero, suc, ◌+◌, ◌*◌, ◌≤◌, ◌<◌}
 use native.Mathlib.Nat.{add-zero, add-suc, suc-add}
 use native.Mathlib.Omega.{arith}
-use mathlib.Core.Path.{◌≡◌, refl, sym, subst, ◌∙◌}
-use mathlib.Core.Bool.{Bool, true, ◌&&◌}
-use mathlib.Core.List.{List, [], ◌∷◌}
+use mathlib.Core.Path.{◌≡◌, refl, sym, ap, subst, ◌∙◌}
+use mathlib.Core.Bool.{Bool, true, ◌&&◌, and_assoc}
+use mathlib.Core.List.{List, [], ◌∷◌, ◌++◌}
 use borrow.Author.Tests.{leb-true, le-leb, eqb-true, eq-eqb}
 use lib.Dec.{leb, eqb}
 use lib.ListN.{length, get_or}
@@ -39,6 +39,15 @@ bounded_at b (m ∷ ms) at (suc i) e l =
     (λ k. word b k ≤ get_or ms i 0)
     (suc-add at i ∙ sym (add-suc at i))
     (bounded_at b ms (suc at) i (and_right (leb (word b at) m) (bounded b (suc at) ms) e) (omega arith))
+
+-- Words with their maxima, and others behind them.
+pub bounded_behind : (b xs ys : List ℕ) (at : ℕ) → bounded b at (xs ++ ys) ≡ bounded b at xs && bounded b (at + length xs) ys
+unfolding bounded
+bounded_behind b [] ys at = ap (λ k. bounded b k ys) (sym (add-zero at))
+bounded_behind b (x ∷ xs) ys at =
+    let e : suc at + length xs ≡ at + suc (length xs) = omega arith in
+    ap (λ q. leb (word b at) x && q) (bounded_behind b xs ys (suc at) ∙ ap (λ k. bounded b (suc at) xs && bounded b k ys) e)
+    ∙ sym (and_assoc (leb (word b at) x) (bounded b (suc at) xs) (bounded b (at + suc (length xs)) ys))
 
 -- Records that pass, one by one and all together.
 pub all_pass : (test : List ℕ → ℕ → Bool) (stride : ℕ) (b : List ℕ) (at n : ℕ)

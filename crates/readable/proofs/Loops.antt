@@ -1,12 +1,13 @@
 -- One pass of each loop and each way out of the functions, over plain variables. Assumes nothing.
-use Prim.Native.Nat.{ℕ, zero, suc, ◌+◌, ◌-◌, ◌*◌, ◌%◌, ◌^◌, ◌≤◌, ◌<◌}
-use native.Mathlib.Nat.{add-suc, add-zero, mul-le-mul_left}
+use Prim.Native.Nat.{ℕ, zero, suc, ◌+◌, ◌-◌, ◌*◌, ◌/◌, ◌%◌, ◌^◌, ◌≤◌, ◌<◌}
+use native.Mathlib.Nat.{add-suc, mul-le-mul_left}
 use native.Mathlib.Numerals.{add-one}
 use native.Mathlib.Omega.{arith}
 use mathlib.Core.Path.{◌≡◌, refl, sym, ap, subst, subst₂, ◌∙◌}
-use mathlib.Core.Bool.{Bool, true, false, not, ◌&&◌, and-true}
-use mathlib.Core.List.{List, [], ◌∷◌}
-use borrow.Author.Tests.{lt-leb, le-leb, eq-eqb, ne_eqb, eqb-true, not-true, not-false}
+use mathlib.Core.Logic.{◌≢◌}
+use mathlib.Core.Bool.{Bool, true, false, ◌&&◌}
+use mathlib.Core.List.{List, [], ◌∷◌, ◌++◌}
+use borrow.Author.Tests.{lt-leb, le-leb, eq-eqb, ne_eqb, eqb-true}
 use lib.Dec.{leb, eqb}
 use lib.ListN.{length, get_or, drop, drop_of_length-le}
 use lib.Pow.{pow_pos}
@@ -14,45 +15,27 @@ use lib.Seq.{drop-cons}
 use Rattle.words.specs.Inner.{Bytes}
 use Rattle.words.specs.Word.{word}
 use Rattle.words.proofs.Laws.{word_fits}
-use Rattle.region.specs.Frame.{frame_of, frame_of_width}
+use Rattle.region.specs.Frame.{frame_of_width}
 use Rattle.region.specs.Inner.{InRange, Width, one_word, two_words}
 use Rattle.region.specs.Level.{level}
 use Rattle.region.specs.Pick.{pick}
 use Rattle.region.specs.Shape.{between, shape_fits, node_count, region_words_of_width}
-use Rattle.region.specs.Record.{counter_size, node_size, cell_size}
+use Rattle.region.specs.Record.{copy_size, node_size}
 use Rattle.region.specs.Thread.{thread_size, place_word, tries_word, node_word, waiting_word}
 use Rattle.region.specs.declared.frame.Frame.{Frame}
 use Rattle.region.specs.declared.shape.Shape.{Shape}
 use Rattle.region.proofs.Frames.{frame_framed}
 use Rattle.region.proofs.Levels.{level_most}
 use Rattle.region.proofs.Shapes.{and_left, and_right, in_range, shifted}
-use Rattle.readable.specs.Readable.{any_word, thread_maxima, greatest_tries, greatest_waiting, bounded, node_readable, cell_readable, thread_passes, all_records, tree_readable, fields_readable, shape_in, is_whole, is_whole_of_width, readable_of_width, check_answer}
-use Rattle.readable.specs.Inner.{FrameWithin, ThreadWithin, ThreadsWithin, WideWithin}
-
--- A record of three words.
-module _ (b : List ℕ) (at x y z : ℕ) (u : ℕ) (eu : u ≡ word b at) where
-  pub first_word_bad : x < u → false ≡ bounded b at (x ∷ y ∷ z ∷ [])
-  unfolding bounded
-  first_word_bad h = rw (← eu, lt-leb u x h) refl
-
-  module _ (l : u ≤ x) (v : ℕ) (ev : v ≡ word b (at + 1)) where
-    pub second_word_bad : y < v → false ≡ bounded b at (x ∷ y ∷ z ∷ [])
-    unfolding bounded
-    second_word_bad h = rw (← eu, le-leb u x l, ← add-one at, ← ev, lt-leb v y h) refl
-
-    pub third_word_decides : v ≤ y → (w : ℕ) → w ≡ word b (at + 2) → leb w z ≡ bounded b at (x ∷ y ∷ z ∷ [])
-    unfolding bounded
-    third_word_decides h w ew =
-        let two : suc (suc at) ≡ at + 2 = omega arith in
-        rw (← eu, le-leb u x l, two, ← add-one at, ← ev, le-leb v y h, ← ew, and-true) refl
+use Rattle.region.proofs.Threads.{copy_long, node_long}
+use Rattle.readable.specs.Readable.{any_word, greatest_node, greatest_copy, node_maxima, cell_maxima, copy_maxima, field_maxima, greatest_tries, greatest_waiting, bounded, node_readable, cell_readable, thread_readable, thread_passes, all_records, fields_readable, shape_in, is_whole_of_width, readable_of_width}
+use Rattle.readable.specs.Inner.{ThreadWithin, WithinOfWidth}
+use Rattle.readable.proofs.Laws.{bounded_behind}
 
 -- Words in a row: those not yet looked at decide.
 pub record Passed (b : List ℕ) (at : ℕ) (ms : List ℕ) (i : ℕ) : Type 0 where
   pub within : i ≤ length ms
   pub left : bounded b (at + i) (drop i ms) ≡ bounded b at ms
-
-pub pass_start : (b : List ℕ) (at : ℕ) (ms : List ℕ) → Passed b at ms 0
-pass_start b at ms = record { within = omega arith; left = ap (λ k. bounded b k ms) (add-zero at) }
 
 module _ {b : List ℕ} {at : ℕ} {ms : List ℕ} {i : ℕ} (e : Passed b at ms i) where
   pub pass_more : (w : ℕ) → i < length ms → w ≡ word b (at + i) → w ≤ get_or ms i 0 → Passed b at ms (i + 1)
@@ -74,79 +57,90 @@ module _ {b : List ℕ} {at : ℕ} {ms : List ℕ} {i : ℕ} (e : Passed b at ms
   unfolding bounded
   pass_end h = rw (drop_of_length-le ms h) at e.left
 
--- Records: the m from word k on, not yet looked at, decide.
-pub record Scanned (test : List ℕ → ℕ → Bool) (stride : ℕ) (b : List ℕ) (at n k m : ℕ) : Type 0 where
-  pub within : k + stride * m ≡ at + stride * n
-  pub left : all_records test stride b k m ≡ all_records test stride b at n
+-- Records: those not yet looked at, from record i on, decide.
+pub record Scanned (test : List ℕ → ℕ → Bool) (stride : ℕ) (b : List ℕ) (at n i : ℕ) : Type 0 where
+  pub within : i ≤ n
+  pub left : all_records test stride b (at + stride * i) (n - i) ≡ all_records test stride b at n
 
-pub scan_start : (test : List ℕ → ℕ → Bool) (stride : ℕ) (b : List ℕ) (at n : ℕ) → Scanned test stride b at n at n
-scan_start test stride b at n = record { within = refl; left = refl }
+pub scan_start : (test : List ℕ → ℕ → Bool) (stride : ℕ) (b : List ℕ) (at n : ℕ) → Scanned test stride b at n 0
+scan_start test stride b at n =
+    let k : at + stride * 0 ≡ at = omega arith in
+    let m : n - 0 ≡ n = omega arith in
+    record { within = omega arith; left = λ j. all_records test stride b (k j) (m j) }
 
-module _ {test : List ℕ → ℕ → Bool} {stride : ℕ} {b : List ℕ} {at n k m : ℕ} (e : Scanned test stride b at n k m) where
-  scan_step : 0 < m → test b k && all_records test stride b (k + stride) (m - 1) ≡ all_records test stride b at n
+module _ {test : List ℕ → ℕ → Bool} {stride : ℕ} {b : List ℕ} {at n i : ℕ} (e : Scanned test stride b at n i) where
+  scan_step : i < n
+      → test b (at + stride * i) && all_records test stride b (at + stride * i + stride) (n - (i + 1)) ≡ all_records test stride b at n
   unfolding all_records
   scan_step h =
-      let j : m ≡ suc (m - 1) = omega arith in
-      ap (all_records test stride b k) (sym j) ∙ e.left
+      let m : n - i ≡ suc (n - (i + 1)) = omega arith in
+      ap (all_records test stride b (at + stride * i)) (sym m) ∙ e.left
 
-  pub scan_more : (q : Bool) → 0 < m → q ≡ test b k → not q ≡ false → Scanned test stride b at n (k + stride) (m - 1)
+  pub scan_more : (q : Bool) → i < n → q ≡ test b (at + stride * i) → q ≡ true → Scanned test stride b at n (i + 1)
   scan_more q h eq g =
-      let j : m ≡ (m - 1) + 1 = omega arith in
-      record { within = omega (arith, e.within, ap (λ x. stride * x) j); left = rw (← eq, not-false q g) at (scan_step h) }
+      let k : at + stride * (i + 1) ≡ at + stride * i + stride = omega arith in
+      record {
+        within = omega arith;
+        left = ap (λ x. all_records test stride b x (n - (i + 1))) k ∙ (rw (← eq, g) at (scan_step h));
+      }
 
-  pub scan_bad : (q : Bool) → 0 < m → q ≡ test b k → not q ≡ true → false ≡ all_records test stride b at n
-  scan_bad q h eq g = rw (← eq, not-true q g) at (scan_step h)
+  pub scan_bad : (q : Bool) → i < n → q ≡ test b (at + stride * i) → q ≡ false → false ≡ all_records test stride b at n
+  scan_bad q h eq g = rw (← eq, g) at (scan_step h)
 
-  pub scan_last : 0 < m → m ≤ 1 → (r : Bool) → r ≡ test b k → r ≡ all_records test stride b at n
-  unfolding all_records
-  scan_last h l r er =
-      let j : m - 1 ≡ 0 = omega arith in
-      er
-      ∙ sym (and-true (test b k))
-      ∙ ap (λ x. test b k && all_records test stride b (k + stride) x) (sym j)
-      ∙ scan_step h
-
-  pub scan_end : m ≤ 0 → true ≡ all_records test stride b at n
+  pub scan_end : n ≤ i → true ≡ all_records test stride b at n
   unfolding all_records
   scan_end h =
-      let j : 0 ≡ m = omega arith in
-      ap (all_records test stride b k) j ∙ e.left
+      let m : 0 ≡ n - i = omega arith in
+      ap (all_records test stride b (at + stride * i)) m ∙ e.left
 
--- Two records in a pass.
-module _ {test : List ℕ → ℕ → Bool} {stride : ℕ} {b : List ℕ} {at n k m : ℕ} (e : Scanned test stride b at n k m)
-    (h : 1 < m) (q : Bool) (eq : q ≡ test b k) where
-  pub first_bad : not q ≡ true → false ≡ all_records test stride b at n
-  first_bad = scan_bad e q (omega arith) eq
+pub scan_last : {test : List ℕ → ℕ → Bool} {stride : ℕ} {b : List ℕ} {at n i : ℕ} → Scanned test stride b at n i → i < n → n ≤ i + 1
+    → (r : Bool) → r ≡ test b (at + stride * i) → r ≡ all_records test stride b at n
+scan_last e h l true er = scan_end (scan_more e true h er refl) l
+scan_last e h l false er = scan_bad e false h er refl
 
-  module _ (gq : not q ≡ false) (p : Bool) (ep : p ≡ test b (k + stride)) where
-    one_passed : Scanned test stride b at n (k + stride) (m - 1)
-    one_passed = scan_more e q (omega arith) eq gq
+-- two records in a pass
+module _ {test : List ℕ → ℕ → Bool} {stride : ℕ} {b : List ℕ} {at n i : ℕ} (e : Scanned test stride b at n (2 * i)) where
+  module _ (h : i < n / 2) (q : Bool) (eq : q ≡ test b (at + stride * (2 * i))) (gq : q ≡ true) (p : Bool)
+      (ep : p ≡ test b (at + stride * (2 * i) + stride)) where
+    one_more : Scanned test stride b at n (2 * i + 1)
+    one_more = scan_more e q (omega arith) eq gq
 
-    pub second_bad : not p ≡ true → false ≡ all_records test stride b at n
-    second_bad = scan_bad one_passed p (omega arith) ep
+    second : p ≡ test b (at + stride * (2 * i + 1))
+    second =
+        let k : at + stride * (2 * i) + stride ≡ at + stride * (2 * i + 1) = omega arith in
+        ep ∙ ap (test b) k
 
-    pub two_passed : not p ≡ false → Scanned test stride b at n (k + (stride + stride)) (m - 2)
-    two_passed gp =
-        let j : k + stride + stride ≡ k + (stride + stride) = omega arith in
-        let i : m - 1 - 1 ≡ m - 2 = omega arith in
-        subst₂ (λ x y. Scanned test stride b at n x y) j i (scan_more one_passed p (omega arith) ep gp)
+    pub second_bad : p ≡ false → false ≡ all_records test stride b at n
+    second_bad = scan_bad one_more p (omega arith) second
 
--- where two records are left, and where one is
-module _ {test : List ℕ → ℕ → Bool} {stride : ℕ} {b : List ℕ} {at n k m : ℕ} (l : ℕ) (e : Scanned test stride b at n k m)
-    (room : 4 * (at + stride * n) ≤ l) where
-  pub two_within : 1 < m → 4 * (k + (stride + stride)) ≤ l
-  two_within h = omega (arith, e.within, room, mul-le-mul_left stride h)
+    pub two_more : p ≡ true → Scanned test stride b at n (2 * (i + 1))
+    two_more gp =
+        let j : 2 * i + 1 + 1 ≡ 2 * (i + 1) = omega arith in
+        subst (Scanned test stride b at n) j (scan_more one_more p (omega arith) second gp)
 
-  pub one_within : (m ≡ 0 → ⊥) → 4 * (k + stride) ≤ l
-  one_within h = let some : 1 ≤ m = omega arith in omega (arith, e.within, room, mul-le-mul_left stride some)
+  pub last_decides : n / 2 ≤ i → n % 2 ≢ 0 → (r : Bool) → r ≡ test b (at + stride * (n - 1)) → r ≡ all_records test stride b at n
+  last_decides l o r er =
+      let within = e.within in
+      let k : n - 1 ≡ 2 * i = omega arith in
+      scan_last e (omega arith) (omega arith) r (er ∙ ap (λ x. test b (at + stride * x)) k)
 
-pub none_left : {test : List ℕ → ℕ → Bool} {stride : ℕ} {b : List ℕ} {at n k m : ℕ} → Scanned test stride b at n k m → m ≡ 0
-    → true ≡ all_records test stride b at n
-none_left e z = scan_end e (omega arith)
+-- two records that end within l bytes, and the last of an odd number
+module _ (l at stride n m : ℕ) (room : 4 * (at + stride * n) ≤ l) (words : m ≤ stride) where
+  pub two_end : (i : ℕ) → i < n / 2 → 4 * (at + stride * (2 * i) + stride + m) ≤ l
+  two_end i h =
+      let some : 2 * i + 2 ≤ n = omega arith in
+      omega (arith, room, mul-le-mul_left stride some)
 
-pub one_left : {test : List ℕ → ℕ → Bool} {stride : ℕ} {b : List ℕ} {at n k m : ℕ} → Scanned test stride b at n k m → m ≤ 1
-    → (m ≡ 0 → ⊥) → (r : Bool) → r ≡ test b k → r ≡ all_records test stride b at n
-one_left e l z r er = scan_last e (omega arith) l r er
+  pub last_ends : n % 2 ≢ 0 → 4 * (at + stride * (n - 1) + m) ≤ l
+  last_ends h =
+      let some : n - 1 + 1 ≤ n = omega arith in
+      omega (arith, room, mul-le-mul_left stride some)
+
+-- a record of a part that ends within l bytes ends there too
+pub record_ends : (l at stride size n i : ℕ) → stride ≡ size → i < n → 4 * (at + size * n) ≤ l → 4 * (at + stride * i + size) ≤ l
+record_ends l at stride size n i e h r =
+    let some : suc i ≤ n = omega arith in
+    subst (λ k. 4 * (at + k * i + size) ≤ l) (sym e) (omega (arith, r, mul-le-mul_left size some))
 
 -- The rules that depend on the place.
 module _ (s : Shape) (place : ℕ) where
@@ -159,17 +153,17 @@ module _ (s : Shape) (place : ℕ) where
   tries_else n = rw (ne_eqb place 2 n) refl
 
 module _ (place node : ℕ) (q : Bool) (eq : q ≡ between 11 place 16) where
-  pub not_mending : not q ≡ true → 0 ≡ greatest_waiting place node
+  pub not_mending : q ≡ false → 0 ≡ greatest_waiting place node
   unfolding greatest_waiting pick
-  not_mending h = rw (← eq, not-true q h) refl
+  not_mending h = rw (← eq, h) refl
 
-  module _ (h : not q ≡ false) (l : ℕ) (e : l ≡ level node) where
+  module _ (h : q ≡ true) (l : ℕ) (e : l ≡ level node) where
     few_levels : l ≤ 32
     few_levels = omega (arith, level_most node)
 
     pub mending_none : l ≡ 0 → 0 ≡ greatest_waiting place node
     unfolding greatest_waiting pick
-    mending_none z = rw (← eq, not-false q h, ← e, z) refl
+    mending_none z = rw (← eq, h, ← e, z) refl
 
     module _ (n : l ≡ 0 → ⊥) where
       pub mark_shift : l - 1 < 32
@@ -180,25 +174,7 @@ module _ (place node : ℕ) (q : Bool) (eq : q ≡ between 11 place 16) where
 
       pub mending_marks : (1 * 2 ^ (l - 1)) % 2 ^ 32 - 1 ≡ greatest_waiting place node
       unfolding greatest_waiting pick
-      mending_marks = rw (shifted 32 (l - 1) mark_shift, ← eq, not-false q h, ← e) refl
-
--- A thread's record: the first test that fails decides.
-module _ (s : Shape) (b : List ℕ) (at : ℕ) (q : Bool) (ms : List ℕ) (words_test : q ≡ bounded b at ms) where
-  pub thread_bad : not q ≡ true → false ≡ thread_passes ms s b at
-  unfolding thread_passes
-  thread_bad n = rw (← words_test, not-true q n) refl
-
-  module _ (gq : not q ≡ false) (p : ℕ) (ep : p ≡ word b (at + place_word)) (m : ℕ) (em : m ≡ greatest_tries s p) (t : ℕ)
-      (et : t ≡ word b (at + tries_word)) where
-    pub tries_bad : m < t → false ≡ thread_passes ms s b at
-    unfolding thread_passes
-    tries_bad h = rw (← words_test, not-false q gq, ← ep, ← em, ← et, lt-leb t m h) refl
-
-    pub thread_rest : t ≤ m → (w : ℕ) → w ≡ word b (at + waiting_word) → (n : ℕ) → n ≡ word b (at + node_word) → (x : ℕ) → x ≡ greatest_waiting p n
-        → leb w x ≡ thread_passes ms s b at
-    unfolding thread_passes
-    thread_rest h w ew n en x ex =
-        rw (← words_test, not-false q gq, ← ep, ← em, ← et, le-leb t m h, ← ew, ← en, ← ex) refl
+      mending_marks = rw (shifted 32 (l - 1) mark_shift, ← eq, h, ← e) refl
 
 -- "Counters .. are free": a node's counter passes, of one word or of two, so its first three words decide.
 any_high : (cells : ℕ) (b : List ℕ) → Bytes b → (at : ℕ)
@@ -208,10 +184,10 @@ any_high cells b h at =
     let fits = word_fits b (suc (suc (suc at))) h in
     rw (le-leb (word b (suc (suc (suc at)))) any_word (omega arith)) refl
 
-pub node_decides : {w : ℕ} → Width w → (cells : ℕ) (b : List ℕ) → Bytes b → (at : ℕ)
-    → node_readable w cells b at ≡ bounded b at (cells ∷ 1 ∷ any_word ∷ [])
-node_decides one_word cells b h at = refl
-node_decides two_words cells b h at = any_high cells b h at
+pub node_test : {w : ℕ} → Width w → (cells : ℕ) (b : List ℕ) → Bytes b → (at : ℕ)
+    → bounded b at (cells ∷ 1 ∷ any_word ∷ []) ≡ node_readable w cells b at
+node_test one_word cells b h at = refl
+node_test two_words cells b h at = sym (any_high cells b h at)
 
 all_same : (test other : List ℕ → ℕ → Bool) (stride : ℕ) (b : List ℕ) → ((at : ℕ) → test b at ≡ other b at) → (at n : ℕ)
     → all_records test stride b at n ≡ all_records other stride b at n
@@ -219,107 +195,125 @@ unfolding all_records
 all_same test other stride b h at zero = refl
 all_same test other stride b h at (suc n) = λ i. h at i && all_same test other stride b h (at + stride) n i
 
--- the nodes of a frame, `size` words each
-module _ (f : Frame) (size : ℕ) (es : size ≡ 2 + f.width) where
-  pub nodes_room : (l : ℕ) → FrameWithin f l → (k : ℕ) → k ≡ node_count f.shape → (4 * (f.nodes + size * k) ≤ l) × (3 ≤ size)
-  nodes_room l g k ek = (
-    subst₂ (λ m n. 4 * (f.nodes + m * n) ≤ l) (sym es) (sym ek) g.nodes,
-    subst (λ m. 3 ≤ m) (sym es) (some g.width),
-  )
-    where
-      some : {w : ℕ} → Width w → 3 ≤ 2 + w
-      some one_word = omega arith
-      some two_words = omega arith
+-- A node copy is a node and a cell behind it; three stand one behind the other.
+pub copy_test : {w : ℕ} → Width w → (cells : ℕ) (b : List ℕ) (at : ℕ)
+    → node_readable w cells b at && cell_readable cells b (at + node_size w) ≡ bounded b at (copy_maxima w cells)
+copy_test {w} wide cells b at =
+    ap (λ k. node_readable w cells b at && cell_readable cells b (at + k)) (sym (node_long wide (greatest_node cells)))
+    ∙ sym (bounded_behind b (node_maxima w cells) (cell_maxima cells) at)
 
-  pub nodes_decide : (b : List ℕ) → FrameWithin f (length b) → Bytes b → (k : ℕ) → k ≡ node_count f.shape → (r : Bool)
-      → r ≡ all_records (λ l j. bounded l j (f.shape.cells ∷ 1 ∷ any_word ∷ [])) size b f.nodes k
-      → r ≡ all_records (node_readable f.width f.shape.cells) (node_size f.width) b f.nodes (node_count f.shape)
-  nodes_decide b g bytes k ek r er =
-      let first : List ℕ → ℕ → Bool = λ l j. bounded l j (f.shape.cells ∷ 1 ∷ any_word ∷ []) in
-      er
-      ∙ (λ i. all_records first (es i) b f.nodes (ek i))
-      ∙ sym
-      (all_same (node_readable f.width f.shape.cells) first (2 + f.width) b (node_decides g.width f.shape.cells b bytes) f.nodes
-      (node_count f.shape))
+pub copies_test : {w : ℕ} → Width w → (cells : ℕ) (b : List ℕ) (at : ℕ) → let c = copy_maxima w cells in
+    bounded b at c && (bounded b (at + copy_size w) c && bounded b (at + 2 * copy_size w) c) ≡ bounded b at (c ++ (c ++ c))
+copies_test {w} wide cells b at =
+    let c = copy_maxima w cells in
+    let long : length c ≡ copy_size w = copy_long wide (greatest_copy cells) in
+    let second : at + length c ≡ at + copy_size w = ap (λ k. at + k) long in
+    let third : at + length c + length c ≡ at + 2 * copy_size w = omega (arith, long) in
+    sym
+    (bounded_behind b c (c ++ c) at
+    ∙ ap (λ q. bounded b at c && q)
+    (bounded_behind b c c (at + length c) ∙ (λ i. bounded b (second i) c && bounded b (third i) c)))
 
-pub two_word_nodes : (f : Frame) (l : ℕ) → WideWithin f l → node_size counter_size ≡ 2 + f.width
-two_word_nodes f l g = ap (λ w. 2 + w) (sym g.two)
+module _ {w : ℕ} (wide : Width w) (cells : ℕ) (b : List ℕ) (at : ℕ) (q : Bool) (eq : q ≡ bounded b at (copy_maxima w cells)) where
+  abbrev three : List ℕ
+  three = copy_maxima w cells ++ (copy_maxima w cells ++ copy_maxima w cells)
 
--- The tree: the first test that fails decides.
-module _ (f : Frame) (b : List ℕ) (d : ℕ) (ed : d ≡ word b f.depth) (q : Bool) (eq : q ≡ between 1 d f.shape.depth) where
-  depth_test : q ≡ between 1 (word b f.depth) f.shape.depth
-  depth_test = eq ∙ ap (λ n. between 1 n f.shape.depth) ed
+  abbrev third : Bool
+  third = bounded b (at + 2 * copy_size w) (copy_maxima w cells)
 
-  pub depth_bad : not q ≡ true → false ≡ tree_readable f b
-  unfolding tree_readable
-  depth_bad n = rw (← depth_test, not-true q n) refl
+  pub first_copy_bad : q ≡ false → false ≡ bounded b at three
+  first_copy_bad n =
+      ap (λ x. x && (bounded b (at + copy_size w) (copy_maxima w cells) && third)) (sym n ∙ eq) ∙ copies_test wide cells b at
 
-  module _ (gq : not q ≡ false) (c : ℕ) (ec : c ≡ word b f.free) where
-    pub free_bad : f.shape.cells < c → false ≡ tree_readable f b
-    unfolding tree_readable
-    free_bad h = rw (← depth_test, not-false q gq, ← ec, lt-leb c f.shape.cells h) refl
+  module _ (gq : q ≡ true) (k : Bool) (ek : k ≡ bounded b (at + copy_size w) (copy_maxima w cells)) where
+    pub second_copy_bad : k ≡ false → false ≡ bounded b at three
+    second_copy_bad n = (λ i. (sym gq ∙ eq) i && ((sym n ∙ ek) i && third)) ∙ copies_test wide cells b at
 
-    module _ (h : c ≤ f.shape.cells) (n : Bool)
-        (nodes_test : n ≡ all_records (node_readable f.width f.shape.cells) (node_size f.width) b f.nodes (node_count f.shape)) where
-      pub nodes_bad : not n ≡ true → false ≡ tree_readable f b
-      unfolding tree_readable
-      nodes_bad z =
-          rw (← depth_test, not-false q gq, ← ec, le-leb c f.shape.cells h, ← nodes_test, not-true n z) refl
+    pub third_copy_decides : k ≡ true → (r : Bool) → r ≡ third → r ≡ bounded b at three
+    third_copy_decides gk r er = (λ i. (sym gq ∙ eq) i && ((sym gk ∙ ek) i && er i)) ∙ copies_test wide cells b at
 
-      pub tree_rest : not n ≡ false → (r : Bool)
-          → r ≡ all_records (cell_readable f.shape.cells) cell_size b f.cells f.shape.cells
-          → r ≡ tree_readable f b
-      unfolding tree_readable
-      tree_rest z r er =
-          rw (← depth_test, not-false q gq, ← ec, le-leb c f.shape.cells h, ← nodes_test, not-false n z) er
+-- Two tests, the second of which is made where the first passes.
+pub first_decides : {a s p : Bool} (z : Bool) → a && z ≡ s → p ≡ a → p ≡ false → p ≡ s
+first_decides z e ep f = f ∙ ap (λ x. x && z) (sym f ∙ ep) ∙ e
 
--- The threads: the record at word k ends within the part, and the first that fails decides.
-module _ {f : Frame} (b ms : List ℕ) (k m : ℕ) (g : ThreadsWithin f (length b) (length ms))
-    (e : Scanned (thread_passes ms f.shape) (length ms) b f.threads f.shape.threads k m) where
-  pub stride_within : 0 < m → 4 * (k + length ms) ≤ length b
-  stride_within h =
-      let all : f.stride * f.shape.threads ≡ length ms * f.shape.threads = ap (λ n. n * f.shape.threads) g.stride in
-      omega (arith, e.within, g.within, all, mul-le-mul_left (length ms) h)
+pub second_decides : {a z s p r : Bool} → a && z ≡ s → p ≡ a → p ≡ true → r ≡ z → r ≡ s
+second_decides e ep t er = (λ i. (sym t ∙ ep) i && er i) ∙ e
 
-  pub thread_within : 0 < m → ThreadWithin f.shape (length b) k (length ms)
-  thread_within h = record { shape = g.shape; within = stride_within h; long = g.long }
+-- A thread's record: the first test that fails decides.
+module _ (w : ℕ) (s : Shape) (b : List ℕ) (at : ℕ) where
+  abbrev copies : List ℕ
+  copies = copy_maxima w s.cells ++ (copy_maxima w s.cells ++ copy_maxima w s.cells)
 
-  by_stride : all_records (thread_passes ms f.shape) (length ms) b f.threads f.shape.threads
-      ≡ all_records (thread_passes ms f.shape) f.stride b f.threads f.shape.threads
-  by_stride = ap (λ n. all_records (thread_passes ms f.shape) n b f.threads f.shape.threads) (sym g.stride)
+  abbrev tries : Bool
+  tries = leb (word b (at + tries_word)) (greatest_tries s (word b (at + place_word)))
 
-  pub thread_fails : (q : Bool) → 0 < m → q ≡ thread_passes ms f.shape b k → not q ≡ true
-      → false ≡ all_records (thread_passes ms f.shape) f.stride b f.threads f.shape.threads
-  thread_fails q h eq n = scan_bad e q h eq n ∙ by_stride
+  abbrev waiting : Bool
+  waiting = leb (word b (at + waiting_word)) (greatest_waiting (word b (at + place_word)) (word b (at + node_word)))
 
-  pub threads_pass : m ≤ 0 → true ≡ all_records (thread_passes ms f.shape) f.stride b f.threads f.shape.threads
-  threads_pass h = scan_end e h ∙ by_stride
+  parts : bounded b at (field_maxima s) && bounded b (at + 15) copies && tries && waiting ≡ thread_readable w s b at
+  unfolding thread_passes
+  parts = ap (λ x. x && tries && waiting) (sym (bounded_behind b (field_maxima s) copies at))
 
--- Every field of the frame's parts.
-module _ (f : Frame) (b : List ℕ) where
-  pub threads_within : WideWithin f (length b) → (ms : List ℕ) → ms ≡ thread_maxima counter_size f.shape
-      → ThreadsWithin f (length b) (length ms)
-  threads_within g ms em =
-      let long : length ms ≡ thread_size counter_size = ap length em in
-      record {
-        shape = g.within.shape;
-        within = g.within.threads;
-        stride = omega (arith, long, g.two, g.within.stride);
-        long = omega (arith, long);
-      }
+  module _ (q : Bool) (eq : q ≡ bounded b at (field_maxima s)) where
+    pub fields_bad : q ≡ false → false ≡ thread_readable w s b at
+    fields_bad n = ap (λ x. x && bounded b (at + 15) copies && tries && waiting) (sym n ∙ eq) ∙ parts
 
-  module _ (t : Bool) (et : t ≡ tree_readable f b) where
-    pub tree_bad : not t ≡ true → false ≡ fields_readable f b
-    unfolding fields_readable
-    tree_bad n = rw (← et, not-true t n) refl
+    module _ (gq : q ≡ true) (k : Bool) (ek : k ≡ bounded b (at + 15) copies) where
+      pub copies_bad : k ≡ false → false ≡ thread_readable w s b at
+      copies_bad n = (λ i. (sym gq ∙ eq) i && (sym n ∙ ek) i && tries && waiting) ∙ parts
 
-    pub fields_rest : not t ≡ false → (w : ℕ) → f.width ≡ w → (ms : List ℕ) → ms ≡ thread_maxima w f.shape → (r : Bool)
-        → r ≡ all_records (thread_passes ms f.shape) f.stride b f.threads f.shape.threads → r ≡ fields_readable f b
-    unfolding fields_readable
-    fields_rest n w ew ms em r er =
-        rw (← et, not-false t n)
-        (er ∙ ap (λ x. all_records (thread_passes x f.shape) f.stride b f.threads f.shape.threads)
-        (em ∙ ap (λ v. thread_maxima v f.shape) (sym ew)))
+      module _ (gk : k ≡ true) (p : ℕ) (ep : p ≡ word b (at + place_word)) (m : ℕ) (em : m ≡ greatest_tries s p) (t : ℕ)
+          (et : t ≡ word b (at + tries_word)) where
+        tries_test : leb t m ≡ tries
+        tries_test = λ i. leb (et i) ((em ∙ ap (greatest_tries s) ep) i)
+
+        pub tries_bad : m < t → false ≡ thread_readable w s b at
+        tries_bad h =
+            (λ i. (sym gq ∙ eq) i && (sym gk ∙ ek) i && (sym (lt-leb t m h) ∙ tries_test) i && waiting) ∙ parts
+
+        pub thread_rest : t ≤ m → (v : ℕ) → v ≡ word b (at + waiting_word) → (n : ℕ) → n ≡ word b (at + node_word) → (x : ℕ)
+            → x ≡ greatest_waiting p n → leb v x ≡ thread_readable w s b at
+        thread_rest h v ev n en x ex =
+            (λ i. (sym gq ∙ eq) i && (sym gk ∙ ek) i && (sym (le-leb t m h) ∙ tries_test) i
+            && leb (ev i) ((ex ∙ (λ j. greatest_waiting (ep j) (en j))) i))
+            ∙ parts
+
+-- The parts of a frame whose counters have w words, in the code's terms.
+module _ {w : ℕ} (f : Frame) (b : List ℕ) (g : WithinOfWidth w f (length b)) where
+  pub width_of : Width w
+  width_of = subst Width g.width g.within.width
+
+  module _ (size i : ℕ) where
+    pub thread_ends : size ≡ thread_size w → i < f.shape.threads → ThreadWithin w f.shape (length b) (f.threads + size * i)
+    thread_ends e h =
+        record {
+          width = width_of;
+          shape = g.within.shape;
+          within =
+              record_ends (length b) f.threads size (thread_size w) f.shape.threads i e h
+              (subst (λ k. 4 * (f.threads + k * f.shape.threads) ≤ length b) (g.within.stride ∙ ap thread_size g.width) g.within.threads);
+        }
+
+  pub nodes_end : (size n : ℕ) → size ≡ node_size w → n ≡ node_count f.shape → 4 * (f.nodes + size * n) ≤ length b
+  nodes_end size n e en =
+      subst₂ (λ k m. 4 * (f.nodes + k * m) ≤ length b) (ap node_size g.width ∙ sym e) (sym en) g.within.nodes
+
+  module _ (r : Bool) (size : ℕ) where
+    pub nodes_decide : Bytes b → size ≡ node_size w → (n : ℕ) → n ≡ node_count f.shape
+        → r ≡ all_records (λ l k. bounded l k (f.shape.cells ∷ 1 ∷ any_word ∷ [])) size b f.nodes n
+        → r ≡ all_records (node_readable f.width f.shape.cells) (node_size f.width) b f.nodes (node_count f.shape)
+    nodes_decide bytes e n en er =
+        er
+        ∙ (λ i. all_records (λ l k. bounded l k (f.shape.cells ∷ 1 ∷ any_word ∷ [])) (e i) b f.nodes (en i))
+        ∙ all_same (λ l k. bounded l k (f.shape.cells ∷ 1 ∷ any_word ∷ [])) (node_readable w f.shape.cells) (node_size w) b
+        (node_test width_of f.shape.cells b bytes) f.nodes (node_count f.shape)
+        ∙ ap (λ v. all_records (node_readable v f.shape.cells) (node_size v) b f.nodes (node_count f.shape)) (sym g.width)
+
+    pub threads_decide : size ≡ thread_size w → r ≡ all_records (thread_readable w f.shape) size b f.threads f.shape.threads
+        → r ≡ all_records (thread_readable f.width f.shape) f.stride b f.threads f.shape.threads
+    threads_decide e er =
+        er
+        ∙ (λ i. all_records (thread_readable (sym g.width i) f.shape) ((e ∙ ap thread_size (sym g.width) ∙ sym g.within.stride) i) b f.threads f.shape.threads)
 
 -- The shape and the length, in a region whose counters have w words: the first test that fails decides.
 pub too_short : (w : ℕ) (b : List ℕ) → length b < 16 → false ≡ is_whole_of_width w b
@@ -331,26 +325,15 @@ too_short w b h = go (shape_fits (shape_in b)) (eqb (length b) (4 * region_words
     go true false e = refl
     go false m e = refl
 
-module _ (b : List ℕ) (s : Shape) (es : s ≡ shape_in b) (q : Bool) (eq : q ≡ shape_fits s) (w : ℕ) where
-  shape_test : q ≡ shape_fits (shape_in b)
-  shape_test = eq ∙ ap shape_fits es
-
-  pub shape_bad : not q ≡ true → false ≡ is_whole_of_width w b
-  shape_bad n = rw (← shape_test, not-true q n) refl
-
-  pub length_decides : not q ≡ false → (l : ℕ) → l ≡ region_words_of_width w s → eqb (length b) (4 * l) ≡ is_whole_of_width w b
-  length_decides n l el =
-      rw (← shape_test, not-false q n) (ap (λ k. eqb (length b) (4 * k)) (el ∙ ap (region_words_of_width w) es))
-
 -- The whole region: the shape and the length, then the fields.
 module _ {w : ℕ} (wide : Width w) (b : List ℕ) (q : Bool) (eq : q ≡ is_whole_of_width w b) where
-  pub not_whole : not q ≡ true → false ≡ readable_of_width w b
+  pub not_whole : q ≡ false → false ≡ readable_of_width w b
   unfolding readable_of_width
-  not_whole n = rw (← eq, not-true q n) refl
+  not_whole n = rw (← eq, n) refl
 
-  module _ (gq : not q ≡ false) where
+  module _ (gq : q ≡ true) where
     whole : is_whole_of_width w b ≡ true
-    whole = sym eq ∙ not-false q gq
+    whole = sym eq ∙ gq
 
     exact_length : length b ≡ 4 * region_words_of_width w (shape_in b)
     exact_length =
@@ -371,42 +354,26 @@ module _ {w : ℕ} (wide : Width w) (b : List ℕ) (q : Bool) (eq : q ≡ is_who
         frame_is : f ≡ frame_of_width w (shape_in b)
         frame_is = ef ∙ ap (frame_of_width w) es
 
-        pub fields_within : FrameWithin f (length b)
+        pub fields_within : WithinOfWidth w f (length b)
         unfolding frame_of_width
         fields_within =
-            subst (λ x. FrameWithin x (length b)) (sym frame_is)
+            subst (λ x. WithinOfWidth w x (length b)) (sym frame_is)
             (let framed = frame_framed wide (shape_in b) (length b) exact_length in
             record {
-              width = wide;
-              shape = subst InRange es shape_in_range;
-              depth = omega (arith, framed.depth);
-              free = omega (arith, framed.free);
-              nodes = framed.nodes;
-              cells = framed.cells;
-              threads = framed.threads;
-              stride = refl;
+              width = refl;
+              within =
+                  record {
+                    width = wide;
+                    shape = subst InRange es shape_in_range;
+                    depth = omega (arith, framed.depth);
+                    free = omega (arith, framed.free);
+                    nodes = framed.nodes;
+                    cells = framed.cells;
+                    threads = framed.threads;
+                    stride = refl;
+                  };
             })
 
         pub readable_rest : (r : Bool) → r ≡ fields_readable f b → r ≡ readable_of_width w b
         unfolding readable_of_width
-        readable_rest r er = rw (← eq, not-false q gq) (er ∙ ap (λ x. fields_readable x b) frame_is)
-
--- The same of regions whose counters have two words.
-module _ (b : List ℕ) (q : Bool) (eq : q ≡ is_whole b) where
-  pub check_not_whole : not q ≡ true → 7 ≡ check_answer b
-  unfolding check_answer pick
-  check_not_whole n = rw (← not_whole two_words b q eq n) refl
-
-  module _ (gq : not q ≡ false) (s : Shape) (es : s ≡ shape_in b) (f : Frame) (ef : f ≡ frame_of s) where
-    pub wide_within : WideWithin f (length b)
-    unfolding frame_of_width
-    wide_within = record { two = ap (λ x. x.width) ef; within = fields_within two_words b q eq gq s es f ef }
-
-    module _ (r : Bool) (er : r ≡ fields_readable f b) where
-      pub check_yes : r ≡ true → 0 ≡ check_answer b
-      unfolding check_answer pick
-      check_yes t = rw (← readable_rest two_words b q eq gq s es f ef r er, t) refl
-
-      pub check_no : r ≡ false → 7 ≡ check_answer b
-      unfolding check_answer pick
-      check_no t = rw (← readable_rest two_words b q eq gq s es f ef r er, t) refl
+        readable_rest r er = rw (← eq, gq) (er ∙ ap (λ x. fields_readable x b) frame_is)

@@ -2,20 +2,20 @@
 -- readable. Assumes nothing.
 use Prim.Native.Nat.{ℕ, zero, suc, ◌+◌, ◌-◌, ◌*◌, ◌^◌, ◌≤◌, ◌<◌}
 use native.Mathlib.Decide.{ℕ_discrete}
-use native.Mathlib.Nat.{add-zero}
 use native.Mathlib.Omega.{arith}
 use mathlib.Core.Path.{◌≡◌, refl, sym, ap, subst, subst₂, subst₃, ◌∙◌}
 use mathlib.Core.Logic.{⊎_elim, inl, inr}
-use mathlib.Core.Bool.{Bool, true, false, ◌&&◌, and_assoc}
+use mathlib.Core.Bool.{Bool, true, false, ◌&&◌}
 use mathlib.Core.List.{List, [], ◌∷◌, ◌++◌}
 use borrow.Author.Tests.{leb-true, le-leb}
 use lib.Dec.{leb}
-use lib.ListN.{drop, length, get_or, set}
+use lib.ListN.{drop, length, get_or}
 use lib.Pow.{pow_mono}
 use Rattle.words.specs.Word.{word, words_at}
 use Rattle.words.specs.Inner.{Fit}
 use Rattle.words.proofs.Laws.{word_among, word_same}
-use Rattle.region.specs.Frame.{Part, frame_of_width, nodes_of, cells_of, threads_of}
+use Rattle.region.specs.Frame.{frame_of_width, nodes_of, cells_of, threads_of}
+use Rattle.region.specs.declared.part.Part.{Part}
 use Rattle.region.specs.Inner.{CopyFits, Framed, InRange, NodeFits, ThreadFits, Width, one_word, two_words, greatest_high}
 use Rattle.region.specs.Level.{level}
 use Rattle.region.specs.Pick.{pick}
@@ -38,8 +38,8 @@ use Rattle.region.proofs.Picks.{pick_good}
 use Rattle.region.proofs.Shapes.{and_left, and_right, and_both, between_least, between_most, is_between, sizes}
 use Rattle.region.proofs.Threads.{copy_among, copy_long, copy_parts, node_long}
 use Rattle.region.proofs.Views.{Kept, Outside, OutsideParts, length-set_permission_in, length-set_thread_in, permission_there, records_outside, shared_set_permission, shared_set_thread, thread_stored_words, word_set_permission, word_set_thread}
-use Rattle.readable.specs.Readable.{any_word, greatest_node, greatest_copy, greatest_thread, node_maxima, cell_maxima, thread_maxima, greatest_tries, greatest_waiting, bounded, node_readable, cell_readable, thread_passes, thread_readable, shape_in, frame_in, readable, readable_of_width}
-use Rattle.readable.proofs.Laws.{GoodOfWidth, bounded_all, bounded_at, length_of_width, readable_good}
+use Rattle.readable.specs.Readable.{any_word, greatest_node, greatest_copy, node_maxima, cell_maxima, copy_maxima, field_maxima, thread_maxima, greatest_tries, greatest_waiting, bounded, node_readable, cell_readable, thread_passes, thread_readable, shape_in, frame_in, readable, readable_of_width}
+use Rattle.readable.proofs.Laws.{GoodOfWidth, bounded_all, bounded_at, bounded_behind, length_of_width, readable_good}
 
 -- Records in range, with counters of w words.
 pub record NodeGood (w cells : ℕ) (n : Node) : Type 0 where
@@ -79,13 +79,6 @@ pub record FieldsGood (w : ℕ) (s : Shape) (t : Thread) : Type 0 where
 
 abbrev greatest_place : ℕ
 greatest_place = place_number HandOut
-
--- the words before the copies and those of a copy, at their greatest, and the greatest place
-abbrev pub field_maxima : Shape → List ℕ
-field_maxima s = set (field_words (greatest_thread s)) place_word greatest_place
-
-abbrev pub copy_maxima : ℕ → ℕ → List ℕ
-copy_maxima w cells = copy_words w (greatest_copy cells)
 
 -- levels above the node's
 abbrev pub WaitsAbove : ℕ → ℕ → Type 0
@@ -337,15 +330,6 @@ module _ (cells : ℕ) (b : List ℕ) (at : ℕ) where
       (and_both
       (le-leb (word b (suc at)) greatest_tag g.tag)
       (and_both (le-leb (word b (suc (suc at))) cells g.next) refl))
-
--- words with their maxima, and others behind them
-bounded_behind : (b xs ys : List ℕ) (at : ℕ) → bounded b at (xs ++ ys) ≡ bounded b at xs && bounded b (at + length xs) ys
-unfolding bounded
-bounded_behind b [] ys at = ap (λ k. bounded b k ys) (sym (add-zero at))
-bounded_behind b (x ∷ xs) ys at =
-    let e : suc at + length xs ≡ at + suc (length xs) = omega arith in
-    ap (λ q. leb (word b at) x && q) (bounded_behind b xs ys (suc at) ∙ ap (λ k. bounded b (suc at) xs && bounded b k ys) e)
-    ∙ sym (and_assoc (leb (word b at) x) (bounded b (suc at) xs) (bounded b (at + suc (length xs)) ys))
 
 -- a node copy: its node, and its head behind it
 copy_good : {w : ℕ} → Width w → (cells : ℕ) (b : List ℕ) (at : ℕ) → bounded b at (copy_maxima w cells) ≡ true → CopyGood w cells (copy_at w b at)

@@ -1,24 +1,17 @@
 -- What only the contracts of inner functions and the proofs need. A reader of the result may skip this file.
-use Rattle.std.specs.Prelude.{ℕ, ◌+◌, ◌*◌, ◌≤◌, ◌<◌, ◌≡◌}
+use Rattle.std.specs.Prelude.{ℕ, ◌+◌, ◌*◌, ◌≤◌, ◌≡◌}
 use Rattle.region.specs.Inner.{InRange, Width}
-use Rattle.region.specs.Record.{counter_size, node_size, cell_size}
+use Rattle.region.specs.Record.{node_size, cell_size}
 use Rattle.region.specs.Shape.{node_count}
-use Rattle.region.specs.Thread.{thread_size, waiting_word}
+use Rattle.region.specs.Thread.{thread_size}
 use Rattle.region.specs.declared.frame.Frame.{Frame}
 use Rattle.region.specs.declared.shape.Shape.{Shape}
 
--- a thread's record at word `at` of l bytes, with maxima for n words
-pub record ThreadWithin (s : Shape) (l at n : ℕ) : Type 0 where
+-- a thread's record at word `at` of l bytes, whose counters have w words
+pub record ThreadWithin (w : ℕ) (s : Shape) (l at : ℕ) : Type 0 where
+  pub width : Width w
   pub shape : InRange s
-  pub within : 4 * (at + n) ≤ l
-  pub long : waiting_word < n
-
--- the same of all threads' records of a frame, as many words from one to the next as there are maxima
-pub record ThreadsWithin (f : Frame) (l n : ℕ) : Type 0 where
-  pub shape : InRange f.shape
-  pub within : 4 * (f.threads + f.stride * f.shape.threads) ≤ l
-  pub stride : f.stride ≡ n
-  pub long : waiting_word < n
+  pub within : 4 * (at + thread_size w) ≤ l
 
 -- counters have one word or two, all parts of a frame lie within l bytes, and its shape is in range
 pub record FrameWithin (f : Frame) (l : ℕ) : Type 0 where
@@ -31,7 +24,7 @@ pub record FrameWithin (f : Frame) (l : ℕ) : Type 0 where
   pub threads : 4 * (f.threads + f.stride * f.shape.threads) ≤ l
   pub stride : f.stride ≡ thread_size f.width
 
--- the same, and counters have two words
-pub record WideWithin (f : Frame) (l : ℕ) : Type 0 where
-  pub two : f.width ≡ counter_size
+-- the same, and counters have w words
+pub record WithinOfWidth (w : ℕ) (f : Frame) (l : ℕ) : Type 0 where
+  pub width : f.width ≡ w
   pub within : FrameWithin f l

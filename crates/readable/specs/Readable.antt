@@ -1,15 +1,17 @@
 -- Readability (document 01, The region): "A region is readable if its length is exactly that of its first words, those are in range,
 -- depth is 1..D, and every field is in range". Every rule is said of a word: it is at most its greatest value.
-use Rattle.std.specs.Prelude.{ℕ, zero, suc, ◌+◌, ◌-◌, ◌*◌, ◌^◌, Bool, true, ◌&&◌, List, [], ◌∷◌, leb, eqb, length, set}
+use Rattle.std.specs.Prelude.{ℕ, zero, suc, ◌+◌, ◌-◌, ◌*◌, ◌^◌, Bool, true, ◌&&◌, List, [], ◌∷◌, leb, eqb, length, set, Result, Ok}
 use Rattle.words.specs.Word.{word}
-use Rattle.region.specs.Answer.{done, unreadable, ◌unless◌otherwise◌}
+use Rattle.region.specs.Refusal.{Checked, granted, code_of, ◌unless◌otherwise◌}
+use Rattle.region.specs.declared.refusal.Refusal.{Refusal}
+use Rattle.region.specs.declared.refusal.Refusal.TheVariants.{Unreadable}
 use Rattle.region.specs.Frame.{frame_of, frame_of_width}
 use Rattle.region.specs.Level.{level}
 use Rattle.region.specs.Pick.{pick}
 use Rattle.region.specs.Place.{place_number}
-use Rattle.region.specs.Record.{counter_size, node_size, cell_size, node_words, cell_words, greatest_tag}
+use Rattle.region.specs.Record.{counter_size, node_size, cell_size, node_words, cell_words, copy_words, greatest_tag}
 use Rattle.region.specs.Shape.{between, shape_fits, node_count, region_words_of_width}
-use Rattle.region.specs.Thread.{thread_words, greatest_permission, place_word, tries_word, node_word, waiting_word}
+use Rattle.region.specs.Thread.{field_words, thread_words, greatest_permission, place_word, tries_word, node_word, waiting_word}
 use Rattle.region.specs.declared.frame.Frame.{Frame}
 use Rattle.region.specs.declared.place.Place.TheVariants.{ReadLeaf, MendReadNode, MendClean, HandOut}
 use Rattle.region.specs.declared.record.Cell.{Cell}
@@ -65,9 +67,16 @@ node_maxima w cells = node_words w (greatest_node cells)
 abbrev pub cell_maxima : ℕ → List ℕ
 cell_maxima cells = cell_words (greatest_cell cells)
 
+abbrev pub copy_maxima : ℕ → ℕ → List ℕ
+copy_maxima w cells = copy_words w (greatest_copy cells)
+
 -- "place 0..16", with request 1 0..19: the place of the greatest number carries no waiting levels, so its number is written over M6's
 abbrev pub thread_maxima : ℕ → Shape → List ℕ
 thread_maxima w s = set (thread_words w (greatest_thread s)) place_word (place_number HandOut)
+
+-- those of the words before the node copies
+abbrev pub field_maxima : Shape → List ℕ
+field_maxima s = set (field_words (greatest_thread s)) place_word (place_number HandOut)
 
 -- "and below H at I2"
 unfoldable pub greatest_tries : Shape → ℕ → ℕ
@@ -143,7 +152,10 @@ is_whole b = is_whole_of_width counter_size b
 abbrev pub readable : List ℕ → Bool
 readable b = readable_of_width counter_size b
 
--- "Check answers yes or 7."
+-- what a region is refused for that is not readable, and the number that tells it
+abbrev pub readable_check : List ℕ → Checked
+readable_check b = Unreadable unless readable b otherwise granted
+
 unfoldable pub check_answer : List ℕ → ℕ
 unfolding readable_of_width
-check_answer b = unreadable unless readable b otherwise done
+check_answer b = code_of (readable_check b)

@@ -1,22 +1,25 @@
 -- The bag as a heap of packed items: the top is the least item, a push adds one, a pop removes one; and the ways out of one play, over plain
 -- variables. Assumes nothing.
-use Prim.Native.Nat.{ℕ, suc, ◌+◌, ◌-◌, ◌≤◌}
+use Prim.Native.Nat.{ℕ, zero, suc, ◌+◌, ◌-◌, ◌≤◌, ◌<◌}
 use native.Mathlib.Omega.{arith}
 use mathlib.Core.Path.{◌≡◌, refl, sym, ap, subst, ◌∙◌}
 use mathlib.Core.Bool.{Bool, true, false, ◌||◌, true≢false}
+use mathlib.Core.Logic.{◌⊎◌, ⊎_elim}
 use mathlib.Core.List.{List, [], ◌∷◌}
 use borrow.Author.Tests.{eqb-true, eqb-false, ltb-true, leb-true, lt-ltb, le-leb, eq-eqb, ne_eqb}
 use lib.Dec.{eqb, ltb, leb}
 use lib.ListN.{length, get_or}
+use Rattle.std.specs.Prelude.{None, Some, IsTrue, ◌↔◌}
 use Rattle.region.specs.Pick.{pick}
 use Rattle.region.specs.Record.{greatest_tag, is_item, same_item}
 use Rattle.region.specs.declared.record.Item.{Item}
 use Rattle.region.proofs.Items.{item_same, same_item_lem}
 use Rattle.region.proofs.Shapes.{and_left, and_right, and_both, between_least, between_most}
 use Rattle.access.specs.Order.{item_le}
-use Rattle.heap.specs.Heap.{Popped, Pushed, copies}
+use Rattle.heap.specs.Heap.{Popped, Pushed, copies, least}
 use Rattle.heap.proofs.Laws.{Held, entry_held, held_somewhere, top_least}
-use Rattle.records.specs.Inner.{AllItems, InHeap, PlayedOne, ToPlayOne, packed, packed_copies}
+use Rattle.records.specs.Inner.{AllItems, InHeap, PlayedOne, packed, packed_copies}
+use Rattle.records.specs.Recorded.{in_range}
 use Rattle.records.specs.Play.{bag_after, bag_gives, holds, is_empty_bag, is_least, none_less, without}
 use Rattle.records.specs.declared.form.Recorded.{Recorded}
 use Rattle.records.proofs.Every.{or_left, or_right}
@@ -172,105 +175,121 @@ module _ {h : List ℕ} {n : ℕ} {bag : List Item} (g : InHeap h n bag) (i : It
       let u = le-packed i t.which ranged t.ranged (least_of bag i (and_right (holds bag i) (none_less bag i) e) t.which t.held) in
       (l, omega (arith, m, u, f.same, t.number))
 
+-- The number on top, if there is one.
+on_top : (h : List ℕ) (n x : ℕ) → Some x ≡ least h n → (1 ≤ n) × (get_or h 1 0 ≡ x)
+on_top h zero x e = absurd cc
+on_top h (suc n) x e = (omega arith, cc)
+
+none_there : (h : List ℕ) (n : ℕ) → None ≡ least h n → 1 ≤ n → ⊥
+none_there h zero e l = omega arith
+none_there h (suc n) e l = cc
+
+-- a test for an empty heap
+same_test : (q : Bool) (n : ℕ) → IsTrue q ↔ (n ≡ 0) → q ≡ eqb n 0
+same_test true n e = sym (eq-eqb n 0 (e.0 refl))
+same_test false n e = sym (ne_eqb n 0 (λ z. true≢false (sym (e.1 z))))
+
+-- What a take gives, and leaves.
+module _ (r : Recorded) (is_take : 2 ≡ r.kind) where
+  gives_least : (bag : List Item) → bag_gives bag r ≡ is_least bag r.item
+  unfolding bag_gives pick
+  gives_least bag = rw (ne_eqb r.kind 1 (λ z. omega (arith, is_take, z)), eq-eqb r.kind 2 (sym is_take)) refl
+
+  leaves_least : (bag : List Item) → bag_after bag r ≡ without bag r.item
+  unfolding bag_after pick
+  leaves_least bag = rw (ne_eqb r.kind 1 (λ z. omega (arith, is_take, z)), eq-eqb r.kind 2 (sym is_take)) refl
+
 -- The ways out of one play.
-module _ {h : List ℕ} {size : ℕ} {r : Recorded} (to : ToPlayOne h size r) where
-  pub put_played : {h' : List ℕ} {x : ℕ} → x ≡ packed r.item → r.kind ≡ 1 → Pushed h size x h'
-      → PlayedOne h size r h' (record { given = true; size = size + 1 })
+module _ {h : List ℕ} {size : ℕ} {r : Recorded} (fits : in_range r ≡ true) where
+  pub put_played : {h' : List ℕ} {size' x : ℕ} → x ≡ packed r.item → 1 ≡ r.kind → Pushed h size x h' → size' ≡ size + 1
+      → PlayedOne h size r h' size' true
   unfolding bag_gives bag_after pick packed_copies
-  put_played {h'} {x} ex k p =
-      record {
-        same_length = p.same_length;
+  put_played {h'} {size'} {x} ex k p es =
+      rw es
+      (record {
         most = omega arith;
-        given = λ bag g. rw (eq-eqb r.kind 1 k) refl;
-        after = λ bag g e. rw (eq-eqb r.kind 1 k) (record {
+        given = λ bag g. rw (eq-eqb r.kind 1 (sym k)) refl;
+        after = λ bag g e. rw (eq-eqb r.kind 1 (sym k)) (record {
           ordered = p.ordered g.ordered;
           same = λ y. p.counted y ∙ ap (λ m. m + pick (eqb x y) 1 0) (g.same y) ∙ ap (λ z. packed_copies bag y + pick (eqb z y) 1 0) ex;
           size = omega (arith, g.size);
-          items = (range_item r to.ranged (λ z. omega (arith, k, z)), g.items);
+          items = (range_item r fits (λ z. omega (arith, k, z)), g.items);
         });
-      }
+      })
 
-  module _ (not_put : r.kind ≡ 1 → ⊥) where
-    pub empty_played : r.kind ≡ 3 → PlayedOne h size r h (record { given = eqb size 0; size = size })
-    unfolding bag_gives bag_after pick
-    empty_played k =
+  pub empty_played : {q : Bool} → 3 ≡ r.kind → IsTrue q ↔ (size ≡ 0) → PlayedOne h size r h size q
+  unfolding bag_gives bag_after pick
+  empty_played {q} k eq =
+      record {
+        most = omega arith;
+        given = λ bag g. rw (eqb-kind, eqb-kind_2) (same_test q size eq ∙ sym (empty_bag bag size g.size));
+        after = λ bag g e. rw (eqb-kind, eqb-kind_2) g;
+      }
+    where
+      eqb-kind : eqb r.kind 1 ≡ false
+      eqb-kind = ne_eqb r.kind 1 (λ z. omega (arith, k, z))
+
+      eqb-kind_2 : eqb r.kind 2 ≡ false
+      eqb-kind_2 = ne_eqb r.kind 2 (λ z. omega (arith, k, z))
+
+  pub no_kind : {q : Bool} → (r.kind ≡ 0) ⊎ (3 < r.kind) → PlayedOne h size r h size q
+  no_kind out =
+      let k = range_kind r fits in
+      absurd (⊎_elim (λ z. omega (arith, z, between_least 1 r.kind 3 k)) (λ l. omega (arith, l, between_most 1 r.kind 3 k)) out)
+
+  module _ (is_take : 2 ≡ r.kind) {x : ℕ} (ex : x ≡ packed r.item) where
+    -- the item is not on top
+    not_top : ((1 ≤ size) × (get_or h 1 0 ≡ x) → ⊥) → PlayedOne h size r h size false
+    not_top n =
         record {
-          same_length = refl;
           most = omega arith;
-          given = λ bag g. rw (eqb-kind, eqb-kind_2) (sym (empty_bag bag size g.size));
-          after = λ bag g e. rw (eqb-kind, eqb-kind_2) g;
+          given = λ bag g. go bag g (is_least bag r.item) refl ∙ sym (gives_least r is_take bag);
+          after = λ bag g e. absurd (true≢false (sym e));
         }
       where
-        eqb-kind : eqb r.kind 1 ≡ false
-        eqb-kind = ne_eqb r.kind 1 not_put
+        ranged : is_item r.item ≡ true
+        ranged = range_item r fits (λ z. omega (arith, is_take, z))
 
-        eqb-kind_2 : eqb r.kind 2 ≡ false
-        eqb-kind_2 = ne_eqb r.kind 2 (λ z. omega (arith, k, z))
+        go : (bag : List Item) → InHeap h size bag → (q : Bool) → is_least bag r.item ≡ q → false ≡ is_least bag r.item
+        go bag g true e = let t = least_is_top g r.item ranged e in absurd (n (t.0, t.1 ∙ sym ex))
+        go bag g false e = sym e
 
-    module _ (not_empty : r.kind ≡ 3 → ⊥) where
-      is_take : r.kind ≡ 2
-      is_take =
-          let k = range_kind r to.ranged in
-          omega (arith, between_least 1 r.kind 3 k, between_most 1 r.kind 3 k, not_put, not_empty)
+    pub none_played : None ≡ least h size → PlayedOne h size r h size false
+    none_played e = not_top (λ t. none_there h size e t.0)
 
-      ranged : is_item r.item ≡ true
-      ranged = range_item r to.ranged not_empty
+    pub other_played : {v : ℕ} → Some v ≡ least h size → (v ≡ x → ⊥) → PlayedOne h size r h size false
+    other_played {v} e n = not_top (λ t. n (sym (on_top h size v e).1 ∙ t.1))
 
-      gives_least : (bag : List Item) → bag_gives bag r ≡ is_least bag r.item
-      unfolding bag_gives pick
-      gives_least bag = rw (ne_eqb r.kind 1 not_put, eq-eqb r.kind 2 is_take) refl
+    pub take_played : {v : ℕ} → Some v ≡ least h size → v ≡ x → {h' : List ℕ} {size' : ℕ} → Popped h size h' → size' + 1 ≡ size
+        → PlayedOne h size r h' size' true
+    take_played {v} e same {h'} {size'} p es =
+        record {
+          most = omega (arith, es);
+          given = λ bag g. sym (is_top bag g) ∙ sym (gives_least r is_take bag);
+          after = λ bag g t. subst (InHeap h' size') (sym (leaves_least r is_take bag)) (subst (λ m. InHeap h' m (without bag r.item)) (omega (arith, es)) (popped bag g));
+        }
+      where
+        ranged : is_item r.item ≡ true
+        ranged = range_item r fits (λ z. omega (arith, is_take, z))
 
-      leaves_least : (bag : List Item) → bag_after bag r ≡ without bag r.item
-      unfolding bag_after pick
-      leaves_least bag = rw (ne_eqb r.kind 1 not_put, eq-eqb r.kind 2 is_take) refl
+        top : get_or h 1 0 ≡ x
+        top = (on_top h size v e).1 ∙ same
 
-      -- the item is not on top
-      not_top : ((bag : List Item) → InHeap h size bag → (1 ≤ size) × (get_or h 1 0 ≡ packed r.item) → ⊥)
-          → PlayedOne h size r h (record { given = false; size = size })
-      not_top n =
-          record {
-            same_length = refl;
-            most = omega arith;
-            given = λ bag g. go bag g (is_least bag r.item) refl ∙ sym (gives_least bag);
-            after = λ bag g e. absurd (true≢false (sym e));
-          }
-        where
-          go : (bag : List Item) → InHeap h size bag → (q : Bool) → is_least bag r.item ≡ q → false ≡ is_least bag r.item
-          go bag g true e = absurd (n bag g (least_is_top g r.item ranged e))
-          go bag g false e = sym e
+        is_top : (bag : List Item) → InHeap h size bag → is_least bag r.item ≡ true
+        is_top bag g = top_is_least g r.item ranged (on_top h size v e).0 (top ∙ ex)
 
-      pub none_played : size ≡ 0 → PlayedOne h size r h (record { given = false; size = size })
-      none_played z = not_top (λ bag g t. omega (arith, z, t.0))
-
-      module _ {x : ℕ} (ex : x ≡ packed r.item) (some : size ≡ 0 → ⊥) where
-        pub other_played : (get_or h 1 0 ≡ x → ⊥) → PlayedOne h size r h (record { given = false; size = size })
-        other_played n = not_top (λ bag g t. n (t.1 ∙ sym ex))
-
-        pub take_played : {h' : List ℕ} → get_or h 1 0 ≡ x → Popped h size h'
-            → PlayedOne h size r h' (record { given = true; size = size - 1 })
-        take_played {h'} top p =
+        popped : (bag : List Item) → InHeap h size bag → InHeap h' (size - 1) (without bag r.item)
+        popped bag g =
             record {
-              same_length = p.same_length;
-              most = omega arith;
-              given = λ bag g. sym (least bag g) ∙ sym (gives_least bag);
-              after = λ bag g e. subst (InHeap h' (size - 1)) (sym (leaves_least bag)) (popped bag g);
+              ordered = p.ordered g.ordered;
+              same = λ y.
+                  let a = without_copies r.item bag held y in
+                  let c : copies h' (size - 1) y + pick (eqb (packed r.item) y) 1 0 ≡ packed_copies bag y
+                  = ap (λ z. copies h' (size - 1) y + pick (eqb z y) 1 0) (sym (top ∙ ex)) ∙ p.counted y ∙ g.same y in
+                  omega (arith, a, c);
+              size = let l = without-length r.item bag held in omega (arith, l, g.size);
+              items = without_items r.item bag g.items;
             }
           where
-            least : (bag : List Item) → InHeap h size bag → is_least bag r.item ≡ true
-            least bag g = top_is_least g r.item ranged (omega (arith, some)) (top ∙ ex)
-
-            popped : (bag : List Item) → InHeap h size bag → InHeap h' (size - 1) (without bag r.item)
-            popped bag g =
-                record {
-                  ordered = p.ordered g.ordered;
-                  same = λ y.
-                      let a = without_copies r.item bag held y in
-                      let c : copies h' (size - 1) y + pick (eqb (packed r.item) y) 1 0 ≡ packed_copies bag y
-                      = ap (λ z. copies h' (size - 1) y + pick (eqb z y) 1 0) (sym (top ∙ ex)) ∙ p.counted y ∙ g.same y in
-                      omega (arith, a, c);
-                  size = let l = without-length r.item bag held in omega (arith, l, g.size);
-                  items = without_items r.item bag g.items;
-                }
-              where
-                held : holds bag r.item ≡ true
-                held = and_left (holds bag r.item) (none_less bag r.item) (least bag g)
+            held : holds bag r.item ≡ true
+            held = and_left (holds bag r.item) (none_less bag r.item) (is_top bag g)

@@ -1,24 +1,24 @@
 -- The loop that puts the records in the order of their positions: its invariant, one pass, and the ways out, over plain variables. n records
 -- have claimed n different places of n, so none is left. Assumes nothing.
-use Prim.Native.Nat.{ℕ, zero, suc, ◌+◌, ◌-◌, ◌*◌, ◌≤◌, ◌<◌}
+use Prim.Native.Nat.{ℕ, zero, suc, ◌+◌, ◌-◌, ◌≤◌, ◌<◌}
 use native.Mathlib.Omega.{arith}
 use mathlib.Core.Path.{◌≡◌, refl, sym, ap, subst, ◌∙◌}
-use mathlib.Core.Bool.{Bool, true, false, true≢false}
+use mathlib.Core.Bool.{Bool, true, false}
 use mathlib.Core.Logic.{◌⊎◌, inl, inr, ⊎_elim}
 use mathlib.Core.List.{List}
 use borrow.Author.Tests.{eqb-true, eqb-false, eq-eqb, ne_eqb}
 use lib.Dec.{eqb}
-use lib.ListN.{length, get_or, set, length-set}
+use lib.ListN.{length, get_or, set, replicate, length-set, length-replicate}
 use lib.Seq.{get_or-set_same, get_or-set_other}
 use Rattle.region.specs.Pick.{pick}
 use Rattle.region.proofs.Shapes.{between_most}
-use Rattle.records.specs.Accepts.{claimant}
-use Rattle.records.specs.Inner.{AtPosition, InWalk, PutInOrder, ToOrder}
+use Rattle.records.specs.Accepts.{accepts, claimant}
+use Rattle.records.specs.Inner.{AtPosition, InOrder, WellFormed}
 use Rattle.records.specs.Recorded.{in_range, recorded_at}
 use Rattle.records.specs.declared.form.Recorded.{Recorded}
 use Rattle.records.proofs.Accepted.{Accepted, not_accepted}
 use Rattle.records.proofs.Every.{upto}
-use Rattle.records.proofs.Ranges.{range_thread}
+use Rattle.records.proofs.Ranges.{range_thread, zero_at}
 
 -- the only record that claims position p
 pub claimant_is : (n : ℕ) (r : ℕ → Recorded) (p i : ℕ) → i < n → (r i).position ≡ p → ((j : ℕ) → j < n → (r j).position ≡ p → j ≡ i)
@@ -106,54 +106,39 @@ pub record Filling (n : ℕ) (r : ℕ → Recorded) (order : List ℕ) (i : ℕ)
   pub from : (k : ℕ) → k < n → (get_or order k 0 ≡ 0) ⊎ Claim r order i k
   pub taken : filled order n ≡ i
 
-pub order_start : {b : List ℕ} {n : ℕ} {order : List ℕ} → ToOrder b n order → Filling n (recorded_at b) order 0
-order_start {b} {n} {order} t =
+pub order_start : {b : List ℕ} {n : ℕ} → WellFormed b n → Filling n (recorded_at b) (replicate 1024 0) 0
+order_start {b} {n} w =
     record {
-      few = t.formed.few;
-      room = t.free.long;
+      few = w.few;
+      room = length-replicate {A = ℕ} 1024 0;
       within = omega arith;
       begun = λ a h. absurd (omega arith);
       first = λ a h. absurd (omega arith);
       last = λ a h. absurd (omega arith);
       placed = λ a k h. absurd (omega arith);
-      from = λ k h. inl (t.free.zeros k);
-      taken = filled_none order n t.free.zeros;
+      from = λ k h. inl (zero_at 1024 k);
+      taken = filled_none (replicate 1024 0) n (zero_at 1024);
     }
 
 module _ {n : ℕ} {r : ℕ → Recorded} {order : List ℕ} {i : ℕ} (f : Filling n r order i) (h : i < n)
     (x : Recorded) (ex : x ≡ r i) where
-  pub bad_times : x.answer ≤ x.begin → PutInOrder n r order false
+  pub bad_times : x.answer ≤ x.begin → accepts n r ≡ false
   bad_times l =
-      record {
-        yes = λ e. absurd (true≢false (sym e));
-        no = λ e. not_accepted n r
-            (λ a. let g = a.begun i h in omega (arith, g, l, ap (λ y. y.answer) ex, ap (λ y. y.begin) ex));
-      }
+      not_accepted n r
+      (λ a. let g = a.begun i h in omega (arith, g, l, ap (λ y. y.answer) ex, ap (λ y. y.begin) ex))
 
-  pub bad_zero : x.position ≡ 0 → PutInOrder n r order false
-  bad_zero z =
-      record {
-        yes = λ e. absurd (true≢false (sym e));
-        no = λ e. not_accepted n r (λ a. let g = a.first i h in omega (arith, g, z, ap (λ y. y.position) ex));
-      }
-
-  pub bad_high : n < x.position → PutInOrder n r order false
-  bad_high l =
-      record {
-        yes = λ e. absurd (true≢false (sym e));
-        no = λ e. not_accepted n r (λ a. let g = a.last i h in omega (arith, g, l, ap (λ y. y.position) ex));
-      }
+  pub bad_position : (x.position ≡ 0) ⊎ ((x.position ≡ 0 → ⊥) × (n < x.position)) → accepts n r ≡ false
+  bad_position =
+      ⊎_elim (λ z. not_accepted n r (λ a. let g = a.first i h in omega (arith, g, z, ap (λ y. y.position) ex)))
+      (λ l. not_accepted n r (λ a. let g = a.last i h in omega (arith, g, l.1, ap (λ y. y.position) ex)))
 
   module _ (some : x.position ≡ 0 → ⊥) (high : x.position ≤ n) where
     position_is : (r i).position ≡ suc (x.position - 1)
     position_is = omega (arith, some, ap (λ y. y.position) ex)
 
-    pub bad_repeat : (get_or order (x.position - 1) 0 ≡ 0 → ⊥) → PutInOrder n r order false
+    pub bad_repeat : (get_or order (x.position - 1) 0 ≡ 0 → ⊥) → accepts n r ≡ false
     bad_repeat z =
-        record {
-          yes = λ e. absurd (true≢false (sym e));
-          no = λ e. not_accepted n r (λ a. ⊎_elim z (twice a) (f.from (x.position - 1) (omega (arith, some, high))));
-        }
+        not_accepted n r (λ a. ⊎_elim z (twice a) (f.from (x.position - 1) (omega (arith, some, high))))
       where
         twice : Accepted n r → Claim r order i (x.position - 1) → ⊥
         twice a c =
@@ -210,20 +195,17 @@ module _ {n : ℕ} {r : ℕ → Recorded} {order : List ℕ} {i : ℕ} (f : Fill
 
 -- n of n places are taken: each by the one record that claims it
 pub order_end : {n : ℕ} {r : ℕ → Recorded} {order : List ℕ} {i : ℕ} → Filling n r order i → n ≤ i
-    → PutInOrder n r order true
+    → InOrder n r order
 order_end {n} {r} {order} {i} f h =
     record {
-      yes = λ e. record {
-        room = omega (arith, f.room, f.few);
-        begun = λ a l. f.begun a (omega arith);
-        first = λ a l. f.first a (omega arith);
-        last = λ a l. f.last a (omega arith);
-        by_claim = λ a l. let e = f.first a (omega arith) in claim_of a ((r a).position - 1) l (omega (arith, e)) (r a).position refl;
-        entry = λ k l. (claim k l).number ∙ ap suc (sym (claimed k l));
-        there = λ k l. subst (λ y. y < n) (sym (claimed k l)) (omega (arith, (claim k l).before));
-        claims = λ k l. ap (λ y. (r y).position) (claimed k l) ∙ (claim k l).claims;
-      };
-      no = λ e. absurd (true≢false e);
+      room = omega (arith, f.room, f.few);
+      begun = λ a l. f.begun a (omega arith);
+      first = λ a l. f.first a (omega arith);
+      last = λ a l. f.last a (omega arith);
+      by_claim = λ a l. let e = f.first a (omega arith) in claim_of a ((r a).position - 1) l (omega (arith, e)) (r a).position refl;
+      entry = λ k l. (claim k l).number ∙ ap suc (sym (claimed k l));
+      there = λ k l. subst (λ y. y < n) (sym (claimed k l)) (omega (arith, (claim k l).before));
+      claims = λ k l. ap (λ y. (r y).position) (claimed k l) ∙ (claim k l).claims;
     }
   where
     all : i ≡ n
@@ -243,22 +225,15 @@ order_end {n} {r} {order} {i} f h =
         claim_of (claim k l).which k (omega (arith, (claim k l).before, all)) (claim k l).claims (suc k) (claim k l).claims
 
 -- the walk reads the record at its position, which is in range
-pub at_position : {b : List ℕ} {n : ℕ} {order : List ℕ} {k : ℕ} → InWalk b n order k → (x : Recorded) → x ≡ recorded_at b (get_or order k 0 - 1)
-    → AtPosition b n k x
-at_position {b} {n} {order} {k} w x ex =
-    record { is = here; ranged = ranged; low = let l = between_most 1 x.thread 64 (range_thread x ranged) in omega (arith, l) }
-  where
-    here : x ≡ recorded_at b (claimant n (recorded_at b) (suc k))
-    here = ex ∙ ap (recorded_at b) (omega (arith, w.ordered.entry k w.within))
+module _ {b : List ℕ} {n : ℕ} {order : List ℕ} {k : ℕ} (w : WellFormed b n) (o : InOrder n (recorded_at b) order) (h : k < n) where
+  pub at_position : (x : Recorded) → x ≡ recorded_at b (get_or order k 0 - 1) → AtPosition b n k x
+  at_position x ex =
+      record { is = here; ranged = ranged; low = let l = between_most 1 x.thread 64 (range_thread x ranged) in omega (arith, l) }
+    where
+      here : x ≡ recorded_at b (claimant n (recorded_at b) (suc k))
+      here = ex ∙ ap (recorded_at b) (omega (arith, o.entry k h))
 
-    ranged : in_range x ≡ true
-    ranged =
-        subst (λ y. in_range y ≡ true) (sym here)
-        (w.formed.ranged (claimant n (recorded_at b) (suc k)) (w.ordered.there k w.within))
-
-pub entry_some : {b : List ℕ} {n : ℕ} {order : List ℕ} {k : ℕ} → InWalk b n order k → 1 ≤ get_or order k 0
-entry_some {b} {n} {order} {k} w = omega (arith, w.ordered.entry k w.within)
-
-pub entry_room : {b : List ℕ} {n : ℕ} {order : List ℕ} {k : ℕ} → InWalk b n order k → 28 * (get_or order k 0 - 1) + 28 ≤ length b
-entry_room {b} {n} {order} {k} w =
-    omega (arith, w.ordered.entry k w.within, w.ordered.there k w.within, w.formed.long)
+      ranged : in_range x ≡ true
+      ranged =
+          subst (λ y. in_range y ≡ true) (sym here)
+          (w.ranged (claimant n (recorded_at b) (suc k)) (o.there k h))

@@ -1,38 +1,21 @@
 -- The walk by position that compares the times: its invariant, one pass, and the ways out, over plain variables. Of two records the one with the
 -- smaller position may not begin after the other is answered, and begins first where both are of one thread. Assumes nothing.
-use Prim.Native.Nat.{ℕ, suc, ◌+◌, ◌-◌, ◌≤◌, ◌<◌}
+use Prim.Native.Nat.{ℕ, suc, ◌+◌, ◌-◌, ◌≤◌, ◌<◌, max}
 use native.Mathlib.Omega.{arith}
 use mathlib.Core.Path.{◌≡◌, refl, sym, ap, subst, ◌∙◌}
-use mathlib.Core.Bool.{Bool, true, false, not, ◌||◌, true≢false}
+use mathlib.Core.Bool.{Bool, true, false, ◌||◌, true≢false}
 use mathlib.Core.Logic.{◌⊎◌, inl, inr, ⊎_elim}
 use mathlib.Core.List.{List}
-use borrow.Author.Tests.{eqb-true, eqb-false, ltb-true, ltb-false, lt-ltb, le-ltb, eq-eqb, ne_eqb, not-true, not-false}
+use borrow.Author.Tests.{eqb-true, eqb-false, ltb-true, ltb-false, eq-eqb}
 use lib.Dec.{eqb, ltb}
-use lib.ListN.{length, get_or, set, length-set}
+use lib.ListN.{length, get_or, set, replicate, length-set, length-replicate}
 use lib.Seq.{get_or-set_same, get_or-set_other}
-use Rattle.region.specs.Pick.{pick}
 use Rattle.records.specs.Accepts.{claimant, in_place}
-use Rattle.records.specs.Inner.{InOrder, InTime, ToTime, ended, later}
-use Rattle.records.specs.Recorded.{recorded_at}
+use Rattle.records.specs.Inner.{InOrder, InTime, ended}
 use Rattle.records.specs.declared.form.Recorded.{Recorded}
 use Rattle.records.proofs.Accepted.{Accepted, InRealTime, OneByOne, all_in_real_time, all_one_by_one, by_place, not_accepted}
 use Rattle.records.proofs.Every.{upto}
-
-pub later_second : (a b : ℕ) → a < b → b ≡ later a b
-unfolding later pick
-later_second a b h = rw (lt-ltb a b h) refl
-
-pub later_first : (a b : ℕ) → b ≤ a → a ≡ later a b
-unfolding later pick
-later_first a b h = rw (le-ltb a b h) refl
-
-pub none_yet : (last begin : ℕ) → last ≡ 0 → true ≡ ended last begin
-unfolding ended
-none_yet last begin e = rw (eq-eqb last 0 e) refl
-
-pub one_yet : (last begin : ℕ) → (last ≡ 0 → ⊥) → ltb last begin ≡ ended last begin
-unfolding ended
-one_yet last begin n = rw (ne_eqb last 0 n) refl
+use Rattle.records.proofs.Ranges.{zero_at}
 
 -- a record before position k + 1 with this begin; one of thread t with this answer
 pub record Began (n : ℕ) (r : ℕ → Recorded) (k time : ℕ) : Type 0 where
@@ -57,16 +40,16 @@ pub record Timing (n : ℕ) (r : ℕ → Recorded) (latest : ℕ) (last : List �
   pub last_one : (t : ℕ) → (get_or last t 0 ≡ 0) ⊎ Answered n r k t (get_or last t 0)
   pub one_by_one : (c : ℕ) → c < k → (a : ℕ) → a < c → (in_place n r a).thread ≡ (in_place n r c).thread → (in_place n r a).answer < (in_place n r c).begin
 
-pub times_start : {b : List ℕ} {n : ℕ} {order last : List ℕ} → ToTime b n order last → Timing n (recorded_at b) 0 last 0
-times_start {b} {n} {order} {last} t =
+pub times_start : (n : ℕ) (r : ℕ → Recorded) → Timing n r 0 (replicate 65 0) 0
+times_start n r =
     record {
       within = omega arith;
-      long = t.none.long;
+      long = length-replicate {A = ℕ} 65 0;
       latest_most = λ a h. absurd (omega arith);
       latest_one = inl refl;
       in_time = λ c h. absurd (omega arith);
       last_most = λ a h. absurd (omega arith);
-      last_one = λ u. inl (t.none.zeros u);
+      last_one = λ u. inl (zero_at 65 u);
       one_by_one = λ c h. absurd (omega arith);
     }
 
@@ -104,31 +87,28 @@ module _ {n : ℕ} {r : ℕ → Recorded} {order : List ℕ} (o : InOrder n r or
         (λ g w. out_of_time g.which k g.before h (omega (arith, l, g.begin, ap (λ y. y.answer) here)) w) f.latest_one)
 
     module _ (w : Bool) (ew : w ≡ ended (get_or last x.thread 0) x.begin) where
-      pub not_ended : not w ≡ true → InTime n r false
+      pub not_ended : w ≡ false → InTime n r false
       unfolding ended
-      not_ended nw =
-          fails (⊎_elim (λ z. absurd (true≢false (sym (rw (eq-eqb (get_or last x.thread 0) 0 z) at ew) ∙ no))) crosses (f.last_one x.thread))
+      not_ended late =
+          fails (⊎_elim (λ z. absurd (true≢false (sym (rw (eq-eqb (get_or last x.thread 0) 0 z) at ew) ∙ late))) crosses (f.last_one x.thread))
         where
-          no : w ≡ false
-          no = not-true w nw
-
           crosses : Answered n r k x.thread (get_or last x.thread 0) → Accepted n r → ⊥
           crosses g =
               crossing g.which k g.before h (g.thread ∙ ap (λ y. y.thread) here)
-              (omega (arith, late, g.answer, ap (λ y. y.begin) here))
+              (omega (arith, begins, g.answer, ap (λ y. y.begin) here))
             where
-              late : x.begin ≤ get_or last x.thread 0
-              late = go (eqb (get_or last x.thread 0) 0) (sym ew ∙ no)
+              begins : x.begin ≤ get_or last x.thread 0
+              begins = go (eqb (get_or last x.thread 0) 0) (sym ew ∙ late)
                 where
                   go : (q : Bool) → q || ltb (get_or last x.thread 0) x.begin ≡ false → x.begin ≤ get_or last x.thread 0
                   go true e = absurd (true≢false e)
                   go false e = ltb-false (get_or last x.thread 0) x.begin e
 
-      module _ (nw : not w ≡ false) (early : latest ≤ x.answer) (low : x.thread < 65) where
+      module _ (yes : w ≡ true) (early : latest ≤ x.answer) (low : x.thread < 65) where
         -- whatever of its thread was answered before
         after_last : get_or last x.thread 0 ≡ 0 ⊎ (get_or last x.thread 0 < x.begin)
         unfolding ended
-        after_last = go (eqb (get_or last x.thread 0) 0) refl (sym ew ∙ not-false w nw)
+        after_last = go (eqb (get_or last x.thread 0) 0) refl (sym ew ∙ yes)
           where
             go : (q : Bool) → eqb (get_or last x.thread 0) 0 ≡ q → q || ltb (get_or last x.thread 0) x.begin ≡ true
                 → get_or last x.thread 0 ≡ 0 ⊎ (get_or last x.thread 0 < x.begin)
@@ -144,8 +124,7 @@ module _ {n : ℕ} {r : ℕ → Recorded} {order : List ℕ} (o : InOrder n r or
             let some = o.begun (claimant n r (suc a)) (o.there a (omega (arith, l, h))) in
             ⊎_elim (λ z. absurd (omega (arith, m, some, z))) (λ g. omega (arith, m, g)) after_last
 
-        pub times_more : (next : ℕ) → next ≡ later latest x.begin → Timing n r next (set last x.thread x.answer) (k + 1)
-        unfolding later pick
+        pub times_more : (next : ℕ) → next ≡ max latest x.begin → Timing n r next (set last x.thread x.answer) (k + 1)
         times_more next en =
             record {
               within = omega arith;
@@ -153,7 +132,7 @@ module _ {n : ℕ} {r : ℕ → Recorded} {order : List ℕ} (o : InOrder n r or
               latest_most =
                   upto k (λ a. (in_place n r a).begin ≤ next) (λ a l. let m = f.latest_most a l in omega (arith, m, least.0))
                   (subst (λ y. y.begin ≤ next) here least.1);
-              latest_one = one (ltb latest x.begin) en;
+              latest_one = one (ltb latest x.begin) refl;
               in_time =
                   upto k (λ c. (a : ℕ) → a < c → (in_place n r a).begin ≤ (in_place n r c).answer) f.in_time
                   (λ a l. let m = f.latest_most a l in omega (arith, m, early, ap (λ y. y.answer) here));
@@ -173,17 +152,17 @@ module _ {n : ℕ} {r : ℕ → Recorded} {order : List ℕ} (o : InOrder n r or
             now = get_or-set_same last x.thread x.answer 0 (omega (arith, low, f.long))
 
             least : (latest ≤ next) × (x.begin ≤ next)
-            least = go (ltb latest x.begin) refl en
-              where
-                go : (q : Bool) → ltb latest x.begin ≡ q → next ≡ pick q x.begin latest → (latest ≤ next) × (x.begin ≤ next)
-                go true e g = (let l = ltb-true latest x.begin e in omega (arith, l, g), omega (arith, g))
-                go false e g = (omega (arith, g), let l = ltb-false latest x.begin e in omega (arith, l, g))
+            least = (omega (arith, en), omega (arith, en))
 
-            one : (q : Bool) → next ≡ pick q x.begin latest → (next ≡ 0) ⊎ Began n r (k + 1) next
-            one true g = inr (record { which = k; before = omega arith; begin = sym (ap (λ y. y.begin) here) ∙ sym g })
-            one false g =
-                ⊎_elim (λ z. inl (g ∙ z))
-                (λ b. inr (record { which = b.which; before = omega (arith, b.before); begin = b.begin ∙ sym g })) f.latest_one
+            one : (q : Bool) → ltb latest x.begin ≡ q → (next ≡ 0) ⊎ Began n r (k + 1) next
+            one true e =
+                let l = ltb-true latest x.begin e in
+                inr (record { which = k; before = omega arith; begin = sym (ap (λ y. y.begin) here) ∙ omega (arith, l, en) })
+            one false e =
+                let l = ltb-false latest x.begin e in
+                let same : next ≡ latest = omega (arith, l, en) in
+                ⊎_elim (λ z. inl (same ∙ z))
+                (λ b. inr (record { which = b.which; before = omega (arith, b.before); begin = b.begin ∙ sym same })) f.latest_one
 
             last_most : (a : ℕ) → a < k → (in_place n r a).answer ≤ get_or last' (in_place n r a).thread 0
             last_most a l = go (eqb (in_place n r a).thread x.thread) refl

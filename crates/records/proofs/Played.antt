@@ -4,42 +4,36 @@ use Prim.Native.Nat.{ℕ, suc, ◌+◌, ◌-◌, ◌≤◌, ◌<◌}
 use native.Mathlib.Omega.{arith}
 use native.Mathlib.Numerals.{add-one}
 use mathlib.Core.Path.{◌≡◌, refl, sym, ap, ◌∙◌}
-use mathlib.Core.Bool.{true, false, not, ◌&&◌}
+use mathlib.Core.Bool.{Bool, true, false, ◌&&◌}
 use mathlib.Core.List.{List, []}
-use borrow.Author.Tests.{not-true, not-false}
-use lib.ListN.{length}
 use Rattle.region.specs.declared.record.Item.{Item}
 use Rattle.heap.specs.Heap.{copies}
 use Rattle.records.specs.Accepts.{by_position, in_place, listed}
-use Rattle.records.specs.Inner.{InHeap, PlayedOne, ToPlay, packed_copies}
+use Rattle.records.specs.Inner.{InHeap, PlayedOne, packed_copies}
 use Rattle.records.specs.Play.{bag_after, bag_gives, plays}
-use Rattle.records.specs.Recorded.{recorded_at}
 use Rattle.records.specs.declared.form.Recorded.{Recorded}
-use Rattle.records.specs.declared.play.Played.{Played}
 
 -- the first k positions are played, and the heap h holds the bag
 pub record Playing (n : ℕ) (r : ℕ → Recorded) (h : List ℕ) (size k : ℕ) : Type 0 where
   pub within : k ≤ n
   pub most : size ≤ k
-  pub long : length h ≡ 1025
   pub bag : List Item
   pub held : InHeap h size bag
   pub left : plays bag (listed (in_place n r) k (n - k)) ≡ plays [] (by_position n r)
 
-pub play_start : {b : List ℕ} {n : ℕ} {order h : List ℕ} → ToPlay b n order h → Playing n (recorded_at b) h 0 0
+pub play_start : (n : ℕ) (r : ℕ → Recorded) (h : List ℕ) → Playing n r h 0 0
 unfolding copies packed_copies
-play_start {b} {n} {order} {h} t =
+play_start n r h =
     record {
       within = omega arith;
       most = omega arith;
-      long = t.none.long;
       bag = [];
       held = record { ordered = λ k l m. absurd (omega arith); same = λ x. refl; size = refl; items = tt };
-      left = ap (λ m. plays [] (listed (in_place n (recorded_at b)) 0 m)) (omega arith);
+      left = ap (λ m. plays [] (listed (in_place n r) 0 m)) (omega arith);
     }
 
 module _ {n : ℕ} {r : ℕ → Recorded} {h : List ℕ} {size k : ℕ} (f : Playing n r h size k)
-    (l : k < n) (x : Recorded) (here : x ≡ in_place n r k) {h' : List ℕ} (p : Played) (d : PlayedOne h size x h' p) where
+    (l : k < n) (x : Recorded) (here : x ≡ in_place n r k) {h' : List ℕ} {size' : ℕ} (q : Bool) (d : PlayedOne h size x h' size' q) where
   -- one position less is left
   next : plays f.bag (listed (in_place n r) k (n - k)) ≡ bag_gives f.bag x && plays (bag_after f.bag x) (listed (in_place n r) (k + 1) (n - (k + 1)))
   unfolding plays listed
@@ -51,25 +45,23 @@ module _ {n : ℕ} {r : ℕ → Recorded} {h : List ℕ} {size k : ℕ} (f : Pla
       one_less : n - k ≡ suc (n - (k + 1))
       one_less = omega (arith, l)
 
-  pub play_more : not p.given ≡ false → Playing n r h' p.size (k + 1)
-  play_more g =
-      let given = not-false p.given g in
+  pub play_more : q ≡ true → Playing n r h' size' (k + 1)
+  play_more given =
       record {
         within = omega arith;
         most = omega (arith, d.most, f.most);
-        long = d.same_length ∙ f.long;
         bag = bag_after f.bag x;
         held = d.after f.bag f.held given;
         left =
-            ap (λ q. q && plays (bag_after f.bag x) (listed (in_place n r) (k + 1) (n - (k + 1)))) (sym given ∙ d.given f.bag f.held)
+            ap (λ z. z && plays (bag_after f.bag x) (listed (in_place n r) (k + 1) (n - (k + 1)))) (sym given ∙ d.given f.bag f.held)
             ∙ sym next
             ∙ f.left;
       }
 
-  pub play_stop : not p.given ≡ true → false ≡ plays [] (by_position n r)
+  pub play_stop : q ≡ false → false ≡ plays [] (by_position n r)
   play_stop g =
-      ap (λ q. q && plays (bag_after f.bag x) (listed (in_place n r) (k + 1) (n - (k + 1))))
-      (sym (not-true p.given g) ∙ d.given f.bag f.held)
+      ap (λ z. z && plays (bag_after f.bag x) (listed (in_place n r) (k + 1) (n - (k + 1))))
+      (sym g ∙ d.given f.bag f.held)
       ∙ sym next
       ∙ f.left
 

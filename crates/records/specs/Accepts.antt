@@ -1,9 +1,11 @@
 -- What the checker answers (document 02, request 9): "The checker accepts exactly if begin is before answer in each, of two operations of a thread
 -- one is answered before the other begins, the positions are 1 to n without gap or repeat, an operation answered before another begins has the
 -- smaller position, and the bag of request 2 played by position gives every answer."
-use Rattle.std.specs.Prelude.{ℕ, zero, suc, Bool, not, ◌&&◌, ◌||◌, List, [], ◌∷◌, ltb}
+use Rattle.std.specs.Prelude.{ℕ, zero, suc, Bool, not, ◌&&◌, ◌||◌, List, [], ◌∷◌, Result, Ok, Err, ltb}
 use Rattle.std.proofs.Math.Dec.{eqb}
-use Rattle.region.specs.Answer.{done, bad_records, ◌unless◌otherwise◌}
+use Rattle.region.specs.Refusal.{done, number_of, ◌unless◌otherwise◌}
+use Rattle.region.specs.declared.refusal.Refusal.{Refusal}
+use Rattle.region.specs.declared.refusal.Refusal.TheVariants.{BadRecords}
 use Rattle.region.specs.Pick.{pick}
 use Rattle.region.specs.Shape.{between}
 use Rattle.records.specs.Play.{plays}
@@ -77,7 +79,15 @@ accepts n r =
 abbrev pub rejected : ℕ
 rejected = 255
 
--- "Errors: 12 .. found before any comparison"; 0 accepts
+-- records that are not whole or not in range are refused, before any comparison; else they are accepted or not
+abbrev pub records_check : List ℕ → Result Bool Refusal
+records_check b = BadRecords unless well_formed b otherwise Ok (accepts (record_count b) (recorded_at b))
+
+-- the number that tells it to a host: 0 for yes
+abbrev pub verdict_code : Result Bool Refusal → ℕ
+verdict_code (Ok accepted) = pick accepted done rejected
+verdict_code (Err r) = number_of r
+
 unfoldable pub records_answer : List ℕ → ℕ
 unfolding well_formed accepts
-records_answer b = bad_records unless well_formed b otherwise pick (accepts (record_count b) (recorded_at b)) done rejected
+records_answer b = verdict_code (records_check b)

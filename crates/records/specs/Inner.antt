@@ -8,22 +8,12 @@ use Rattle.records.specs.Accepts.{accepts, claimant, each_two, in_place, in_real
 use Rattle.records.specs.Play.{bag_after, bag_gives}
 use Rattle.records.specs.Recorded.{in_range, recorded_at}
 use Rattle.records.specs.declared.form.Recorded.{Recorded}
-use Rattle.records.specs.declared.play.Played.{Played}
 
 -- n records, all in range
 pub record WellFormed (b : List ℕ) (n : ℕ) : Type 0 where
   pub long : 28 * n ≤ length b
   pub few : n ≤ 1024
   pub ranged : (k : ℕ) → k < n → in_range (recorded_at b k) ≡ true
-
--- l numbers, all 0
-pub record AllZero (l : ℕ) (xs : List ℕ) : Type 0 where
-  pub long : length xs ≡ l
-  pub zeros : (k : ℕ) → get_or xs k 0 ≡ 0
-
-pub record ToOrder (b : List ℕ) (n : ℕ) (order : List ℕ) : Type 0 where
-  pub formed : WellFormed b n
-  pub free : AllZero 1024 order
 
 -- begin is before answer in each record, each of the positions 1 to n is claimed by one record, and the order has their numbers, from 1
 pub record InOrder (n : ℕ) (r : ℕ → Recorded) (order : List ℕ) : Type 0 where
@@ -36,30 +26,11 @@ pub record InOrder (n : ℕ) (r : ℕ → Recorded) (order : List ℕ) : Type 0 
   pub there : (k : ℕ) → k < n → claimant n r (suc k) < n
   pub claims : (k : ℕ) → k < n → (r (claimant n r (suc k))).position ≡ suc k
 
-pub record PutInOrder (n : ℕ) (r : ℕ → Recorded) (order : List ℕ) (q : Bool) : Type 0 where
-  pub yes : q ≡ true → InOrder n r order
-  pub no : q ≡ false → accepts n r ≡ false
-
--- the walk by position is at position k + 1
-pub record InWalk (b : List ℕ) (n : ℕ) (order : List ℕ) (k : ℕ) : Type 0 where
-  pub formed : WellFormed b n
-  pub ordered : InOrder n (recorded_at b) order
-  pub within : k < n
-
--- x is the record there
+-- x is the record at position k + 1
 pub record AtPosition (b : List ℕ) (n k : ℕ) (x : Recorded) : Type 0 where
   pub is : x ≡ in_place n (recorded_at b) k
   pub ranged : in_range x ≡ true
   pub low : x.thread < 65
-
-pub record ToTime (b : List ℕ) (n : ℕ) (order last : List ℕ) : Type 0 where
-  pub formed : WellFormed b n
-  pub ordered : InOrder n (recorded_at b) order
-  pub none : AllZero 65 last
-
--- the later of two times
-unfoldable pub later : ℕ → ℕ → ℕ
-later a b = pick (ltb a b) b a
 
 -- a thread whose last operation was answered at `last`, 0 for none, may begin another
 unfoldable pub ended : ℕ → ℕ → Bool
@@ -91,18 +62,8 @@ pub record InHeap (h : List ℕ) (n : ℕ) (bag : List Item) : Type 0 where
   pub size : length bag ≡ n
   pub items : AllItems bag
 
-pub record ToPlayOne (h : List ℕ) (size : ℕ) (r : Recorded) : Type 0 where
-  pub room : size + 1 < length h
-  pub ranged : in_range r ≡ true
-
--- one record played, whatever bag the heap holds
-pub record PlayedOne (h : List ℕ) (size : ℕ) (r : Recorded) (h' : List ℕ) (p : Played) : Type 0 where
-  pub same_length : length h' ≡ length h
-  pub most : p.size ≤ size + 1
-  pub given : (bag : List Item) → InHeap h size bag → p.given ≡ bag_gives bag r
-  pub after : (bag : List Item) → InHeap h size bag → p.given ≡ true → InHeap h' p.size (bag_after bag r)
-
-pub record ToPlay (b : List ℕ) (n : ℕ) (order h : List ℕ) : Type 0 where
-  pub formed : WellFormed b n
-  pub ordered : InOrder n (recorded_at b) order
-  pub none : AllZero 1025 h
+-- one record played, whatever bag the heap holds: q says whether the bag gives its answer
+pub record PlayedOne (h : List ℕ) (size : ℕ) (r : Recorded) (h' : List ℕ) (size' : ℕ) (q : Bool) : Type 0 where
+  pub most : size' ≤ size + 1
+  pub given : (bag : List Item) → InHeap h size bag → q ≡ bag_gives bag r
+  pub after : (bag : List Item) → InHeap h size bag → q ≡ true → InHeap h' size' (bag_after bag r)

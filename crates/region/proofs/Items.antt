@@ -1,21 +1,11 @@
--- Items: which are in range, and when two are the same. Assumes nothing.
-use Prim.Native.Nat.{◌≤◌, ◌<◌}
+-- Items: when two are the same. Assumes nothing.
 use mathlib.Core.Path.{◌≡◌, refl, sym, subst, ◌∙◌}
 use mathlib.Core.Bool.{Bool, true, false, true≢false}
-use borrow.Author.Tests.{eqb-true, eq-eqb, le-leb, lt-leb}
-use lib.Dec.{leb, eqb}
-use Rattle.region.specs.Record.{greatest_key, greatest_tag, is_item, same_item}
+use borrow.Author.Tests.{eqb-true, eq-eqb}
+use lib.Dec.{eqb}
+use Rattle.region.specs.Record.{same_item}
 use Rattle.region.specs.declared.record.Item.{Item}
 use Rattle.region.proofs.Shapes.{and_left, and_right, and_both}
-
-module _ (i : Item) where
-  pub no_key : greatest_key < i.key → false ≡ is_item i
-  unfolding is_item
-  no_key h = rw (lt-leb i.key greatest_key h) refl
-
-  pub some_key : i.key ≤ greatest_key → leb i.tag greatest_tag ≡ is_item i
-  unfolding is_item
-  some_key h = rw (le-leb i.key greatest_key h) refl
 
 -- equal items are one
 pub same_item_lem : (i j : Item) → same_item i j ≡ true → i ≡ j

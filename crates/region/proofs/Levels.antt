@@ -1,4 +1,4 @@
--- A node's level: its digits and its leading zeros are 32 together, and "Level j holds nodes 2^(j−1) to 2^j − 1". Assumes nothing.
+-- A node's level: its digits and its leading zeros are 32 together, and level j holds nodes 2^(j−1) to 2^j − 1. Assumes nothing.
 use Prim.Native.Nat.{ℕ, zero, suc, ◌+◌, ◌-◌, ◌*◌, ◌/◌, ◌^◌, ◌≤◌, ◌<◌}
 use native.Mathlib.Decide.{dec_lt}
 use native.Mathlib.Nat.{div-one}
@@ -83,17 +83,9 @@ level_unique n j lo hi fits =
     let some : 1 ≤ n = omega (arith, lo, pow_pos (j - 1)) in
     omega (arith, level_at_least n j some fits lo, level_at_most n j some fits hi)
 
--- Ancestors.
-module _ (n j l : ℕ) (e : l ≡ level n) where
-  pub ancestor_itself : l ≤ j → n ≡ ancestor n j
-  unfolding ancestor
-  ancestor_itself h =
-      let z : 0 ≡ level n - j = omega arith in
-      sym (div-one n) ∙ ap (λ k. n / 2 ^ k) z
-
-  pub few_halvings : 1 ≤ j → j < l → l - j < 32
-  few_halvings p h = omega (arith, level_most n)
-
-  pub ancestor_halved : j < l → n / 2 ^ (l - j) ≡ ancestor n j
-  unfolding ancestor
-  ancestor_halved h = ap (λ k. n / 2 ^ (k - j)) e
+-- at its own level or a deeper one, a node is its own ancestor
+pub ancestor_itself : (n j l : ℕ) → l ≡ level n → l ≤ j → n ≡ ancestor n j
+unfolding ancestor
+ancestor_itself n j l e h =
+    let z : 0 ≡ level n - j = omega arith in
+    sym (div-one n) ∙ ap (λ k. n / 2 ^ k) z

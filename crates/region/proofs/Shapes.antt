@@ -4,7 +4,7 @@ use native.Mathlib.Nat.{mod-eq_of_lt, one-mul}
 use native.Mathlib.Omega.{arith}
 use mathlib.Core.Path.{◌≡◌, refl, sym, ap, ◌∙◌}
 use mathlib.Core.Bool.{Bool, true, false, not, ◌&&◌, true≢false}
-use borrow.Author.Tests.{leb-true, le-leb, lt-leb, not-true, not-false}
+use borrow.Author.Tests.{leb-true, le-leb, lt-leb, not-false}
 use lib.Dec.{leb}
 use lib.Pow.{pow_mono, pow_pos, pow-lt}
 use Rattle.region.specs.Shape.{between, shape_fits, region_words, region_words_of_width}
@@ -49,10 +49,6 @@ below lo x hi p = and_not_left (leb x hi) (lt-leb lo x p)
 pub above : (lo x hi : ℕ) → hi < x → between lo x hi ≡ false
 unfolding between
 above lo x hi p = and_not_right (leb lo x) (lt-leb x hi p)
-
-pub from_least : (lo x hi : ℕ) → lo ≤ x → leb x hi ≡ between lo x hi
-unfolding between
-from_least lo x hi p = rw (le-leb lo x p) refl
 
 -- A shape in range, as inequalities between numbers, and the sizes that follow.
 pub in_range : (s : Shape) → shape_fits s ≡ true → InRange s
@@ -106,36 +102,6 @@ sizes s h =
 -- One shifted is a power.
 pub shifted : (w d : ℕ) → d < w → (1 * 2 ^ d) % 2 ^ w ≡ 2 ^ d
 shifted w d h = ap (λ n. n % 2 ^ w) (one-mul (2 ^ d)) ∙ mod-eq_of_lt (pow-lt h)
-
--- The tests of a shape in order: the first that fails decides, and the last decides where the others hold.
-module _ (s : Shape) (d : Bool) (ed : d ≡ between 1 s.depth 12) where
-  pub bad_depth : not d ≡ true → false ≡ shape_fits s
-  unfolding shape_fits
-  bad_depth n = rw (← ed, not-true d n) refl
-
-  module _ (gd : not d ≡ false) where
-    pub some_depth : 1 ≤ s.depth
-    some_depth = between_least 1 s.depth 12 (sym ed ∙ not-false d gd)
-
-    pub few_levels : s.depth - 1 < 32
-    few_levels = omega (arith, between_most 1 s.depth 12 (sym ed ∙ not-false d gd))
-
-    module _ (c : Bool) (ec : c ≡ between 1 s.cells ((1 * 2 ^ (s.depth - 1)) % 2 ^ 32)) where
-      cells_test : c ≡ between 1 s.cells (2 ^ (s.depth - 1))
-      cells_test = ec ∙ ap (between 1 s.cells) (shifted 32 (s.depth - 1) few_levels)
-
-      pub bad_cells : not c ≡ true → false ≡ shape_fits s
-      unfolding shape_fits
-      bad_cells n = rw (← ed, not-false d gd, ← cells_test, not-true c n) refl
-
-      module _ (gc : not c ≡ false) (t : Bool) (et : t ≡ between 1 s.threads 64) where
-        pub bad_threads : not t ≡ true → false ≡ shape_fits s
-        unfolding shape_fits
-        bad_threads n = rw (← ed, not-false d gd, ← cells_test, not-false c gc, ← et, not-true t n) refl
-
-        pub last_test : not t ≡ false → (h : Bool) → h ≡ between 1 s.threshold 16 → h ≡ shape_fits s
-        unfolding shape_fits
-        last_test gt h eh = rw (← ed, not-false d gd, ← cells_test, not-false c gc, ← et, not-false t gt) eh
 
 -- The largest region has 24,834 words.
 pub words_most : (s : Shape) → InRange s → region_words s ≤ 24834

@@ -4,20 +4,19 @@ use Prim.Native.Nat.{ℕ, suc, ◌+◌, ◌≤◌, ◌<◌}
 use native.Mathlib.Omega.{arith}
 use mathlib.Core.Path.{◌≡◌, refl, sym, ap, ◌∙◌}
 use mathlib.Core.List.{List, [], ◌∷◌, ◌++◌}
-use lib.Dec.{eqb}
 use lib.ListN.{length, get_or}
-use Rattle.words.specs.Word.{word, words_at, set_words}
+use Rattle.words.specs.Word.{word, words_at}
 use Rattle.words.specs.Inner.{Fit}
-use Rattle.words.proofs.Laws.{word_among, set_words_behind}
-use Rattle.region.specs.Place.{place_of, place_number, waiting_levels}
+use Rattle.words.proofs.Laws.{word_among}
+use Rattle.region.specs.Place.{place_of}
 use Rattle.region.specs.Inner.{CopyFits, NodeFits, ThreadFits, Width, one_word, two_words}
-use Rattle.region.specs.Record.{counter_size, node_size, copy_size, high_of, node_of, node_words, node_at, cell_at, item_of, cell_words, copy_of, copy_words, copy_at, set_copy_at}
-use Rattle.region.specs.Thread.{thread_size, place_word, waiting_word, first_copy_word, second_copy_word, third_copy_word, search_of, field_words, thread_of, thread_words, thread_at, set_thread_at, is_idle}
+use Rattle.region.specs.Record.{counter_size, node_size, copy_size, high_of, node_of, node_words, node_at, cell_at, item_of, cell_words, copy_of, copy_words, copy_at}
+use Rattle.region.specs.Thread.{thread_size, place_word, waiting_word, first_copy_word, second_copy_word, third_copy_word, search_of, field_words, thread_of, thread_words, thread_at}
 use Rattle.region.specs.declared.place.Place.{Place}
 use Rattle.region.specs.declared.record.Node.{Node}
 use Rattle.region.specs.declared.record.NodeCopy.{NodeCopy}
 use Rattle.region.specs.declared.thread.Thread.{Thread}
-use Rattle.region.proofs.Places.{place_again}
+use Rattle.region.specs.Laws.{place_again, thread_back}
 
 -- the record that the words a make, its place and its copies given
 abbrev pub loaded : List ℕ → Place → NodeCopy → NodeCopy → NodeCopy → Thread
@@ -151,50 +150,4 @@ thread_again one_word t h =
     let second = read_back q.second _ (node_again one_word q.second.node h.second.node) in
     let third = read_back q.third _ (node_again one_word q.third.node h.third.node) in
     λ i. loaded (field_words t) (place_again t.place i) (first i) (second i) (third i)
-thread_again two_words t h = λ i. loaded (field_words t) (place_again t.place i) t.copies.first t.copies.second t.copies.third
-
--- the words before the copies that a store lists, the place's two given
-abbrev pub stored : Thread → ℕ → ℕ → List ℕ
-stored t n w =
-    t.permission
-    ∷ n
-    ∷ t.item.key
-    ∷ t.item.tag
-    ∷ t.own
-    ∷ t.depth
-    ∷ t.search_state.leaf
-    ∷ t.search_state.tries
-    ∷ t.search_state.lo
-    ∷ t.search_state.hi
-    ∷ t.node
-    ∷ w
-    ∷ t.after
-    ∷ t.result.key
-    ∷ t.result.tag
-    ∷ []
-
-pub thread_stored : (b b₁ b₂ b₃ b' : List ℕ) (at : ℕ) (t : Thread) (n w : ℕ) → n ≡ place_number t.place
-    → w ≡ waiting_levels t.place → b₁ ≡ set_words b at (stored t n w) → b₂ ≡ set_copy_at counter_size b₁ (at + first_copy_word) t.copies.first
-    → b₃ ≡ set_copy_at counter_size b₂ (at + second_copy_word counter_size) t.copies.second → b' ≡ set_copy_at counter_size b₃ (at + third_copy_word counter_size) t.copies.third
-    → b' ≡ set_thread_at counter_size b at t
-unfolding set_thread_at set_copy_at
-thread_stored b b₁ b₂ b₃ b' at t n w en ew e₁ e₂ e₃ e₄ =
-    let q = copy_words counter_size t.copies.first in
-    let r = copy_words counter_size t.copies.second in
-    let s = copy_words counter_size t.copies.third in
-    let k₂ : at + second_copy_word counter_size ≡ at + first_copy_word + copy_size counter_size = omega arith in
-    let k₃ : at + third_copy_word counter_size ≡ at + first_copy_word + copy_size counter_size + copy_size counter_size = omega arith in
-    let f₁ : b₁ ≡ set_words b at (field_words t) = e₁ ∙ (λ i. set_words b at (stored t (en i) (ew i))) in
-    let f₂ = e₂ ∙ (λ i. set_words (f₁ i) (at + first_copy_word) q) in
-    let f₃ = e₃ ∙ (λ i. set_words (f₂ i) (k₂ i) r) in
-    e₄
-    ∙ (λ i. set_words (f₃ i) (k₃ i) s)
-    ∙ sym
-    (set_words_behind (field_words t) (q ++ (r ++ s)) b at
-    ∙ set_words_behind q (r ++ s) (set_words b at (field_words t)) (at + first_copy_word)
-    ∙ set_words_behind r s (set_words (set_words b at (field_words t)) (at + first_copy_word) q) (at + first_copy_word + copy_size counter_size))
-
--- place 0 is idle
-pub idle_test : (t : Thread) (n : ℕ) → n ≡ place_number t.place → eqb n 0 ≡ is_idle t
-unfolding is_idle
-idle_test t n e = ap (λ k. eqb k 0) e
+thread_again two_words t h = thread_back t

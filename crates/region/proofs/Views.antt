@@ -14,7 +14,8 @@ use lib.ListN.{length, get_or}
 use Rattle.words.specs.Word.{word, set_word, words_at, set_words}
 use Rattle.words.specs.Inner.{Fit}
 use Rattle.words.proofs.Laws.{word_stored, word_same, word_other, word_apart, words_at_same, words_at_reads, length-set_word, length-set_words}
-use Rattle.region.specs.Frame.{Part, nodes_of, cells_of, threads_of}
+use Rattle.region.specs.Frame.{nodes_of, cells_of, threads_of}
+use Rattle.region.specs.declared.part.Part.{Part}
 use Rattle.region.specs.Inner.{Apart, before, behind, Framed, NodeFits, ThreadFits, Width, one_word, two_words, depth_of, free_of, part_size}
 use Rattle.region.specs.Pick.{pick, upd}
 use Rattle.region.specs.Record.{node_size, cell_size, node_of, node_words, empty_node, node_at, set_node_at, cell_of, cell_words, zero_cell, cell_at, set_cell_at}
@@ -34,13 +35,13 @@ abbrev pub Outside : ℕ → ℕ → ℕ → Type 0
 Outside k n j = (j < k) ⊎ (k + n ≤ j)
 
 -- A record of `size` words: what is stored is read back, only its words change, and it is read from them alone.
-record Codec {A : Type 0} (at : List ℕ → ℕ → A) (store : List ℕ → ℕ → A → List ℕ) (fits : A → Type 0) (size : ℕ) : Type 0 where
-  same : (b : List ℕ) (k : ℕ) (v : A) → 4 * (k + size) ≤ length b → fits v → at (store b k v) k ≡ v
-  only : (b : List ℕ) (k j : ℕ) (v : A) → Outside k size j → word (store b k v) j ≡ word b j
-  reads : (b b' : List ℕ) (k : ℕ) → ((j : ℕ) → k ≤ j → j < k + size → word b j ≡ word b' j) → at b k ≡ at b' k
+pub record Codec {A : Type 0} (at : List ℕ → ℕ → A) (store : List ℕ → ℕ → A → List ℕ) (fits : A → Type 0) (size : ℕ) : Type 0 where
+  pub same : (b : List ℕ) (k : ℕ) (v : A) → 4 * (k + size) ≤ length b → fits v → at (store b k v) k ≡ v
+  pub only : (b : List ℕ) (k j : ℕ) (v : A) → Outside k size j → word (store b k v) j ≡ word b j
+  pub reads : (b b' : List ℕ) (k : ℕ) → ((j : ℕ) → k ≤ j → j < k + size → word b j ≡ word b' j) → at b k ≡ at b' k
 
 -- any record of `size` words that is read back from them
-codec : {A : Type 0} (of : List ℕ → A) (words : A → List ℕ) (fits : A → Type 0) (size : ℕ) → ((v : A) → length (words v) ≡ size)
+pub codec : {A : Type 0} (of : List ℕ → A) (words : A → List ℕ) (fits : A → Type 0) (size : ℕ) → ((v : A) → length (words v) ≡ size)
     → ((v : A) → fits v → Fit (words v)) → ((v : A) → fits v → of (words v) ≡ v)
     → Codec (λ b k. of (words_at b k size)) (λ b k v. set_words b k (words v)) fits size
 codec of words fits size long fit again =
@@ -155,6 +156,26 @@ module _ {A : Type 0} {at : List ℕ → ℕ → A} {store : List ℕ → ℕ �
         go : Dec (k ≡ n) → load_entry at none p (store b (entry p n) v) k ≡ pick (eqb k n) v (load_entry at none p b k)
         go (yes e) = ap (load_entry at none p (store b (entry p n) v)) e ∙ load_same ends f ∙ rw (eq-eqb k n e) refl
         go (no e) = load_other k e ∙ rw (ne_eqb k n e) refl
+
+  store_none : (b : List ℕ) (n : ℕ) (v : A) → between 1 n p.count ≡ false → store_entry store p b n v ≡ b
+  unfolding store_entry pick
+  store_none b n v e = rw e refl
+
+  -- the same without the update: what was stored is read back, and a store of any number leaves the others alone
+  pub stored_back : (b : List ℕ) (n : ℕ) (v : A) → 1 ≤ n → n ≤ p.count → 4 * (p.start + part_size p) ≤ length b → fits v
+      → load_entry at none p (store_entry store p b n v) n ≡ v
+  stored_back b n v l u ends f = ap (λ x. load_entry at none p x n) (store_there b n v l u) ∙ load_same b n v l u ends f
+
+  pub stored_apart : (b : List ℕ) (m n : ℕ) (v : A) → (m ≡ n → ⊥)
+      → load_entry at none p (store_entry store p b n v) m ≡ load_entry at none p b m
+  stored_apart b m n v ne = go (between 1 n p.count) refl
+    where
+      go : (q : Bool) → between 1 n p.count ≡ q → load_entry at none p (store_entry store p b n v) m ≡ load_entry at none p b m
+      go true e =
+          let l = between_least 1 n p.count e in
+          let u = between_most 1 n p.count e in
+          ap (λ x. load_entry at none p x m) (store_there b n v l u) ∙ load_other b n v l u m ne
+      go false e = ap (λ x. load_entry at none p x m) (store_none b n v e)
 
 -- What one store of a frame leaves of a part that lies apart from its own.
 outside : {p q : Part} → Apart p q → (j : ℕ) → p.start ≤ j → j < p.start + part_size p → Outside q.start (part_size q) j

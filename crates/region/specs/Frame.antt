@@ -4,9 +4,10 @@ use Rattle.region.specs.Record.{counter_size, node_size, cell_size}
 use Rattle.region.specs.Shape.{head_size, node_count}
 use Rattle.region.specs.Thread.{thread_size}
 use Rattle.region.specs.declared.frame.Frame.{Frame}
+use Rattle.region.specs.declared.part.Part.{Part}
 use Rattle.region.specs.declared.shape.Shape.{Shape}
 
--- "Six words: D, C, T, H, present depth, first free cell. Then 2^D − 1 nodes .. Then C cells .. Then T threads"; w is the words of a counter
+-- six words (D, C, T, H, present depth, first free cell), then 2^D − 1 nodes, then C cells, then T threads; w is the words of a counter
 unfoldable pub frame_of_width : ℕ → Shape → Frame
 frame_of_width w s =
     record {
@@ -20,16 +21,11 @@ frame_of_width w s =
       width = w;
     }
 
--- counters "become two words" (document 02, request 7)
+-- counters have two words
 abbrev pub frame_of : Shape → Frame
 frame_of s = frame_of_width counter_size s
 
--- a part of a region: `count` records, `stride` words from one to the next
-pub record Part : Type 0 where
-  pub start : ℕ
-  pub stride : ℕ
-  pub count : ℕ
-
+-- the parts of a queue: `count` records, `stride` words from one to the next
 abbrev pub nodes_of : Frame → Part
 nodes_of f = record { start = f.nodes; stride = node_size f.width; count = node_count f.shape }
 

@@ -9,7 +9,8 @@ use Rattle.region.specs.Record.{cell_size, cell_words, counter_size, node_size, 
 use Rattle.region.specs.Shape.{node_count}
 use Rattle.region.specs.Thread.{field_words, thread_size}
 use Rattle.region.specs.declared.frame.Frame.{Frame}
-use Rattle.region.specs.Frame.{Part, cells_of, nodes_of, threads_of}
+use Rattle.region.specs.Frame.{cells_of, nodes_of, threads_of}
+use Rattle.region.specs.declared.part.Part.{Part}
 
 -- a shape that fits, as inequalities between numbers
 pub record InRange (s : Shape) : Type 0 where

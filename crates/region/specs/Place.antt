@@ -1,5 +1,5 @@
--- The places' numbers (document 01, The sixteen places): "numbered 1 to 16 in the order below (0 is idle)"; and 17 to 19 (request 1):
--- "Places 17 and 18 read and empty the root (failure: 17), 19 hands out".
+-- The places' numbers: 0 is idle, 1 to 16 the places of put, take and mending in the order below. 17 and 18 read and empty the root for a list
+-- (where that fails, the thread goes back to 17), and 19 hands out.
 use Rattle.std.specs.Prelude.{ℕ, List, [], ◌∷◌, get_or}
 use Rattle.region.specs.declared.place.Place.{Place}
 use Rattle.region.specs.declared.place.Place.TheVariants.{Idle, ReadDepth, ReadLeaf, ReadAncestor, GrowDepth, ReadTarget, InsertAtRoot, ReadParent, InsertBelow, ReadRoot, RemoveHead, MendReadNode, MendReadDepth, MendReadLeft, MendReadRight, MendSwap, MendClean, ListReadRoot, RemoveList, HandOut}
@@ -55,7 +55,7 @@ place_number ListReadRoot = 17
 place_number RemoveList = 18
 place_number HandOut = 19
 
--- "waiting levels (bit j−1 for level j)", "waiting marks only at M places"
+-- the waiting levels, bit j−1 for level j: only a mending place has any
 abbrev pub waiting_levels : Place → ℕ
 waiting_levels Idle = 0
 waiting_levels ReadDepth = 0

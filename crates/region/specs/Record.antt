@@ -1,4 +1,4 @@
--- Items, nodes, cells and node copies as words, in document 01's order ("The region").
+-- Items, nodes, cells and node copies as words, in the order in which they stand in a region.
 use Rattle.std.specs.Prelude.{ℕ, zero, suc, ◌+◌, ◌*◌, Bool, ◌&&◌, List, [], ◌∷◌, ◌++◌, leb, eqb, get_or}
 use Rattle.words.specs.Word.{words_at, set_words}
 use Rattle.region.specs.declared.record.Item.{Item}
@@ -6,7 +6,7 @@ use Rattle.region.specs.declared.record.Node.{Node}
 use Rattle.region.specs.declared.record.Cell.{Cell}
 use Rattle.region.specs.declared.record.NodeCopy.{NodeCopy}
 
--- "Keys are 0 to 4,294,967,294.", "Tags are 0 to 65,535."
+-- keys are 0 to 4,294,967,294, tags 0 to 65,535
 abbrev pub greatest_key : ℕ
 greatest_key = 4294967294
 
@@ -17,12 +17,12 @@ greatest_tag = 65535
 unfoldable pub is_item : Item → Bool
 is_item i = leb i.key greatest_key && leb i.tag greatest_tag
 
--- "An item is a key with a tag."
+-- an item is a key with a tag
 unfoldable pub same_item : Item → Item → Bool
 same_item i j = eqb i.key j.key && eqb i.tag j.tag
 
--- "Counters in nodes and in node copies become two words, low first" (document 02, request 7): how many words a counter has. In regions of the
--- form before that request it has one. Sizes and readings of records take this number, w, so that there is one definition for both forms.
+-- Counters in nodes and in node copies have two words, low first: how many words a counter has. In regions of the
+-- earlier form it has one. Sizes and readings of records take this number, w, so that there is one definition for both forms.
 abbrev pub counter_size : ℕ
 counter_size = 2
 
@@ -33,11 +33,11 @@ old_counter_size = 1
 unfoldable pub counter_of : Node → ℕ
 counter_of n = n.low + 4294967296 * n.high
 
--- the last value of a counter ("Refusal 11 now stands at 2^64 − 1", request 7)
+-- the last value of a counter, at which refusal 11 stands: 2^64 − 1
 abbrev pub greatest_counter : ℕ
 greatest_counter = 18446744073709551615
 
--- "nodes of three words", "C cells: key, tag, next cell", "node copies of six words" of document 01, whose counters have one word: how many
+-- a node (three words where counters have one), a cell (key, tag, next cell) and a node copy (six words where counters have one): how many
 -- words each has
 abbrev pub node_size : ℕ → ℕ
 node_size w = 2 + w
@@ -67,25 +67,25 @@ cell_of ws k = record { item = item_of ws k; next = get_or ws (k + 2) 0 }
 abbrev pub copy_of : ℕ → List ℕ → ℕ → NodeCopy
 copy_of w ws k = record { node = node_of w ws k; head = cell_of ws (k + node_size w) }
 
--- the words of a counter, "low first"
+-- the words of a counter, low first
 abbrev pub counter_words : ℕ → Node → List ℕ
 counter_words zero n = []
 counter_words (suc zero) n = n.low ∷ []
 counter_words (suc (suc w)) n = n.low ∷ n.high ∷ []
 
--- "first cell (0 for none), dirty (0 or 1), counter"
+-- first cell (0 for none), dirty (0 or 1), counter
 abbrev pub node_words : ℕ → Node → List ℕ
 node_words w n = n.first ∷ n.dirty ∷ counter_words w n
 
--- "C cells: key, tag, next cell (0 ends)"
+-- key, tag, next cell (0 ends)
 abbrev pub cell_words : Cell → List ℕ
 cell_words c = c.item.key ∷ c.item.tag ∷ c.next ∷ []
 
--- "node copies .. (first cell, dirty, counter, head's key, head's tag, head's next)"
+-- first cell, dirty, counter, head's key, head's tag, head's next
 abbrev pub copy_words : ℕ → NodeCopy → List ℕ
 copy_words w q = node_words w q.node ++ cell_words q.head
 
--- "all nodes empty, clean, counter 0"
+-- empty, clean, counter 0
 abbrev pub empty_node : Node
 empty_node = record { first = 0; dirty = 0; low = 0; high = 0 }
 

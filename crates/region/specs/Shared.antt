@@ -1,13 +1,14 @@
 -- Shared memory and the threads' records, read from a region's bytes as functions of their numbers, which count from 1. A number out of
 -- range reads as the empty node, the zero cell or the idle thread with no permission, and a store out of range stores nothing.
 use Rattle.std.specs.Prelude.{ℕ, ◌+◌, ◌-◌, ◌*◌, List}
-use Rattle.words.specs.Word.{word, set_word}
-use Rattle.region.specs.Frame.{Part, nodes_of, cells_of, threads_of}
+use Rattle.words.specs.Word.{word, set_word, words_at, set_words}
+use Rattle.region.specs.Frame.{nodes_of, cells_of, threads_of}
 use Rattle.region.specs.Pick.{pick, upd}
 use Rattle.region.specs.Record.{empty_node, zero_cell, node_at, set_node_at, cell_at, set_cell_at}
 use Rattle.region.specs.Shape.{between}
 use Rattle.region.specs.Thread.{idle_thread, thread_at, set_thread_at}
 use Rattle.region.specs.declared.frame.Frame.{Frame}
+use Rattle.region.specs.declared.part.Part.{Part}
 use Rattle.region.specs.declared.record.Cell.{Cell}
 use Rattle.region.specs.declared.record.Node.{Node}
 use Rattle.region.specs.declared.thread.Thread.{Thread}
@@ -22,6 +23,13 @@ load_entry at none p b k = pick (between 1 k p.count) (at b (entry p k)) none
 
 unfoldable pub store_entry : {A : Type 0} → (List ℕ → ℕ → A → List ℕ) → Part → List ℕ → ℕ → A → List ℕ
 store_entry store p b k v = pick (between 1 k p.count) (store b (entry p k) v) b
+
+-- record k of a kind: `of` makes it of its `size` words, and `to` gives its words
+abbrev pub record_in : {A : Type 0} → (List ℕ → A) → ℕ → A → Part → List ℕ → ℕ → A
+record_in of size none p b k = load_entry (λ c at. of (words_at c at size)) none p b k
+
+abbrev pub set_record_in : {A : Type 0} → (A → List ℕ) → Part → List ℕ → ℕ → A → List ℕ
+set_record_in to p b k v = store_entry (λ c at r. set_words c at (to r)) p b k v
 
 unfoldable pub node_in : Frame → List ℕ → ℕ → Node
 unfolding load_entry

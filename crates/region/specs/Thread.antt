@@ -1,4 +1,4 @@
--- The thread's record as words, and the records that its methods give (document 01, The region).
+-- The thread's record as words, and the records that its methods give.
 use Rattle.std.specs.Prelude.{ℕ, ◌+◌, Bool, List, [], ◌∷◌, ◌++◌, eqb, get_or}
 use Rattle.words.specs.Word.{words_at, set_words}
 use Rattle.region.specs.Place.{place_of, place_number, waiting_levels}
@@ -11,7 +11,7 @@ use Rattle.region.specs.declared.thread.Copies.{Copies}
 use Rattle.region.specs.declared.thread.Search.{Search}
 use Rattle.region.specs.declared.thread.Thread.{Thread}
 
--- "permission 0..3": both bits set
+-- a permission is 0 to 3: both bits set
 abbrev pub greatest_permission : ℕ
 greatest_permission = 3
 
@@ -38,15 +38,15 @@ second_copy_word w = first_copy_word + copy_size w
 abbrev pub third_copy_word : ℕ → ℕ
 third_copy_word w = second_copy_word w + copy_size w
 
--- "threads of 33 words" (document 01, w = 1); "36 × T words" (request 7, w = 2)
+-- 33 words where counters have one word, 36 where they have two
 abbrev pub thread_size : ℕ → ℕ
 thread_size w = third_copy_word w + copy_size w
 
 abbrev pub search_of : List ℕ → ℕ → ℕ → ℕ → ℕ → Search
 search_of ws a b c d = record { leaf = get_or ws a 0; tries = get_or ws b 0; lo = get_or ws c 0; hi = get_or ws d 0 }
 
--- "permission, place, key, tag, own cell, d, leaf, tries, lo, hi, node, waiting levels .., after .., result key, result tag,
--- then three node copies"
+-- permission, place, key, tag, own cell, d, leaf, tries, lo, hi, node, waiting levels, after, result key, result tag,
+-- then three node copies
 abbrev pub thread_of : ℕ → List ℕ → Thread
 thread_of w ws =
     record {
@@ -123,11 +123,11 @@ thread_with p x i o d s n a r c =
 abbrev pub idle_thread : ℕ → Thread
 idle_thread p = thread_with p Idle zero_item 0 0 zero_search 0 0 zero_item zero_copies
 
--- "Going idle zeroes every field but the permission."
+-- going idle zeroes every field but the permission
 unfoldable pub gone_idle : Thread → Thread
 gone_idle t = idle_thread t.permission
 
--- "any other field keeps what was last put in it": the record with another value in one field
+-- any other field keeps what was last put in it: the record with another value in one field
 unfoldable pub with_permission : Thread → ℕ → Thread
 with_permission t x =
     thread_with x t.place t.item t.own t.depth t.search_state t.node t.after t.result t.copies
@@ -181,16 +181,16 @@ unfoldable pub with_third : Thread → NodeCopy → Thread
 unfolding with_copies
 with_third t x = with_copies t (record { first = t.copies.first; second = t.copies.second; third = x })
 
--- "0 is idle"
+-- 0 is idle
 unfoldable pub is_idle : Thread → Bool
 is_idle t = eqb (place_number t.place) 0
 
--- "Beginning sets the place (I1 or E1) and, for a put, key, tag and own cell." A take sets its place alone, E1 or request 1's 17.
+-- beginning sets the place (I1 or E1) and, for a put, key, tag and own cell; a take sets its place alone, E1, or 17 for a list
 unfoldable pub begun_put : Thread → Item → ℕ → Thread
 unfolding at_place with_item with_own
 begun_put t i own = at_place (with_own (with_item t i) own) ReadDepth
 
--- "Mend n": to M1 at node n, with these levels waiting
+-- to M1 at node n, with these levels waiting
 unfoldable pub mending : Thread → ℕ → ℕ → Thread
 unfolding at_place with_node
 mending t n w = at_place (with_node t n) (MendReadNode w)

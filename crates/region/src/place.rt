@@ -2,10 +2,11 @@
 ghost use Rattle.std.specs.Prelude.{◌≡◌};
 ghost use Rattle.region.specs.Place.{place_of, place_number, waiting_levels};
 
-// "A thread stands idle or at one of sixteen places" (document 01, whose label stands beside each), or at one of request 1's
-// three. The mending places carry the levels whose nodes wait to be mended: bit j - 1 for level j.
-#[derive(Clone, Copy)]
+// A thread stands idle or at one of nineteen places: those of put, take and mending with the label that the published listing gives them, and
+// the three of a list. The mending places carry the levels whose nodes wait to be mended: bit j - 1 for level j.
+#[derive(Clone, Copy, PartialEq, Eq, Default, Debug)]
 pub enum Place {
+    #[default]
     Idle,
     // I1 to I8: put
     ReadDepth,
@@ -32,35 +33,36 @@ pub enum Place {
     HandOut,
 }
 
-// The place with this number; a mending place carries these waiting levels. A number past 19 is idle.
-pub fn place_of(number: u32, waiting: u32) -> Place
-    ensures { result ≡ place_of number waiting }
-{
-    match number {
-        1 => Place::ReadDepth,
-        2 => Place::ReadLeaf,
-        3 => Place::ReadAncestor,
-        4 => Place::GrowDepth,
-        5 => Place::ReadTarget,
-        6 => Place::InsertAtRoot,
-        7 => Place::ReadParent,
-        8 => Place::InsertBelow,
-        9 => Place::ReadRoot,
-        10 => Place::RemoveHead,
-        11 => Place::MendReadNode(waiting),
-        12 => Place::MendReadDepth(waiting),
-        13 => Place::MendReadLeft(waiting),
-        14 => Place::MendReadRight(waiting),
-        15 => Place::MendSwap(waiting),
-        16 => Place::MendClean(waiting),
-        17 => Place::ListReadRoot,
-        18 => Place::RemoveList,
-        19 => Place::HandOut,
-        _ => Place::Idle,
-    }
-}
-
 impl Place {
+    // The place with this number; a mending place carries these waiting levels. A number past 19 is idle.
+    pub fn of(number: u32, waiting: u32) -> Place
+        ensures { result ≡ place_of number waiting }
+    {
+        match number {
+            1 => Place::ReadDepth,
+            2 => Place::ReadLeaf,
+            3 => Place::ReadAncestor,
+            4 => Place::GrowDepth,
+            5 => Place::ReadTarget,
+            6 => Place::InsertAtRoot,
+            7 => Place::ReadParent,
+            8 => Place::InsertBelow,
+            9 => Place::ReadRoot,
+            10 => Place::RemoveHead,
+            11 => Place::MendReadNode(waiting),
+            12 => Place::MendReadDepth(waiting),
+            13 => Place::MendReadLeft(waiting),
+            14 => Place::MendReadRight(waiting),
+            15 => Place::MendSwap(waiting),
+            16 => Place::MendClean(waiting),
+            17 => Place::ListReadRoot,
+            18 => Place::RemoveList,
+            19 => Place::HandOut,
+            _ => Place::Idle,
+        }
+    }
+
+    // stays: word 1 of a thread's record is this number (`thread_words`); a variant with a field has no discriminant to cast.
     pub fn number(self) -> u32
         ensures { result ≡ place_number self }
     {
@@ -93,26 +95,13 @@ impl Place {
         ensures { result ≡ waiting_levels self }
     {
         match self {
-            Place::Idle => 0,
-            Place::ReadDepth => 0,
-            Place::ReadLeaf => 0,
-            Place::ReadAncestor => 0,
-            Place::GrowDepth => 0,
-            Place::ReadTarget => 0,
-            Place::InsertAtRoot => 0,
-            Place::ReadParent => 0,
-            Place::InsertBelow => 0,
-            Place::ReadRoot => 0,
-            Place::RemoveHead => 0,
-            Place::MendReadNode(w) => w,
-            Place::MendReadDepth(w) => w,
-            Place::MendReadLeft(w) => w,
-            Place::MendReadRight(w) => w,
-            Place::MendSwap(w) => w,
-            Place::MendClean(w) => w,
-            Place::ListReadRoot => 0,
-            Place::RemoveList => 0,
-            Place::HandOut => 0,
+            Place::MendReadNode(waiting)
+            | Place::MendReadDepth(waiting)
+            | Place::MendReadLeft(waiting)
+            | Place::MendReadRight(waiting)
+            | Place::MendSwap(waiting)
+            | Place::MendClean(waiting) => waiting,
+            _ => 0,
         }
     }
 }

@@ -1,24 +1,58 @@
-// An item, a node, a cell and a node copy, by value. Each is a few words of the region, in a row.
-ghost use Rattle.std.specs.Prelude.{◌≡◌, ◌+◌, ◌*◌, ◌≤◌, length, [], ◌∷◌};
-ghost use Rattle.region.specs.Record.{counter_size, node_size, cell_size, copy_size, empty_node, zero_cell, copy_of, node_at, set_node_at, cell_at, set_cell_at, copy_at, set_copy_at, is_item};
+// A record is a value that is a few words of the region, in a row: an item, a node, a cell, a node copy.
+ghost use Rattle.std.specs.Prelude.{◌≡◌, ℕ, ◌+◌, ◌*◌, ◌≤◌, List, [], ◌∷◌, length, get_or};
+ghost use Rattle.std.proofs.Common.{rules};
+ghost use Rattle.words.specs.Word.{words_at, set_words};
+ghost use Rattle.region.specs.Record.{counter_size, node_size, cell_size, copy_size, node_of, node_words, empty_node, cell_of, cell_words, zero_cell, copy_of, copy_words, zero_copy, is_item};
+
+use words::{load_word, load_words, store_word, store_words};
+
+pub trait Record: Copy + Default {
+    // How many words it has.
+    const WORDS: usize;
+
+    ghost WORDS: { ℕ };
+
+    // The record of these words, and the words of a record.
+    ghost of_words: { List ℕ → Self };
+
+    ghost to_words: { Self → List ℕ };
+
+    // What a number out of range reads as: the default.
+    ghost none: { Self };
+
+    // The record at word `at`.
+    fn load(b: &[u8], at: usize) -> Self
+        requires { 4 * (at + WORDS) ≤ length b.now }
+        ensures { result ≡ of_words (words_at b.now at WORDS) };
+
+    fn store(self, b: &mut [u8], at: usize)
+        requires { 4 * (at + WORDS) ≤ length b.old }
+        ensures { b.new ≡ set_words b.old at (to_words self) };
+
+    ghost length_words: { (r : Self) → length (to_words r) ≡ WORDS };
+
+    ghost words_back: { (r : Self) → of_words (to_words r) ≡ r };
+
+    ghost default_is_none: { (r : Self) → Self.is_default r → r ≡ none };
+}
 
 // The words of a node and of a cell.
-pub const NODE_SIZE: usize = 4;
+pub const NODE_SIZE: usize = Node::WORDS;
 
-pub const CELL_SIZE: usize = 3;
+pub const CELL_SIZE: usize = Cell::WORDS;
 
 // The words of a counter.
 pub const COUNTER_SIZE: usize = 2;
 
 // A key with a tag.
-#[derive(Clone, Copy)]
+#[derive(Clone, Copy, PartialEq, Eq, Default, Debug)]
 pub struct Item {
     pub key: u32,
     pub tag: u32,
 }
 
 // A node of the tree: the first cell of its list (0 for none), dirty (0 or 1), and the counter of its updates, in two words.
-#[derive(Clone, Copy)]
+#[derive(Clone, Copy, PartialEq, Eq, Default, Debug)]
 pub struct Node {
     pub first: u32,
     pub dirty: u32,
@@ -27,158 +61,159 @@ pub struct Node {
 }
 
 // A cell of a list: its item, and the next cell (0 ends the list).
-#[derive(Clone, Copy)]
+#[derive(Clone, Copy, PartialEq, Eq, Default, Debug)]
 pub struct Cell {
     pub item: Item,
     pub next: u32,
 }
 
 // What a READ of a node copies: the node, and its head cell (zero if the list is empty).
-#[derive(Clone, Copy)]
+#[derive(Clone, Copy, PartialEq, Eq, Default, Debug)]
 pub struct NodeCopy {
     pub node: Node,
     pub head: Cell,
 }
 
+const GREATEST_KEY: u32 = u32::MAX - 1;
+
+const GREATEST_TAG: u32 = 65535;
+
 // Whether key and tag are in range.
+#[tactic(auto, unfolding(crate::specs::Record::is_item))]
 pub fn is_item(i: Item) -> bool
     ensures { result ≡ is_item i }
 {
-    if 4294967294 < i.key {
-        return false;
-    }
-    i.tag <= 65535
+    i.key <= GREATEST_KEY && i.tag <= GREATEST_TAG
 }
 
-impl Node {
-    // An empty, clean node with counter 0.
-    pub fn empty() -> Node
-        ensures { result ≡ empty_node }
-    {
+impl Record for Node {
+    const WORDS: usize = 4;
+
+    ghost WORDS = { node_size counter_size };
+
+    ghost of_words = { λ ws. node_of counter_size ws 0 };
+
+    ghost to_words = { node_words counter_size };
+
+    ghost none = { empty_node };
+
+    ghost length_words = { λ r. Prim.search rules };
+
+    ghost words_back = { λ r. Prim.search rules };
+
+    ghost default_is_none = { λ r d. Prim.search rules };
+
+    #[inline(always)]
+    fn load(b: &[u8], at: usize) -> Node {
+        let mut a = [0u32; 4];
+        load_words(b, at, &mut a);
         Node {
-            first: 0,
-            dirty: 0,
-            low: 0,
-            high: 0,
+            first: a[0],
+            dirty: a[1],
+            low: a[2],
+            high: a[3],
         }
+    }
+
+    #[inline(always)]
+    fn store(self, b: &mut [u8], at: usize) {
+        store_words(b, at, &[self.first, self.dirty, self.low, self.high]);
     }
 }
 
-impl Cell {
-    // A cell with every word 0.
-    pub fn zero() -> Cell
-        ensures { result ≡ zero_cell }
-    {
+impl Record for Cell {
+    const WORDS: usize = 3;
+
+    ghost WORDS = { cell_size };
+
+    ghost of_words = { λ ws. cell_of ws 0 };
+
+    ghost to_words = { cell_words };
+
+    ghost none = { zero_cell };
+
+    ghost length_words = { λ r. Prim.search rules };
+
+    ghost words_back = { λ r. Prim.search rules };
+
+    ghost default_is_none = { λ r d. Prim.search rules };
+
+    #[inline(always)]
+    fn load(b: &[u8], at: usize) -> Cell {
+        let mut a = [0u32; 3];
+        load_words(b, at, &mut a);
         Cell {
-            item: Item { key: 0, tag: 0 },
-            next: 0,
+            item: Item {
+                key: a[0],
+                tag: a[1],
+            },
+            next: a[2],
         }
+    }
+
+    #[inline(always)]
+    fn store(self, b: &mut [u8], at: usize) {
+        store_words(b, at, &[self.item.key, self.item.tag, self.next]);
     }
 }
 
-impl NodeCopy {
-    // A node copy from its seven words.
-    pub fn of(
-        first: u32,
-        dirty: u32,
-        low: u32,
-        high: u32,
-        key: u32,
-        tag: u32,
-        next: u32,
-    ) -> NodeCopy
-        ensures { result ≡ copy_of counter_size (first ∷ dirty ∷ low ∷ high ∷ key ∷ tag ∷ next ∷ []) 0 }
-    {
+impl Record for NodeCopy {
+    const WORDS: usize = Node::WORDS + Cell::WORDS;
+
+    ghost WORDS = { copy_size counter_size };
+
+    ghost of_words = { λ ws. copy_of counter_size ws 0 };
+
+    ghost to_words = { copy_words counter_size };
+
+    ghost none = { zero_copy };
+
+    ghost length_words = { λ r. Prim.search rules };
+
+    ghost words_back = { λ r. Prim.search rules };
+
+    ghost default_is_none = { λ r d. Prim.search rules };
+
+    #[inline(always)]
+    fn load(b: &[u8], at: usize) -> NodeCopy {
         NodeCopy {
-            node: Node {
-                first,
-                dirty,
-                low,
-                high,
-            },
-            head: Cell {
-                item: Item { key, tag },
-                next,
-            },
+            node: Node::load(b, at),
+            head: Cell::load(b, at + Node::WORDS),
         }
     }
-}
 
-// The node at word `at`.
-#[inline(always)]
-pub fn load_node_at(b: &[u8], at: usize) -> Node
-    requires { 4 * (at + node_size counter_size) ≤ length b.now }
-    ensures { result ≡ node_at counter_size b.now at }
-{
-    let mut a = [0u32; 4];
-    words::load_words(b, at, &mut a);
-    Node {
-        first: a[0],
-        dirty: a[1],
-        low: a[2],
-        high: a[3],
+    #[inline(always)]
+    fn store(self, b: &mut [u8], at: usize) {
+        self.node.store(b, at);
+        self.head.store(b, at + Node::WORDS);
     }
 }
 
-#[inline(always)]
-pub fn store_node_at(b: &mut [u8], at: usize, n: Node)
-    requires { 4 * (at + node_size counter_size) ≤ length b.old }
-    ensures { b.new ≡ set_node_at counter_size b.old at n }
-{
-    let a = [n.first, n.dirty, n.low, n.high];
-    words::store_words(b, at, &a);
-}
+// One word is a record too: a thread's permission is the first word of its record.
+impl Record for u32 {
+    const WORDS: usize = 1;
 
-// The cell at word `at`.
-#[inline(always)]
-pub fn load_cell_at(b: &[u8], at: usize) -> Cell
-    requires { 4 * (at + cell_size) ≤ length b.now }
-    ensures { result ≡ cell_at b.now at }
-{
-    let mut a = [0u32; 3];
-    words::load_words(b, at, &mut a);
-    Cell {
-        item: Item {
-            key: a[0],
-            tag: a[1],
-        },
-        next: a[2],
+    ghost WORDS = { 1 };
+
+    ghost of_words = { λ ws. get_or ws 0 0 };
+
+    ghost to_words = { λ v. v ∷ [] };
+
+    ghost none = { 0 };
+
+    ghost length_words = { λ r. Prim.search rules };
+
+    ghost words_back = { λ r. Prim.search rules };
+
+    ghost default_is_none = { λ r d. Prim.search rules };
+
+    #[inline(always)]
+    fn load(b: &[u8], at: usize) -> u32 {
+        load_word(b, at)
     }
-}
 
-#[inline(always)]
-pub fn store_cell_at(b: &mut [u8], at: usize, c: Cell)
-    requires { 4 * (at + cell_size) ≤ length b.old }
-    ensures { b.new ≡ set_cell_at b.old at c }
-{
-    let a = [c.item.key, c.item.tag, c.next];
-    words::store_words(b, at, &a);
-}
-
-// The node copy at word `at`.
-#[inline(always)]
-pub fn load_copy_at(b: &[u8], at: usize) -> NodeCopy
-    requires { 4 * (at + copy_size counter_size) ≤ length b.now }
-    ensures { result ≡ copy_at counter_size b.now at }
-{
-    let mut a = [0u32; 7];
-    words::load_words(b, at, &mut a);
-    NodeCopy::of(a[0], a[1], a[2], a[3], a[4], a[5], a[6])
-}
-
-#[inline(always)]
-pub fn store_copy_at(b: &mut [u8], at: usize, q: NodeCopy)
-    requires { 4 * (at + copy_size counter_size) ≤ length b.old }
-    ensures { b.new ≡ set_copy_at counter_size b.old at q }
-{
-    let a = [
-        q.node.first,
-        q.node.dirty,
-        q.node.low,
-        q.node.high,
-        q.head.item.key,
-        q.head.item.tag,
-        q.head.next,
-    ];
-    words::store_words(b, at, &a);
+    #[inline(always)]
+    fn store(self, b: &mut [u8], at: usize) {
+        store_word(b, at, self);
+    }
 }

@@ -1,15 +1,14 @@
 // The shape of a region: its ranges, and the sizes that follow from it.
-ghost use Rattle.std.specs.Prelude.{◌≡◌, ◌≤◌};
+ghost use Rattle.std.specs.Prelude.{◌≡◌, ◌≤◌, true};
 ghost use Rattle.region.specs.Shape.{between, shape_fits, node_count, region_words};
 ghost use Rattle.region.specs.Inner.{InRange};
 
-use crate::record::{CELL_SIZE, NODE_SIZE};
-use crate::thread::THREAD_SIZE;
+use crate::record::COUNTER_SIZE;
 
 // The words before the nodes.
 pub const HEAD_SIZE: usize = 6;
 
-#[derive(Clone, Copy)]
+#[derive(Clone, Copy, PartialEq, Eq, Debug)]
 pub struct Shape {
     // D, the greatest depth
     pub depth: u32,
@@ -21,30 +20,23 @@ pub struct Shape {
     pub threshold: u32,
 }
 
+#[tactic(auto, unfolding(crate::specs::Shape::between))]
 pub fn is_between(lo: u32, x: u32, hi: u32) -> bool
     ensures { result ≡ between lo x hi }
 {
-    if x < lo {
-        return false;
-    }
-    x <= hi
+    (lo..=hi).contains(&x)
 }
 
 impl Shape {
+    #[tactic(auto, using(crate::proofs::Shapes::in_range), unfolding(crate::specs::Shape::shape_fits, crate::specs::Shape::between))]
     pub fn fits(self) -> bool
-        ensures { result ≡ shape_fits self }
+        ensures fits { result ≡ shape_fits self }
+        ensures range { result ≡ true → InRange self }
     {
-        let depth = self.depth;
-        if !is_between(1, depth, 12) {
-            return false;
-        }
-        if !is_between(1, self.cells, 1 << (depth - 1)) {
-            return false;
-        }
-        if !is_between(1, self.threads, 64) {
-            return false;
-        }
-        is_between(1, self.threshold, 16)
+        is_between(1, self.depth, 12)
+            && is_between(1, self.cells, 1 << (self.depth - 1))
+            && is_between(1, self.threads, 64)
+            && is_between(1, self.threshold, 16)
     }
 
     // 2^D - 1.
@@ -52,17 +44,16 @@ impl Shape {
         requires { self.depth ≤ 12 }
         ensures { result ≡ node_count self }
     {
-        let depth = self.depth;
-        (1 << depth) - 1
+        (1 << self.depth) - 1
     }
 
     // The region's length in words.
+    #[tactic(auto, using(crate::proofs::Shapes::words_most))]
     pub fn word_count(self) -> usize
         requires { InRange self }
-        ensures { result ≡ region_words self }
+        ensures words { result ≡ region_words self }
+        ensures few { result ≤ 24834 }
     {
-        let cells = self.cells as usize;
-        let threads = self.threads as usize;
-        HEAD_SIZE + NODE_SIZE * self.node_count() + CELL_SIZE * cells + THREAD_SIZE * threads
+        self.word_count_of_width::<COUNTER_SIZE>()
     }
 }

@@ -7,14 +7,16 @@ use mathlib.Core.List.{List, [], ◌∷◌}
 use borrow.Author.Tests.{leb-true, eqb-true}
 use lib.Dec.{leb, eqb}
 use lib.ListN.{length}
-use Rattle.region.specs.Answer.{done, short_answers, bad_schedule, unreadable}
+use Rattle.region.specs.Refusal.{granted, code_of, done, ◌unless◌otherwise◌}
+use Rattle.region.specs.declared.refusal.Refusal.TheVariants.{ShortAnswers, BadSchedule, Unreadable}
 use Rattle.region.specs.Pick.{pick}
 use Rattle.region.specs.declared.answer.Answer.{Answer}
 use Rattle.region.specs.declared.answer.Answer.TheVariants.{Moved, Idle, Inserted, Took, Empty, Refused, Withdrawn}
 use Rattle.region.specs.declared.frame.Frame.{Frame}
 use Rattle.access.specs.Plan.{accesses_of}
 use Rattle.readable.specs.Readable.{frame_in, readable}
-use Rattle.run.specs.Run.{Served, Turn, run_refusal, run_result, schedule_refusal, serve, serve_all, so_far, turns_from}
+use Rattle.std.specs.Prelude.{Result, Ok, Err}
+use Rattle.run.specs.Run.{Served, Turn, run_refusal, run_result, schedule_check, schedule_refusal, serve, serve_all, so_far, turns_from}
 use Rattle.machine.specs.Turn.{turn_answer}
 
 pub one_access : (x : Answer) → accesses_of x ≤ 1
@@ -33,7 +35,7 @@ pub record Passed (s : List ℕ) (l : ℕ) : Type 0 where
 
 module _ (s : List ℕ) (l : ℕ) where
   conditions : (w m x : Bool) → leb (length s / 8) 4096 ≡ m → leb (12 * (length s / 8)) l ≡ x
-      → pick (w && m) (pick x done short_answers) bad_schedule ≡ done → Passed s l
+      → code_of (BadSchedule unless w && m otherwise ShortAnswers unless x otherwise granted) ≡ done → Passed s l
   unfolding pick
   conditions true true true em ex z = record { few = leb-true (length s / 8) 4096 em; room = leb-true (12 * (length s / 8)) l ex }
   conditions true true false em ex z = absurd (omega arith)
@@ -46,10 +48,10 @@ module _ (s : List ℕ) (l : ℕ) where
 
 -- so do a run's, with none of 7, 6 and 5
 run_passed : (b s : List ℕ) (l : ℕ) → run_refusal b s l ≡ done → Passed s l
-unfolding run_refusal pick
+unfolding run_refusal schedule_refusal pick
 run_passed b s l = go (readable b)
   where
-    go : (q : Bool) → pick q (schedule_refusal s l) unreadable ≡ done → Passed s l
+    go : (q : Bool) → code_of (Unreadable unless q otherwise schedule_check s l) ≡ done → Passed s l
     go true e = passed s l e
     go false e = absurd (omega arith)
 
@@ -58,7 +60,8 @@ pub refusal_most : (b s : List ℕ) (l : ℕ) → run_refusal b s l ≤ 7
 unfolding run_refusal pick
 refusal_most b s l = go (readable b) (eqb (length s % 8) 0 && leb (length s / 8) 4096) (leb (12 * (length s / 8)) l)
   where
-    go : (q w x : Bool) → pick q (pick w (pick x done short_answers) bad_schedule) unreadable ≤ 7
+    go : (q w x : Bool)
+        → code_of (Unreadable unless q otherwise BadSchedule unless w otherwise ShortAnswers unless x otherwise granted) ≤ 7
     go true true true = omega arith
     go true true false = omega arith
     go true false x = omega arith

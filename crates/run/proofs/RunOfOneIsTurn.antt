@@ -3,23 +3,28 @@
 use Prim.Native.Nat.{ℕ, ◌/◌, ◌≤◌}
 use native.Mathlib.Nat.{zero-add}
 use native.Mathlib.Omega.{arith}
-use mathlib.Core.Path.{◌≡◌, refl, ap, ◌∙◌}
+use mathlib.Core.Path.{◌≡◌, refl, sym, ap, ◌∙◌}
 use mathlib.Core.Bool.{Bool, true, false}
 use mathlib.Core.List.{List}
 use borrow.Author.Tests.{le-leb, ne_eqb}
 use lib.Dec.{eqb}
 use lib.ListN.{length}
 use Rattle.words.specs.Word.{word, set_words}
-use Rattle.region.specs.Answer.{answer_words, done, unreadable}
+use Rattle.region.specs.Answer.{answer_words}
+use Rattle.std.specs.Prelude.{Result, Ok, Err}
+use Rattle.region.specs.Refusal.{Checked, granted, code_of, done, ◌unless◌otherwise◌}
+use Rattle.region.specs.declared.answer.Answer.{Answer}
+use Rattle.region.specs.declared.refusal.Refusal.{Refusal}
+use Rattle.region.specs.declared.refusal.Refusal.TheVariants.{Unreadable}
 use Rattle.region.specs.Pick.{pick}
-use Rattle.region.specs.declared.answer.Answer.TheVariants.{Refused}
+use Rattle.region.specs.declared.answer.Answer.TheVariants.{Moved, Refused}
 use Rattle.access.specs.Plan.{accesses_of}
 use Rattle.readable.specs.Readable.{frame_in, readable}
-use Rattle.run.specs.Run.{run_refusal, run_result, serve, serve_all, so_far, turn_at, turns_from}
+use Rattle.run.specs.Run.{run_check, run_refusal, run_result, serve, serve_all, so_far, turn_at, turns_from}
 use Rattle.machine.specs.Turn.{turn_answer, turn_bytes, turn_on_answer, turn_on_bytes}
 use Rattle.run.specs.Theorems.{RunOfOneIsTurn}
 
-by_refusal : {A : Type 0} (q : Bool) (x y : A) → pick (eqb (pick q done unreadable) done) x y ≡ pick q x y
+by_refusal : {A : Type 0} (q : Bool) (x y : A) → pick (eqb (code_of (Unreadable unless q otherwise granted)) done) x y ≡ pick q x y
 unfolding pick
 by_refusal true x y = refl
 by_refusal false x y = refl
@@ -31,7 +36,11 @@ module _ (b s : List ℕ) (limit : ℕ) (a : List ℕ) (one : length s ≡ 8) (r
   c : ℕ
   c = word s 1
 
-  refusal : run_refusal b s (length a) ≡ pick (readable b) done unreadable
+  check : run_check b s (length a) ≡ (Unreadable unless readable b otherwise granted)
+  unfolding pick
+  check = rw (one, le-leb 12 (length a) room) refl
+
+  refusal : run_refusal b s (length a) ≡ code_of (Unreadable unless readable b otherwise granted)
   unfolding run_refusal pick
   refusal = rw (one, le-leb 12 (length a) room) refl
 
@@ -60,16 +69,25 @@ module _ (b s : List ℕ) (limit : ℕ) (a : List ℕ) (one : length s ≡ 8) (r
       let x = turn_answer (frame_in b) b t c in
       result ∙ rw e (ap (so_far (turn_bytes (frame_in b) b t c) (set_words a 0 (answer_words x)) 1) (zero-add (accesses_of x)))
 
-  refused : readable b ≡ false → turn_on_answer b t c ≡ Refused (run_refusal b s (length a))
+  unreadable : readable b ≡ false → run_check b s (length a) ≡ Err Unreadable
+  unfolding pick
+  unreadable e = check ∙ ap (λ q. Unreadable unless q otherwise granted) e
+
+  refused : (r : Refusal) → readable b ≡ false → run_check b s (length a) ≡ Err r → turn_on_answer b t c ≡ Refused r
   unfolding turn_on_answer pick
-  refused e = rw (refusal, e) refl
+  refused r e h = rw e (ap told (sym (unreadable e) ∙ h))
+    where
+      told : Checked → Answer
+      told (Ok x) = Moved
+      told (Err y) = Refused y
 
 pub run_of_one_is_turn : RunOfOneIsTurn
 unfolding t c pick
 run_of_one_is_turn b s limit a one room some =
     record {
       region = region b s limit a one room some;
-      accepted = λ e. refusal b s limit a one room some ∙ ap (λ q. pick q done unreadable) e;
+      accepted = λ e. refusal b s limit a one room some ∙ ap (λ q. code_of (Unreadable unless q otherwise granted)) e;
       served = served b s limit a one room some;
       refused = refused b s limit a one room some;
+      unreadable = unreadable b s limit a one room some;
     }

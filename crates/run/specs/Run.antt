@@ -1,7 +1,10 @@
 -- A run (document 01): "Turns are served in order until the list ends or accesses made equal the limit."
-use Rattle.std.specs.Prelude.{ℕ, zero, suc, ◌+◌, ◌*◌, ◌/◌, ◌%◌, ◌&&◌, List, [], ◌∷◌, leb, eqb, length}
+use Rattle.std.specs.Prelude.{ℕ, zero, suc, ◌+◌, ◌*◌, ◌/◌, ◌%◌, ◌&&◌, List, [], ◌∷◌, Result, Ok, leb, eqb, length}
 use Rattle.words.specs.Word.{word, set_words}
-use Rattle.region.specs.Answer.{done, short_answers, bad_schedule, unreadable, answer_words, ◌unless◌otherwise◌}
+use Rattle.region.specs.Answer.{answer_words}
+use Rattle.region.specs.Refusal.{Checked, granted, code_of, done, ◌unless◌otherwise◌}
+use Rattle.region.specs.declared.refusal.Refusal.{Refusal}
+use Rattle.region.specs.declared.refusal.Refusal.TheVariants.{ShortAnswers, BadSchedule, Unreadable}
 use Rattle.region.specs.Pick.{pick}
 use Rattle.region.specs.declared.frame.Frame.{Frame}
 use Rattle.access.specs.Plan.{accesses_of}
@@ -46,17 +49,23 @@ unfolding serve
 serve_all f limit [] r = r
 serve_all f limit (t ∷ ts) r = pick (eqb r.accesses limit) r (serve_all f limit ts (serve f t r))
 
--- "Run 7, 6, 5": 6 and 5 look at the schedule and at l, the answers' length, alone. "6: schedule not whole turns of 8 bytes, or over
--- 4,096", "5: answer slice below 12 bytes a turn"
+-- what a run is refused for: a region that is not readable; a schedule that is not whole turns of 8 bytes, or has over 4,096; less than 12 bytes
+-- for the answer of each turn. The last two look at the schedule and at l, the answers' length, alone.
+abbrev pub schedule_check : List ℕ → ℕ → Checked
+schedule_check schedule l =
+    BadSchedule unless eqb (length schedule % 8) 0 && leb (length schedule / 8) 4096
+    otherwise ShortAnswers unless leb (12 * (length schedule / 8)) l
+    otherwise granted
+
 unfoldable pub schedule_refusal : List ℕ → ℕ → ℕ
-schedule_refusal schedule l =
-    bad_schedule unless eqb (length schedule % 8) 0 && leb (length schedule / 8) 4096
-    otherwise short_answers unless leb (12 * (length schedule / 8)) l
-    otherwise done
+schedule_refusal schedule l = code_of (schedule_check schedule l)
+
+abbrev pub run_check : List ℕ → List ℕ → ℕ → Checked
+run_check b schedule l = Unreadable unless readable b otherwise schedule_check schedule l
 
 unfoldable pub run_refusal : List ℕ → List ℕ → ℕ → ℕ
 unfolding schedule_refusal
-run_refusal b schedule l = unreadable unless readable b otherwise schedule_refusal schedule l
+run_refusal b schedule l = code_of (run_check b schedule l)
 
 -- all turns of a schedule that is not refused, under a frame
 abbrev pub schedule_served : Frame → List ℕ → List ℕ → ℕ → List ℕ → Served

@@ -4,25 +4,18 @@
 ghost use Rattle.std.specs.Prelude.{◌≡◌, true, ◌+◌, ◌*◌, ◌/◌, ◌≤◌, length};
 ghost use Rattle.words.specs.Word.{set_words};
 ghost use Rattle.region.specs.Answer.{answer_words};
-ghost use Rattle.region.specs.Inner.{Within};
+ghost use Rattle.region.specs.Held.{Stays};
 ghost use Rattle.readable.specs.Readable.{readable};
-ghost use Rattle.run.specs.Run.{schedule_refusal, serve, serve_all, so_far, turn_at, turns_from};
-ghost use Rattle.run.specs.Inner.{Ran, RanIn, RunWithin, TurnWithin, refused};
+ghost use Rattle.run.specs.Run.{schedule_check, serve, serve_all, so_far, turn_at, turns_from};
+ghost use Rattle.run.specs.Inner.{Ran, RanIn, RunWithin, TurnWithin};
 
-use region::{Answer, BAD_SCHEDULE, DONE, Frame, SHORT_ANSWERS, UNREADABLE};
+use region::{Answer, Queue, Refusal, require};
 
 // The turns served and the accesses made.
 #[derive(Clone, Copy)]
 pub struct Counts {
     pub turns: u32,
     pub accesses: u32,
-}
-
-// What a run answers: done or its refusal, and the counts, 0 where it is refused.
-#[derive(Clone, Copy)]
-pub struct Outcome {
-    pub refusal: u32,
-    pub counts: Counts,
 }
 
 // Stores the answer of turn k.
@@ -36,104 +29,91 @@ fn store_answer(answers: &mut [u8], k: usize, answer: Answer)
 
 // Serves the next turn and stores its answer. Given are the turns served and the accesses made before it; the result is the
 // accesses made, those of this turn included.
-fn serve(
-    f: Frame,
-    b: &mut [u8],
-    schedule: &[u8],
-    answers: &mut [u8],
-    turns: u32,
-    accesses: u32,
-) -> u32
-    requires { TurnWithin f (length b.old) (length schedule.now) (length answers.old) turns accesses }
-    ensures { so_far b.new answers.new (turns + 1) result ≡ serve f (turn_at schedule.now turns) (so_far b.old answers.old turns accesses) }
+#[inline(always)]
+fn serve(queue: &mut Queue, schedule: &[u8], answers: &mut [u8], turns: u32, accesses: u32) -> u32
+    requires { TurnWithin (length schedule.now) (length answers.old) turns accesses }
+    ensures same { Stays queue.old queue.new }
+    ensures turn { so_far queue.new.bytes.now answers.new (turns + 1) result ≡ serve queue.old.frame (turn_at schedule.now turns) (so_far queue.old.bytes.now answers.old turns accesses) }
 {
     let k = turns as usize;
     let thread = words::load_word(schedule, 2 * k);
     let choice = words::load_word(schedule, 2 * k + 1);
-    let answer = machine::turn(f, b, thread, choice);
+    let answer = machine::turn_in(queue, thread, choice);
     store_answer(answers, k, answer);
     accesses + access::accesses_of(answer)
 }
 
 // Serves the turns of the schedule until it ends or the limit is reached.
-fn serve_all(f: Frame, b: &mut [u8], schedule: &[u8], limit: u32, answers: &mut [u8]) -> Counts
-    requires { RunWithin f (length b.old) (length schedule.now) (length answers.old) }
-    ensures { so_far b.new answers.new result.turns result.accesses ≡ serve_all f limit (turns_from schedule.now 0 (length schedule.now / 8)) (so_far b.old answers.old 0 0) }
+#[inline(always)]
+fn serve_all(queue: &mut Queue, schedule: &[u8], limit: u32, answers: &mut [u8]) -> Counts
+    requires { RunWithin (length schedule.now) (length answers.old) }
+    ensures same { Stays queue.old queue.new }
+    ensures turns { so_far queue.new.bytes.now answers.new result.turns result.accesses ≡ serve_all queue.old.frame limit (turns_from schedule.now 0 (length schedule.now / 8)) (so_far queue.old.bytes.now answers.old 0 0) }
 {
     let count = (schedule.len() / 8) as u32;
-    let mut turns = 0;
     let mut accesses = 0;
-    while turns < count {
+    for turns in 0..count {
         if accesses == limit {
             return Counts { turns, accesses };
         }
-        accesses = serve(f, b, schedule, answers, turns, accesses);
-        turns += 1;
+        accesses = serve(queue, schedule, answers, turns, accesses);
     }
-    Counts { turns, accesses }
+    Counts {
+        turns: count,
+        accesses,
+    }
 }
 
-// The refusal of a schedule with this much room for its answers, or done.
-fn schedule_refusal(schedule: &[u8], room: usize) -> u32
-    ensures { result ≡ schedule_refusal schedule.now room }
+// What a schedule with this much room for its answers is refused for, if anything.
+#[tactic(auto, unfolding(region::specs::Pick::pick))]
+fn schedule_check(schedule: &[u8], room: usize) -> Result<(), Refusal>
+    ensures { result ≡ schedule_check schedule.now room }
 {
     let count = schedule.len() / 8;
-    if schedule.len() % 8 != 0 {
-        return BAD_SCHEDULE;
-    }
-    if 4096 < count {
-        return BAD_SCHEDULE;
-    }
-    if room < 12 * count {
-        return SHORT_ANSWERS;
-    }
-    DONE
+    require(
+        schedule.len() % 8 == 0 && count <= 4096,
+        Refusal::BadSchedule,
+    )?;
+    require(12 * count <= room, Refusal::ShortAnswers)
 }
 
-// A refused run: no turn is served.
-fn refused(number: u32) -> Outcome
-    ensures { result ≡ refused number }
+// Runs a schedule, or refuses (6, 5) and changes no byte.
+#[inline(always)]
+#[tactic(auto, unfolding(crate::specs::Run::schedule_refusal, crate::specs::Run::run_result_in, region::specs::Pick::pick))]
+pub fn run_in(
+    queue: &mut Queue,
+    schedule: &[u8],
+    limit: u32,
+    answers: &mut [u8],
+) -> Result<Counts, Refusal>
+    ensures same { Stays queue.old queue.new }
+    ensures run { RanIn queue.old.frame queue.old.bytes.now queue.new.bytes.now schedule.now limit answers.old answers.new result }
 {
-    Outcome {
-        refusal: number,
-        counts: Counts {
-            turns: 0,
-            accesses: 0,
-        },
-    }
+    schedule_check(schedule, answers.len())?;
+    Ok(serve_all(queue, schedule, limit, answers))
 }
 
-// Runs a schedule under a frame. Refused 6, 5 in that order; a refused run changes no byte.
-pub fn run_in(f: Frame, b: &mut [u8], schedule: &[u8], limit: u32, answers: &mut [u8]) -> Outcome
-    requires { Within f (length b.old) }
-    ensures { RanIn f b.old b.new schedule.now limit answers.old answers.new result }
-{
-    let number = schedule_refusal(schedule, answers.len());
-    if number != DONE {
-        return refused(number);
-    }
-    let counts = serve_all(f, b, schedule, limit, answers);
-    Outcome {
-        refusal: DONE,
-        counts,
-    }
-}
-
-// Runs a schedule on a region that is known to be readable, without the check. Refused 6, 5 in that order; a refused run changes no byte.
-pub fn run_ready(b: &mut [u8], schedule: &[u8], limit: u32, answers: &mut [u8]) -> Outcome
+// Runs a schedule on a region that is known to be readable, without the check, or refuses (6, 5) and changes no byte.
+#[tactic(auto, unfolding(crate::specs::Run::run_refusal, crate::specs::Run::schedule_refusal, crate::specs::Run::run_result, crate::specs::Run::run_result_in, region::specs::Pick::pick))]
+pub fn run_ready(
+    b: &mut [u8],
+    schedule: &[u8],
+    limit: u32,
+    answers: &mut [u8],
+) -> Result<Counts, Refusal>
     requires { readable b.old ≡ true }
     ensures { Ran b.old b.new schedule.now limit answers.old answers.new result }
 {
     let f = readable::frame_of(b);
-    run_in(f, b, schedule, limit, answers)
+    let mut queue = Queue::new(b, f);
+    run_in(&mut queue, schedule, limit, answers)
 }
 
-// Runs a schedule on a region that holds one queue. Refused 7, 6, 5 in that order; a refused run changes no byte.
-pub fn run(b: &mut [u8], schedule: &[u8], limit: u32, answers: &mut [u8]) -> Outcome
+// Runs a schedule on a region that holds one queue, or refuses (7, 6, 5) and changes no byte.
+#[tactic(auto, unfolding(crate::specs::Run::run_refusal, crate::specs::Run::run_result, region::specs::Pick::pick))]
+pub fn run(b: &mut [u8], schedule: &[u8], limit: u32, answers: &mut [u8]) -> Result<Counts, Refusal>
     ensures { Ran b.old b.new schedule.now limit answers.old answers.new result }
 {
-    if !readable::is_readable(b) {
-        return refused(UNREADABLE);
-    }
+    require(readable::is_readable(b), Refusal::Unreadable)?;
     run_ready(b, schedule, limit, answers)
 }

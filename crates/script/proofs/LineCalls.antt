@@ -4,26 +4,26 @@ use native.Mathlib.Numerals.{add-one}
 use native.Mathlib.Omega.{arith}
 use mathlib.Core.Path.{◌≡◌, refl, sym, ap, subst, ◌∙◌}
 use mathlib.Core.List.{List, []}
-use borrow.Author.Tests.{lt-ltb, le-ltb, eq-eqb, ne_eqb}
+use borrow.Author.Tests.{lt-ltb, le-ltb}
 use mir.Syntax.{w32}
 use mir.Val.{Fits}
 use lib.ListN.{length}
-use Rattle.region.specs.Answer.{done}
+use Rattle.std.specs.Prelude.{Option, Some, None}
+use Rattle.region.specs.Refusal.{Checked}
 use Rattle.region.specs.Inner.{Within}
 use Rattle.region.specs.Pick.{pick}
 use Rattle.region.specs.declared.answer.Answer.{Answer}
-use Rattle.region.specs.declared.answer.Answer.TheVariants.{Refused}
 use Rattle.region.specs.declared.frame.Frame.{Frame}
 use Rattle.region.specs.declared.place.Place.{Place}
 use Rattle.region.specs.declared.place.Place.TheVariants.{ReadRoot, ListReadRoot}
 use Rattle.region.specs.declared.record.Item.{Item}
 use Rattle.readable.proofs.Laws.{readable_within}
-use Rattle.permission.specs.Permit.{PermitSetIn, permit_bytes_in, permit_refusal_in}
-use Rattle.permission.proofs.Laws.{permit_bytes_in_lem, permit_refusal_in_lem}
-use Rattle.begin.specs.Begin.{PutBegunIn, TakeBegunIn, put_bytes_in, put_refusal_in, take_bytes, take_bytes_in, take_refusal, take_refusal_in}
-use Rattle.begin.proofs.Laws.{put_bytes_in_lem, put_refusal_in_lem, take_bytes_in_lem, take_refusal_in_lem}
+use Rattle.permission.specs.Permit.{PermitSetIn, permit_bytes_in, permit_check_in}
+use Rattle.permission.proofs.Laws.{permit_bytes_in_lem, permit_check_in_lem}
+use Rattle.begin.specs.Begin.{PutBegunIn, TakeBegunIn, put_bytes_in, put_check_in, take_bytes, take_bytes_in, take_check, take_check_in}
+use Rattle.begin.proofs.Laws.{put_bytes_in_lem, put_check_in_lem, take_bytes_in_lem, take_check_in_lem}
 use Rattle.machine.specs.Turn.{Turned, turn_answer, turn_bytes, turn_on_answer, turn_on_bytes}
-use Rattle.script.specs.Inner.{Wrote, CallMade, LinesRan, LinesReady, Ready}
+use Rattle.script.specs.Inner.{Appends, CallMade, LinesRan, LinesReady, Ready}
 use Rattle.script.specs.Reading.{read_line}
 use Rattle.script.specs.Printing.{line_text}
 use Rattle.script.specs.Script.{Ran, after, call_bytes, call_outcome, done_or, lines_from, nothing_more}
@@ -31,22 +31,12 @@ use Rattle.script.specs.declared.printing.Outcome.{Outcome}
 use Rattle.script.specs.declared.printing.Outcome.TheVariants.{Begun, Set, Answered, Unreadable}
 use Rattle.script.specs.declared.reading.What.{What}
 use Rattle.script.specs.declared.reading.What.TheVariants.{Put, Take, TakeList, Permit, Turn}
-use Rattle.script.specs.declared.reading.Line.{Line}
-use Rattle.script.specs.declared.reading.Line.TheVariants.{Read as LineRead, Unreadable as NotLine}
 use Rattle.script.specs.declared.reading.ScriptLine.{ScriptLine}
+use Rattle.script.specs.declared.text.Text.{Text}
 use Rattle.script.proofs.Lines.{line_most}
 use Rattle.script.proofs.Readings.{line_long}
 use Rattle.script.proofs.Regions.{still_ready}
-use Rattle.script.proofs.Texts.{Printing, print_end, print_more, print_start, wrote_length}
-
--- A line's call.
-pub call_done : (o : Outcome) (n : ℕ) → n ≡ done → o ≡ done_or o n
-unfolding pick
-call_done o n e = rw (eq-eqb n done e) refl
-
-pub call_refused : (o : Outcome) (n : ℕ) → (n ≡ done → ⊥) → Answered (Refused n) ≡ done_or o n
-unfolding pick
-call_refused o n h = rw (ne_eqb n done h) refl
+use Rattle.script.proofs.Texts.{Appending, append_end, append_more, append_start}
 
 -- the frame of a readable region lies within it
 pub ready_within : (f : Frame) (b : List ℕ) → Ready f b → Within f (length b)
@@ -61,30 +51,30 @@ module _ (f : Frame) (b b' : List ℕ) (h : Ready f b) (what : What) (t : ℕ) w
         bytes = eb ∙ ap (λ w. call_bytes b w t) (sym e);
       }
 
-  pub put_made : (i : Item) → what ≡ Put i → (n : ℕ) → PutBegunIn f b b' t i n → (r : Outcome) → r ≡ done_or Begun n → CallMade b b' what t r
+  pub put_made : (i : Item) → what ≡ Put i → (n : Checked) → PutBegunIn f b b' t i n → (r : Outcome) → r ≡ done_or Begun n → CallMade b b' what t r
   put_made i e n p r er =
       made (Put i) e r
-      (er ∙ ap (done_or Begun) (p.answer ∙ ap (λ g. put_refusal_in g b t i) h.frame ∙ sym (put_refusal_in_lem b h.region t i)))
+      (er ∙ ap (done_or Begun) (p.answer ∙ ap (λ g. put_check_in g b t i) h.frame ∙ sym (put_check_in_lem b h.region t i)))
       (p.bytes ∙ ap (λ g. put_bytes_in g b t i) h.frame ∙ sym (put_bytes_in_lem b h.region t i))
 
-  taken : (p : Place) (n : ℕ) → TakeBegunIn f b b' t p n → (r : Outcome) → r ≡ done_or Begun n
-      → (r ≡ done_or Begun (take_refusal b t)) × (b' ≡ take_bytes b t p)
+  taken : (p : Place) (n : Checked) → TakeBegunIn f b b' t p n → (r : Outcome) → r ≡ done_or Begun n
+      → (r ≡ done_or Begun (take_check b t)) × (b' ≡ take_bytes b t p)
   taken p n k r er = (
-    er ∙ ap (done_or Begun) (k.answer ∙ ap (λ g. take_refusal_in g b t) h.frame ∙ sym (take_refusal_in_lem b h.region t)),
+    er ∙ ap (done_or Begun) (k.answer ∙ ap (λ g. take_check_in g b t) h.frame ∙ sym (take_check_in_lem b h.region t)),
     k.bytes ∙ ap (λ g. take_bytes_in g b t p) h.frame ∙ sym (take_bytes_in_lem b h.region t p),
   )
 
-  pub take_made : what ≡ Take → (n : ℕ) → TakeBegunIn f b b' t ReadRoot n → (r : Outcome) → r ≡ done_or Begun n → CallMade b b' what t r
+  pub take_made : what ≡ Take → (n : Checked) → TakeBegunIn f b b' t ReadRoot n → (r : Outcome) → r ≡ done_or Begun n → CallMade b b' what t r
   take_made e n k r er = let o = taken ReadRoot n k r er in made Take e r o.0 o.1
 
-  pub list_made : what ≡ TakeList → (n : ℕ) → TakeBegunIn f b b' t ListReadRoot n → (r : Outcome) → r ≡ done_or Begun n
+  pub list_made : what ≡ TakeList → (n : Checked) → TakeBegunIn f b b' t ListReadRoot n → (r : Outcome) → r ≡ done_or Begun n
       → CallMade b b' what t r
   list_made e n k r er = let o = taken ListReadRoot n k r er in made TakeList e r o.0 o.1
 
-  pub permit_made : (x : ℕ) → what ≡ Permit x → (n : ℕ) → PermitSetIn f b b' t x n → (r : Outcome) → r ≡ done_or Set n → CallMade b b' what t r
+  pub permit_made : (x : ℕ) → what ≡ Permit x → (n : Checked) → PermitSetIn f b b' t x n → (r : Outcome) → r ≡ done_or Set n → CallMade b b' what t r
   permit_made x e n p r er =
       made (Permit x) e r
-      (er ∙ ap (done_or Set) (p.answer ∙ ap (λ g. permit_refusal_in g t x) h.frame ∙ sym (permit_refusal_in_lem b h.region t x)))
+      (er ∙ ap (done_or Set) (p.answer ∙ ap (λ g. permit_check_in g t x) h.frame ∙ sym (permit_check_in_lem b h.region t x)))
       (p.bytes ∙ ap (λ g. permit_bytes_in g b t x) h.frame ∙ sym (permit_bytes_in_lem b h.region t x))
 
   pub turn_made : (c : ℕ) → what ≡ Turn c → (x : Answer) → Turned f b b' t c x → CallMade b b' what t (Answered x)
@@ -102,11 +92,11 @@ module _ (s : List ℕ) (at line : ℕ) (b : List ℕ) where
   lines_over (suc n) h = rw (le-ltb at (length s) h) refl
 
   module _ (n : ℕ) (h : at < length s) where
-    pub lines_unreadable : read_line s at ≡ NotLine → lines_from (suc n) s at line b ≡ after (line_text line 0 Unreadable) (nothing_more b)
+    pub lines_unreadable : read_line s at ≡ None → lines_from (suc n) s at line b ≡ after (line_text line 0 Unreadable) (nothing_more b)
     unfolding lines_from pick
     lines_unreadable e = rw (lt-ltb at (length s) h, e) refl
 
-    pub lines_read : (l : ScriptLine) → read_line s at ≡ LineRead l
+    pub lines_read : (l : ScriptLine) → read_line s at ≡ Some l
         → lines_from (suc n) s at line b
         ≡ after (line_text line l.thread (call_outcome b l.what l.thread))
         (lines_from n s l.next (suc line) (call_bytes b l.what l.thread))
@@ -120,22 +110,20 @@ whole s start b = lines_from (length s) s start 1 b
 pub rest : List ℕ → ℕ → ℕ → List ℕ → Ran
 rest s at line b = lines_from (suc (length s) - line) s at line b
 
-pub record Running (f : Frame) (s : List ℕ) (start : ℕ) (b₀ out₀ : List ℕ) (a : ℕ) (b out : List ℕ) (at line k : ℕ) : Type 0 where
+pub record Running (f : Frame) (s : List ℕ) (start : ℕ) (b₀ : List ℕ) (t₀ : Text) (b : List ℕ) (t : Text) (at line : ℕ) : Type 0 where
   pub short : length s ≤ 60000
   pub ready : Ready f b
-  pub room : a + 330055 ≤ length out₀
+  pub room : t₀.len + 330055 ≤ length t₀.out.now
   pub same_region : length b ≡ length b₀
   pub first : 1 ≤ line
   pub counted : 10 * line ≤ at + 10
-  pub used : k + 55 ≤ a + 55 * line
-  pub within : k ≤ length out
-  pub printing : Printing out₀ a (whole s start b₀).printed out k (rest s at line b).printed
+  pub used : t.len + 55 ≤ t₀.len + 55 * line
+  pub appending : Appending t₀ (whole s start b₀).printed t (rest s at line b).printed
   pub region : (rest s at line b).region ≡ (whole s start b₀).region
 
-pub run_start : (f : Frame) (s : List ℕ) (start : ℕ) (b out : List ℕ) (a : ℕ) → LinesReady f s b out a
-    → Running f s start b out a b out start 1 a
+pub run_start : (f : Frame) (s : List ℕ) (start : ℕ) (b : List ℕ) (t : Text) → LinesReady f s b t → Running f s start b t b t start 1
 unfolding whole rest
-run_start f s start b out a h =
+run_start f s start b t h =
     let e : suc (length s) - 1 ≡ length s = omega arith in
     record {
       short = h.short;
@@ -145,34 +133,32 @@ run_start f s start b out a h =
       first = omega arith;
       counted = omega arith;
       used = omega arith;
-      within = omega (arith, h.room);
-      printing =
-          subst (λ n. Printing out a (lines_from (length s) s start 1 b).printed out a (lines_from n s start 1 b).printed) (sym e)
-          (print_start out a (lines_from (length s) s start 1 b).printed);
+      appending =
+          subst
+          (λ n. Appending t (lines_from (length s) s start 1 b).printed t (lines_from n s start 1 b).printed)
+          (sym e)
+          (append_start t (lines_from (length s) s start 1 b).printed (omega (arith, h.room)));
       region = ap (λ n. (lines_from n s start 1 b).region) e;
     }
 
-module _ {f : Frame} {s : List ℕ} {start : ℕ} {b₀ out₀ : List ℕ} {a : ℕ} {b out : List ℕ} {at line k : ℕ}
-    (e : Running f s start b₀ out₀ a b out at line k) where
-  pub run_same : length out ≡ length out₀
-  run_same = e.printing.same
-
+module _ {f : Frame} {s : List ℕ} {start : ℕ} {b₀ : List ℕ} {t₀ : Text} {b : List ℕ} {t : Text} {at line : ℕ}
+    (e : Running f s start b₀ t₀ b t at line) where
   -- nothing is left
-  run_over : rest s at line b ≡ nothing_more b → LinesRan s start b₀ b out₀ out a k
+  run_over : rest s at line b ≡ nothing_more b → LinesRan s start b₀ b t₀ t
   unfolding whole
   run_over er =
       record {
-        output = print_end e.printing (ap (λ r. r.printed) er) e.within;
+        output = append_end e.appending (ap (λ r. r.printed) er);
         region = ap (λ r. r.region) (sym er) ∙ e.region;
       }
 
-  pub run_end : length s ≤ at → LinesRan s start b₀ b out₀ out a k
+  pub run_end : length s ≤ at → LinesRan s start b₀ b t₀ t
   unfolding rest
   run_end h = run_over (lines_over s at line b (suc (length s) - line) h)
 
   module _ (h : at < length s) where
-    pub line_room : k + 55 ≤ length out
-    line_room = omega (arith, e.used, e.counted, e.short, e.room, run_same)
+    pub line_room : t.len + 55 ≤ length t.out.now
+    line_room = omega (arith, e.used, e.counted, e.short, e.room, e.appending.printing.same)
 
     pub line_fits : Fits w32 (line + 1)
     line_fits = record { fits = omega (arith, e.counted, e.short) }
@@ -180,32 +166,28 @@ module _ {f : Frame} {s : List ℕ} {start : ℕ} {b₀ out₀ : List ℕ} {a : 
     one_less : suc (length s) - line ≡ suc (suc (length s) - (line + 1))
     one_less = omega (arith, e.counted)
 
-    module _ (r : Line) (er : r ≡ read_line s at) where
-      pub run_unreadable : r ≡ NotLine → {out' : List ℕ} {k' : ℕ} → Wrote out out' k k' (line_text line 0 Unreadable)
-          → LinesRan s start b₀ b out₀ out' a k'
+    module _ (r : Option ScriptLine) (er : r ≡ read_line s at) where
+      pub run_unreadable : r ≡ None → {t' : Text} → Appends t t' (line_text line 0 Unreadable) → LinesRan s start b₀ b t₀ t'
       unfolding whole rest
-      run_unreadable g {out'} {k'} w =
+      run_unreadable g {t'} w =
           let l : rest s at line b ≡ after (line_text line 0 Unreadable) (nothing_more b) =
           ap (λ n. lines_from n s at line b) one_less ∙ lines_unreadable s at line b (suc (length s) - (line + 1)) h (sym er ∙ g) in
           record {
-            output =
-                print_end (print_more e.printing (line_text line 0 Unreadable) [] (ap (λ r. r.printed) l) w) refl
-                (omega (arith, w.within, wrote_length w));
+            output = append_end (append_more e.appending (line_text line 0 Unreadable) [] (ap (λ r. r.printed) l) w) refl;
             region = ap (λ r. r.region) (sym l) ∙ e.region;
           }
 
-      module _ (l : ScriptLine) (g : r ≡ LineRead l) where
+      module _ (l : ScriptLine) (g : r ≡ Some l) where
         line_next : at + 10 ≤ l.next
         line_next = line_long s at l (sym er ∙ g)
 
         pub run_less : length s - l.next < length s - at
         run_less = omega (arith, line_next)
 
-        pub run_more : {b' : List ℕ} (o : Outcome) → CallMade b b' l.what l.thread o → length b' ≡ length b
-            → {out' : List ℕ} {k' : ℕ}
-            → Wrote out out' k k' (line_text line l.thread o) → Running f s start b₀ out₀ a b' out' l.next (line + 1) k'
+        pub run_more : {b' : List ℕ} (o : Outcome) → CallMade b b' l.what l.thread o → length b' ≡ length b → {t' : Text}
+            → Appends t t' (line_text line l.thread o) → Running f s start b₀ t₀ b' t' l.next (line + 1)
         unfolding rest
-        run_more {b'} o m z {out'} {k'} w =
+        run_more {b'} o m z {t'} w =
             let text : List ℕ = line_text line l.thread o in
             let more : ℕ = suc (length s) - (line + 1) in
             let left : rest s at line b ≡ after text (rest s l.next (line + 1) b') =
@@ -222,8 +204,7 @@ module _ {f : Frame} {s : List ℕ} {start : ℕ} {b₀ out₀ : List ℕ} {a : 
               same_region = z ∙ e.same_region;
               first = omega arith;
               counted = omega (arith, e.counted, line_next);
-              used = omega (arith, e.used, line_most line l.thread o, w.next);
-              within = omega (arith, w.within, wrote_length w);
-              printing = print_more e.printing text (rest s l.next (line + 1) b').printed (ap (λ r. r.printed) left) w;
+              used = omega (arith, e.used, line_most line l.thread o, w.wrote.next);
+              appending = append_more e.appending text (rest s l.next (line + 1) b').printed (ap (λ r. r.printed) left) w;
               region = ap (λ r. r.region) (sym left) ∙ e.region;
             }

@@ -1,25 +1,18 @@
 -- A line of the output, field by field, and the room that it takes. Assumes nothing.
 use Prim.Native.Nat.{ℕ, ◌+◌, ◌≤◌}
 use native.Mathlib.Omega.{arith}
-use mathlib.Core.Path.{◌≡◌, subst, sym}
+use mathlib.Core.Path.{◌≡◌, ap, subst}
 use mathlib.Core.List.{List}
 use lib.ListN.{length, length-append}
 use Rattle.region.specs.declared.answer.Answer.{Answer}
 use Rattle.region.specs.declared.answer.Answer.TheVariants.{Moved, Idle, Inserted, Took, Empty, Refused, Withdrawn}
-use Rattle.script.specs.Inner.{Wrote}
+use Rattle.script.specs.Inner.{Appends}
 use Rattle.script.specs.Printing.{answer_word, line_text, number_text, outcome_key, outcome_tag, outcome_text, outcome_word}
 use Rattle.script.specs.declared.printing.Outcome.{Outcome}
 use Rattle.script.specs.declared.printing.Outcome.TheVariants.{Begun, Set, Answered, Unreadable}
+use Rattle.script.specs.declared.text.Text.{Text}
 use Rattle.script.proofs.Decimals.{decimal_most, number_most}
-use Rattle.script.proofs.Texts.{wrote_length, wrote_more}
-
--- The words.
-pub answer_worded : (l l' : List ℕ) (at k : ℕ) (a p : Answer) → a ≡ p → Wrote l l' at k (answer_word p) → Wrote l l' at k (answer_word a)
-answer_worded l l' at k a p e w = subst (λ x. Wrote l l' at k (answer_word x)) (sym e) w
-
-pub outcome_worded : (l l' : List ℕ) (at k : ℕ) (o p : Outcome) → o ≡ p → Wrote l l' at k (outcome_word p)
-    → Wrote l l' at k (outcome_word o)
-outcome_worded l l' at k o p e w = subst (λ x. Wrote l l' at k (outcome_word x)) (sym e) w
+use Rattle.script.proofs.Texts.{appends_length, appends_more}
 
 answer_most : (a : Answer) → length (answer_word a) ≤ 11
 answer_most Moved = omega arith
@@ -36,39 +29,47 @@ word_most Set = omega arith
 word_most (Answered a) = answer_most a
 word_most Unreadable = omega arith
 
--- Answer, key and tag. What was written last is the first premise.
-pub key_room : {l l₁ : List ℕ} {a k₁ : ℕ} (o : Outcome) → Wrote l l₁ a k₁ (outcome_word o) → a + 33 ≤ length l → k₁ + 11 ≤ length l₁
-key_room o w h = omega (arith, word_most o, w.next, wrote_length w)
+-- A line, piece by piece.
+module _ (t₀ : Text) (room : t₀.len + 55 ≤ length t₀.out.now) (line : ℕ) {t₁ : Text} (w₁ : Appends t₀ t₁ (number_text line 32)) where
+  pub thread_room : t₁.len + 11 ≤ length t₁.out.now
+  thread_room = omega (arith, room, number_most line 32, w₁.wrote.next, appends_length w₁)
 
-pub tag_room : {l l₁ l₂ : List ℕ} {a k₁ k₂ : ℕ} (key : ℕ) (o : Outcome) → Wrote l₁ l₂ k₁ k₂ (number_text key 32)
-    → Wrote l l₁ a k₁ (outcome_word o) → a + 33 ≤ length l → k₂ + 11 ≤ length l₂
-tag_room key o w₂ w₁ h =
-    omega (arith, word_most o, w₁.next, wrote_length w₁, number_most key 32, w₂.next, wrote_length w₂)
+  module _ (thread : ℕ) {t₂ : Text} (w₂ : Appends t₁ t₂ (number_text thread 32)) where
+    left₂ : t₂.len + 33 ≤ length t₂.out.now
+    left₂ =
+        omega
+        (arith, room, number_most line 32, w₁.wrote.next, appends_length w₁, number_most thread 32, w₂.wrote.next, appends_length w₂)
 
-pub outcome_wrote : {l l₁ l₂ l₃ : List ℕ} {a k₁ k₂ k₃ : ℕ} (o : Outcome) (tag key : ℕ) → Wrote l₂ l₃ k₂ k₃ (number_text tag 10)
-    → tag ≡ outcome_tag o → Wrote l₁ l₂ k₁ k₂ (number_text key 32) → key ≡ outcome_key o → Wrote l l₁ a k₁ (outcome_word o)
-    → Wrote l l₃ a k₃ (outcome_text o)
-unfolding outcome_text
-outcome_wrote {l} {l₁} {l₂} {l₃} {a} {k₁} {k₂} {k₃} o tag key w₃ et w₂ ek w₁ =
-    wrote_more
-    w₁
-    (wrote_more
-    (subst (λ n. Wrote l₁ l₂ k₁ k₂ (number_text n 32)) ek w₂)
-    (subst (λ n. Wrote l₂ l₃ k₂ k₃ (number_text n 10)) et w₃))
+    module _ (o : Outcome) (word : List ℕ) (ew : word ≡ outcome_word o) where
+      word_long : length word ≤ 11
+      word_long = omega (arith, word_most o, ap length ew)
 
--- A whole line, in the same way.
-pub thread_room : {l l₁ : List ℕ} {a k₁ : ℕ} (line : ℕ) → Wrote l l₁ a k₁ (number_text line 32) → a + 55 ≤ length l → k₁ + 11 ≤ length l₁
-thread_room line w h = omega (arith, number_most line 32, w.next, wrote_length w)
+      pub word_room : t₂.len + length word ≤ length t₂.out.now
+      word_room = omega (arith, left₂, word_long)
 
-pub outcome_room : {l l₁ l₂ : List ℕ} {a k₁ k₂ : ℕ} (thread line : ℕ) → Wrote l₁ l₂ k₁ k₂ (number_text thread 32)
-    → Wrote l l₁ a k₁ (number_text line 32) → a + 55 ≤ length l → k₂ + 33 ≤ length l₂
-outcome_room thread line w₂ w₁ h =
-    omega (arith, number_most line 32, w₁.next, wrote_length w₁, number_most thread 32, w₂.next, wrote_length w₂)
+      module _ {t₃ : Text} (w₃ : Appends t₂ t₃ word) where
+        pub key_room : t₃.len + 11 ≤ length t₃.out.now
+        key_room = omega (arith, left₂, word_long, w₃.wrote.next, appends_length w₃)
 
-pub line_wrote : {l l₁ l₂ l₃ : List ℕ} {a k₁ k₂ k₃ : ℕ} (line thread : ℕ) (o : Outcome) → Wrote l₂ l₃ k₂ k₃ (outcome_text o)
-    → Wrote l₁ l₂ k₁ k₂ (number_text thread 32) → Wrote l l₁ a k₁ (number_text line 32) → Wrote l l₃ a k₃ (line_text line thread o)
-unfolding line_text
-line_wrote line thread o w₃ w₂ w₁ = wrote_more w₁ (wrote_more w₂ w₃)
+        module _ (key : ℕ) (ek : key ≡ outcome_key o) {t₄ : Text} (w₄ : Appends t₃ t₄ (number_text key 32)) where
+          pub tag_room : t₄.len + 11 ≤ length t₄.out.now
+          tag_room =
+              omega
+              (arith, left₂, word_long, w₃.wrote.next, appends_length w₃, number_most key 32, w₄.wrote.next, appends_length w₄)
+
+          pub line_appended : (tag : ℕ) → tag ≡ outcome_tag o → {t₅ : Text} → Appends t₄ t₅ (number_text tag 10)
+              → Appends t₀ t₅ (line_text line thread o)
+          unfolding line_text outcome_text
+          line_appended tag et {t₅} w₅ =
+              appends_more
+              w₁
+              (appends_more
+              w₂
+              (appends_more
+              (subst (Appends t₂ t₃) ew w₃)
+              (appends_more
+              (subst (λ n. Appends t₃ t₄ (number_text n 32)) ek w₄)
+              (subst (λ n. Appends t₄ t₅ (number_text n 10)) et w₅))))
 
 pub line_most : (line thread : ℕ) (o : Outcome) → length (line_text line thread o) ≤ 55
 unfolding line_text

@@ -8,12 +8,12 @@ use mathlib.Core.List.{List}
 use borrow.Author.Tests.{ltb-false, ltb-true}
 use lib.Dec.{ltb}
 use lib.ListN.{length}
+use Rattle.std.specs.Prelude.{Option, Some, None}
 use Rattle.script.specs.Reading.{read_line}
 use Rattle.script.specs.Printing.{line_text}
 use Rattle.script.specs.Script.{after, call_bytes, call_outcome, lines_from}
 use Rattle.script.specs.Theorems.{NoLineLeftOut}
-use Rattle.script.specs.declared.reading.Line.{Line}
-use Rattle.script.specs.declared.reading.Line.TheVariants.{Read as LineRead, Unreadable as NotLine}
+use Rattle.script.specs.declared.reading.ScriptLine.{ScriptLine}
 use Rattle.script.proofs.Readings.{line_long}
 use Rattle.script.proofs.LineCalls.{lines_over, lines_read, lines_unreadable}
 
@@ -22,16 +22,16 @@ one_more : (s : List ℕ) (n at line : ℕ) (b : List ℕ) → length s ≤ at +
 one_more s zero at line b h = lines_over s at line b 1 (omega arith) ∙ sym (lines_over s at line b 0 (omega arith))
 one_more s (suc n) at line b h = ways (ltb at (length s)) refl (read_line s at) refl (one_more s n)
   where
-    ways : (q : Bool) → ltb at (length s) ≡ q → (r : Line) → read_line s at ≡ r
+    ways : (q : Bool) → ltb at (length s) ≡ q → (r : Option ScriptLine) → read_line s at ≡ r
         → ((at' line' : ℕ) (b' : List ℕ) → length s ≤ at' + n → lines_from (suc n) s at' line' b' ≡ lines_from n s at' line' b')
         → lines_from (suc (suc n)) s at line b ≡ lines_from (suc n) s at line b
     ways false q r e rest =
         let past : length s ≤ at = ltb-false at (length s) q in
         lines_over s at line b (suc (suc n)) past ∙ sym (lines_over s at line b (suc n) past)
-    ways true q NotLine e rest =
+    ways true q None e rest =
         let in_it = ltb-true at (length s) q in
         lines_unreadable s at line b (suc n) in_it e ∙ sym (lines_unreadable s at line b n in_it e)
-    ways true q (LineRead l) e rest =
+    ways true q (Some l) e rest =
         let in_it = ltb-true at (length s) q in
         lines_read s at line b (suc n) in_it l e
         ∙ ap (after (line_text line l.thread (call_outcome b l.what l.thread)))

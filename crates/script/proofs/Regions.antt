@@ -5,7 +5,8 @@ use mathlib.Core.Path.{◌≡◌, refl, sym, ap, subst, ◌∙◌}
 use mathlib.Core.Bool.{true}
 use mathlib.Core.List.{List}
 use lib.ListN.{length, take, replicate}
-use Rattle.region.specs.Answer.{done}
+use Rattle.std.specs.Prelude.{Ok}
+use Rattle.region.specs.Refusal.{Checked, done}
 use Rattle.region.specs.Frame.{frame_of}
 use Rattle.region.specs.Shape.{region_words}
 use Rattle.region.specs.declared.frame.Frame.{Frame}
@@ -22,6 +23,7 @@ use Rattle.script.specs.declared.printing.Outcome.{Outcome}
 use Rattle.script.specs.declared.reading.Setup.{Setup}
 use Rattle.script.specs.declared.reading.What.{What}
 use Rattle.script.specs.declared.reading.What.TheVariants.{Put, Take, TakeList, Permit, Turn}
+use Rattle.script.specs.declared.text.Text.{Text}
 use Rattle.script.proofs.Setups.{accepted, ready, ready_laid}
 
 -- The call of a line.
@@ -65,13 +67,13 @@ module _ (u : Setup) (e : setup_refusal u ≡ done) where
   laid_ready = record { region = laid_readable; frame = ap frame_of (sym laid_shape) }
 
 -- With it laid out at the start of the lent region g₁, the lines can be run.
-module _ (s : List ℕ) (u : Setup) (g g₁ out : List ℕ) (a r : ℕ) (e : SetUp g g₁ u r) (d : r ≡ done) where
+module _ (s : List ℕ) (u : Setup) (g g₁ : List ℕ) (t : Text) {r : Checked} (e : SetUp g g₁ u r) {x : Unit {0}} (d : r ≡ Ok x) where
   pub lines_ready : (w : ℕ) → w ≡ region_words u.shape → (f : Frame) → f ≡ frame_of u.shape
-      → (length s ≤ 60000) × (length g ≡ 14856) × (a + 330055 ≤ length out) → LinesReady f s (take (4 * w) g₁) out a
+      → (length s ≤ 60000) × (length g ≡ 14856) × (t.len + 330055 ≤ length t.out.now) → LinesReady f s (take (4 * w) g₁) t
   lines_ready w ew f ef h =
-      let laid : take (4 * w) g₁ ≡ laid_region u = ready_laid s u g g₁ out a r e d w ew in
+      let laid : take (4 * w) g₁ ≡ laid_region u = ready_laid s u g g₁ t e d w ew in
       record {
         short = h.0;
-        ready = subst (Ready f) (sym laid) (subst (λ x. Ready x (laid_region u)) (sym ef) (laid_ready u (ready s u g g₁ out a r e d)));
+        ready = subst (Ready f) (sym laid) (subst (λ x. Ready x (laid_region u)) (sym ef) (laid_ready u (ready s u g g₁ t e d)));
         room = h.2;
       }

@@ -6,24 +6,29 @@ use mathlib.Core.Bool.{Bool, true, false, not}
 use mathlib.Core.List.{List, [], ◌∷◌, ◌++◌, append-nil}
 use mir.Syntax.{w8, w64}
 use mir.Val.{Fits}
-use borrow.Author.Tests.{le-leb, lt-leb, eq-eqb, ne_eqb, leb-true, not-true, not-false}
+use borrow.Author.Tests.{le-leb, lt-leb, eq-eqb, leb-false, leb-true, not-true, not-false}
 use lib.Dec.{leb, eqb}
 use lib.ListN.{length, take, drop, replicate, length-replicate}
 use lib.Pow.{pow_mono}
 use lib.Seq.{drop_at, length-take-le, take_at}
-use Rattle.region.specs.Answer.{done, bad_shape}
+use Rattle.std.specs.Prelude.{Ok, Err, if◌then◌else◌}
+use Rattle.region.specs.Refusal.{Checked, code_of, done, granted, ◌unless◌otherwise◌}
+use Rattle.region.specs.declared.refusal.Refusal.{Refusal}
+use Rattle.region.specs.declared.refusal.Refusal.TheVariants.{BadShape}
 use Rattle.region.specs.Pick.{pick}
 use Rattle.region.specs.Shape.{region_words, region_words_of_width, shape_fits}
 use Rattle.region.specs.Inner.{InRange}
+use Rattle.region.proofs.Refusals.{number_not_done}
 use Rattle.region.proofs.Shapes.{and_both, and_left, and_not_left, and_not_right, shape_in_range}
-use Rattle.layout.specs.Layout.{LaidOut, at_most, layout_bytes, layout_refusal, permissions_fit}
+use Rattle.layout.specs.Layout.{LaidOut, at_most, layout_bytes, layout_check, layout_refusal, permissions_fit}
 use Rattle.layout.proofs.Laws.{laid_length as laid_exactly, laid_permissions, laid_shape}
 use Rattle.region.specs.declared.answer.Answer.TheVariants.{Refused}
-use Rattle.script.specs.Inner.{Wrote, LinesRan, SetUp, SetupRan}
+use Rattle.script.specs.Inner.{Appends, LinesRan, SetUp, SetupRan}
 use Rattle.script.specs.Printing.{line_text}
-use Rattle.script.specs.Script.{after, laid_region, lines_from, nothing_more, permissions_of, region_length, setup_refusal, setup_then}
+use Rattle.script.specs.Script.{after, laid_region, lines_from, nothing_more, permissions_of, region_length, setup_check, setup_refusal, setup_then}
 use Rattle.script.specs.declared.printing.Outcome.TheVariants.{Answered}
 use Rattle.script.specs.declared.reading.Setup.{Setup}
+use Rattle.script.specs.declared.text.Text.{Text}
 use Rattle.script.proofs.Layouts.{laid_all}
 
 -- The permissions, the same for every thread.
@@ -59,29 +64,37 @@ take_same zero n p h = refl
 take_same (suc k) zero p h = absurd (omega arith)
 take_same (suc k) (suc n) p h = ap (λ l. p ∷ l) (take_same k n p (omega arith))
 
--- The refusal of a setup: the first test that fails decides.
+-- What a setup is refused for: the first test that fails decides.
 module _ (u : Setup) where
-  pub deep : 8 < u.shape.depth → bad_shape ≡ setup_refusal u
-  unfolding setup_refusal pick
+  pub deep : 8 < u.shape.depth → Err BadShape ≡ setup_check u
+  unfolding pick
   deep h = rw (lt-leb u.shape.depth 8 h) refl
 
   module _ (d : u.shape.depth ≤ 8) (q : Bool) (eq : q ≡ shape_fits u.shape) where
-    pub misfit : not q ≡ true → bad_shape ≡ setup_refusal u
-    unfolding setup_refusal layout_refusal pick
+    pub misfit : not q ≡ true → Err BadShape ≡ setup_check u
+    unfolding pick
     misfit g = rw (le-leb u.shape.depth 8 d, ← eq, not-true q g) refl
 
     module _ (g : not q ≡ false) where
       some_threads : 1 ≤ u.shape.threads
       some_threads = (shape_in_range u.shape q eq g).threads_least
 
-      pub over : 3 < u.permission → bad_shape ≡ setup_refusal u
-      unfolding setup_refusal layout_refusal pick
+      over : 3 < u.permission → Err BadShape ≡ setup_check u
+      unfolding pick
       over h = rw (le-leb u.shape.depth 8 d, ← eq, not-false q g, permits_not u some_threads h) refl
 
-      pub fit : u.permission ≤ 3 → done ≡ setup_refusal u
-      unfolding setup_refusal layout_refusal pick
+      fit : u.permission ≤ 3 → granted ≡ setup_check u
+      unfolding pick
       fit h =
           rw (le-leb u.shape.depth 8 d, ← eq, not-false q g, permits u h, eq-eqb (region_length u) (region_length u) refl) refl
+
+      -- the last test decides what the others leave
+      pub last_test : (t : Bool) → t ≡ leb u.permission 3 → (r : Checked) → r ≡ (if t then granted else Err BadShape) → r ≡ setup_check u
+      last_test t et r er = er ∙ go t et
+        where
+          go : (t : Bool) → t ≡ leb u.permission 3 → (if t then granted else Err BadShape) ≡ setup_check u
+          go true e = fit (leb-true u.permission 3 (sym e))
+          go false e = over (leb-false u.permission 3 (sym e))
 
 -- An accepted setup, as numbers, and its region in the lent one.
 module _ (u : Setup) (e : setup_refusal u ≡ done) where
@@ -90,11 +103,11 @@ module _ (u : Setup) (e : setup_refusal u ≡ done) where
     exact : layout_refusal u.shape (permissions_of u) (region_length u) ≡ done
 
   fine : Fine
-  unfolding setup_refusal pick
+  unfolding setup_refusal layout_refusal pick
   fine = ways (leb u.shape.depth 8) refl e
     where
       ways : (q : Bool) → leb u.shape.depth 8 ≡ q
-          → pick q (layout_refusal u.shape (permissions_of u) (region_length u)) bad_shape ≡ done → Fine
+          → code_of (BadShape unless q otherwise layout_check u.shape (permissions_of u) (region_length u)) ≡ done → Fine
       ways true g e = record { shallow = leb-true u.shape.depth 8 g; exact = e }
       ways false g e = absurd (omega arith)
 
@@ -177,41 +190,36 @@ module _ (u : Setup) (e : setup_refusal u ≡ done) where
           ap (λ l. l ++ drop (4 * w) g) laid ∙ ap (λ n. layout_bytes u.shape ps zeros ++ drop n g) exact_length
 
 -- Setting up.
-module _ (g : List ℕ) (u : Setup) (r : ℕ) (er : r ≡ setup_refusal u) where
-  pub set_up : r ≡ done → (g' : List ℕ) → g' ≡ laid_region u ++ drop (region_length u) g → SetUp g g' u r
-  unfolding pick
-  set_up d g' e = record { answer = er; bytes = rw (← er, eq-eqb r done d) e }
-
-  pub not_set_up : (r ≡ done → ⊥) → SetUp g g u r
-  unfolding pick
-  not_set_up n = record { answer = er; bytes = rw (← er, ne_eqb r done n) refl }
+pub is_accepted : (u : Setup) {r : Checked} {x : Unit {0}} → r ≡ setup_check u → r ≡ Ok x → setup_refusal u ≡ done
+unfolding setup_refusal
+is_accepted u e d = ap code_of (sym e ∙ d)
 
 -- A script with its setup: refused, or its lines run.
-module _ (s : List ℕ) (u : Setup) (g g₁ out : List ℕ) (a : ℕ) (r : ℕ) (e : SetUp g g₁ u r) where
-  module _ (n : r ≡ done → ⊥) where
+module _ (s : List ℕ) (u : Setup) (g g₁ : List ℕ) (t : Text) {r : Checked} (e : SetUp g g₁ u r) where
+  module _ {y : Refusal} (n : r ≡ Err y) where
     refused : List ℕ
-    refused = line_text 0 0 (Answered (Refused r))
+    refused = line_text 0 0 (Answered (Refused y))
 
     refused_ran : setup_then s u ≡ after refused (nothing_more [])
-    unfolding setup_then pick refused
-    refused_ran = rw (← e.answer, ne_eqb r done n) refl
+    unfolding setup_then refused
+    refused_ran = rw (← e.answer, n) refl
 
     refused_left : g₁ ≡ g
-    unfolding pick
-    refused_left = rw (← e.answer, ne_eqb r done n) at e.bytes
+    unfolding setup_refusal pick
+    refused_left = rw (← e.answer, n, number_not_done y) at e.bytes
 
-    pub setup_refused : (out' : List ℕ) (k : ℕ) → Wrote out out' a k (line_text 0 0 (Answered (Refused r)))
-        → SetupRan s u g g₁ out out' a k
+    pub setup_refused : {t' : Text} → Appends t t' (line_text 0 0 (Answered (Refused y))) → SetupRan s u g g₁ t t'
     unfolding refused
-    setup_refused out' k w =
+    setup_refused {t'} w =
         record {
-          output = subst (Wrote out out' a k) (sym (ap (λ x. x.printed) refused_ran ∙ append-nil refused)) w;
+          output = subst (Appends t t') (sym (ap (λ x. x.printed) refused_ran ∙ append-nil refused)) w;
           region = refused_left ∙ ap (λ x. x.region ++ drop (length x.region) g) (sym refused_ran);
         }
 
-  module _ (d : r ≡ done) where
+  module _ {x : Unit {0}} (d : r ≡ Ok x) where
     pub ready : setup_refusal u ≡ done
-    ready = sym e.answer ∙ d
+    unfolding setup_refusal
+    ready = ap code_of (sym e.answer ∙ d)
 
     pub ready_shape : InRange u.shape
     ready_shape = fine_shape u ready
@@ -221,8 +229,8 @@ module _ (s : List ℕ) (u : Setup) (g g₁ out : List ℕ) (a : ℕ) (r : ℕ) 
     laid = rw (eq-eqb (setup_refusal u) done ready) at e.bytes
 
     ran : setup_then s u ≡ lines_from (length s) s u.next 1 (laid_region u)
-    unfolding setup_then pick
-    ran = rw (eq-eqb (setup_refusal u) done ready) refl
+    unfolding setup_then
+    ran = rw (← e.answer, d) refl
 
     module _ (w : ℕ) (ew : w ≡ region_words u.shape) where
       pub ready_fits : Fits w64 (4 * w)
@@ -238,14 +246,13 @@ module _ (s : List ℕ) (u : Setup) (g g₁ out : List ℕ) (a : ℕ) (r : ℕ) 
         pub ready_part : 4 * w ≡ length (take (4 * w) g₁)
         ready_part = part_length u ready w ew g₁ (same ∙ lent)
 
-        pub setup_ran : (b out' : List ℕ) (k : ℕ) → LinesRan s u.next (take (4 * w) g₁) b out out' a k
-            → length b ≡ length (take (4 * w) g₁)
-            → SetupRan s u g (b ++ drop (4 * w) g₁) out out' a k
-        setup_ran b out' k l z =
+        pub setup_ran : (b : List ℕ) {t' : Text} → LinesRan s u.next (take (4 * w) g₁) b t t' → length b ≡ length (take (4 * w) g₁)
+            → SetupRan s u g (b ++ drop (4 * w) g₁) t t'
+        setup_ran b {t'} l z =
             let all : lines_from (length s) s u.next 1 (take (4 * w) g₁) ≡ setup_then s u =
             ap (lines_from (length s) s u.next 1) ready_laid ∙ sym ran in
             record {
-              output = subst (λ x. Wrote out out' a k x.printed) all l.output;
+              output = subst (λ x. Appends t t' x.printed) all l.output;
               region =
                   ap (λ x. b ++ x) (laid_beyond u ready w ew g g₁ laid)
                   ∙ ap (λ n. b ++ drop n g) (sym (z ∙ sym ready_part ∙ exact_length u ready w ew))

@@ -1,53 +1,46 @@
 -- Text compared and written: one pass of each loop, over plain variables, and the laws of what is written. Assumes nothing.
-use Prim.Native.Nat.{ℕ, suc, ◌+◌, ◌≤◌, ◌<◌}
+use Prim.Native.Nat.{ℕ, suc, ◌+◌, ◌-◌, ◌^◌, ◌≤◌, ◌<◌}
 use native.Mathlib.Nat.{add-zero, add-suc, suc-add}
-use native.Mathlib.Numerals.{add-one}
 use native.Mathlib.Omega.{arith}
-use mathlib.Core.Path.{◌≡◌, refl, sym, ap, ◌∙◌}
-use mathlib.Core.Bool.{true, false, true≢false}
-use mathlib.Core.List.{List, [], ◌∷◌, ◌++◌}
-use borrow.Author.Tests.{eq-eqb, ne_eqb}
-use lib.Dec.{eqb}
-use lib.ListN.{length, get_or, set, drop, length-append, length-drop, length-set, drop_of_length-le}
-use lib.Seq.{drop-cons, sets, length-sets, sets-eq}
+use mathlib.Core.Path.{◌≡◌, refl, sym, ap, subst, ◌∙◌}
+use mathlib.Core.Bool.{Bool, true, false, true≢false}
+use mathlib.Core.List.{List, [], ◌∷◌, ◌++◌, append_assoc}
+use borrow.Author.Tests.{ltb-false, ltb-true}
+use lib.Dec.{eqb, ltb}
+use lib.ListN.{length, set, drop, length-append, length-drop, length-set, drop_of_length-le}
+use lib.Seq.{drop-drop, sets, length-sets, sets-eq}
+use lib.Pointwise.{pointwise}
+use Rattle.std.specs.Prelude.{nat_eq, ◌&&◌, take, min}
+use Rattle.std.proofs.lemmas.List.{take_rest}
+use borrow.Rule.Slice.PartMut.{put_mid}
+use mir.Syntax.{w64}
+use mir.Val.{Fits}
 use Rattle.region.proofs.Shapes.{and_right}
 use Rattle.script.specs.Text.{starts_with, text_at}
-use Rattle.script.specs.Inner.{Wrote}
+use Rattle.script.specs.Inner.{Appends, Wrote}
+use Rattle.script.specs.declared.text.Text.{Text}
 
--- Comparing: what is left from here decides.
-pub record Compared (s : List ℕ) (at : ℕ) (t : List ℕ) (k i : ℕ) : Type 0 where
-  pub within : i ≤ length t
-  pub left : starts_with (drop i t) (drop k s) ≡ starts_with t (drop at s)
+-- Comparing.
+starts_same : (t s : List ℕ) → starts_with t s ≡ pointwise nat_eq t (take (length t) s)
+unfolding starts_with
+starts_same [] s = refl
+starts_same (c ∷ t) [] = refl
+starts_same (c ∷ t) (x ∷ s) = ap (λ q. nat_eq c x && q) (starts_same t s)
 
-pub compare_start : (s : List ℕ) (at : ℕ) (t : List ℕ) → Compared s at t at 0
-compare_start s at t = record { within = omega arith; left = refl }
-
-module _ {s : List ℕ} {at : ℕ} {t : List ℕ} {k i : ℕ} (e : Compared s at t k i) where
-  pub compare_end : length t ≤ i → true ≡ text_at s at t
-  unfolding text_at starts_with
-  compare_end h = rw (drop_of_length-le t h) at e.left
-
-  module _ (h : i < length t) where
-    pub compare_short : length s ≤ k → false ≡ text_at s at t
-    unfolding text_at starts_with
-    compare_short g = rw (drop-cons t i 0 h, drop_of_length-le s g) at e.left
-
-    module _ (g : k < length s) where
-      pub compare_other : (get_or t i 0 ≡ get_or s k 0 → ⊥) → false ≡ text_at s at t
-      unfolding text_at starts_with
-      compare_other n =
-          rw (drop-cons t i 0 h, drop-cons s k 0 g, ne_eqb (get_or t i 0) (get_or s k 0) n) at e.left
-
-      pub compare_more : get_or t i 0 ≡ get_or s k 0 → Compared s at t (k + 1) (i + 1)
-      unfolding starts_with
-      compare_more m =
-          record {
-            within = omega arith;
-            left =
-                rw
-                (add-one, add-one)
-                (rw (drop-cons t i 0 h, drop-cons s k 0 g, eq-eqb (get_or t i 0) (get_or s k 0) m) at e.left);
-          }
+pub stands : (s t : List ℕ) (at m : ℕ) (q : Bool) → m ≡ min at (length s) → q ≡ pointwise nat_eq t (take (length t) (take (length s - m) (drop m s)))
+    → q ≡ text_at s at t
+unfolding text_at
+stands s t at m q em eq =
+    eq
+    ∙ ap (λ x. pointwise nat_eq t (take (length t) x)) (take_rest s m)
+    ∙ sym (starts_same t (drop m s))
+    ∙ ap (starts_with t) (ways (ltb at (length s)) refl)
+  where
+    ways : (p : Bool) → ltb at (length s) ≡ p → drop m s ≡ drop at s
+    ways true g = ap (λ k. drop k s) (omega (arith, em, ltb-true at (length s) g))
+    ways false g =
+        let past : length s ≤ at = ltb-false at (length s) g in
+        drop_of_length-le s (omega (arith, em)) ∙ sym (drop_of_length-le s past)
 
 -- A text that stands somewhere ends within the slice.
 starts_long : (t s : List ℕ) → starts_with t s ≡ true → length t ≤ length s
@@ -59,6 +52,11 @@ starts_long (c ∷ t) (x ∷ s) e = omega (arith, starts_long t s (and_right (eq
 pub text_room : (s : List ℕ) (at : ℕ) (t : List ℕ) → text_at s at t ≡ true → 0 < length t → at + length t ≤ length s
 unfolding text_at
 text_room s at t e h = omega (arith, starts_long t (drop at s) e, length-drop at s)
+
+pub text_fits : (s : List ℕ) (at : ℕ) (t : List ℕ) (q : Bool) → q ≡ text_at s at t → q ≡ true → at < 2 ^ 64 → length s < 2 ^ 64
+    → Fits w64 (at + length t)
+text_fits s at [] q e g h long = record { fits = omega arith }
+text_fits s at (c ∷ t) q e g h long = record { fits = omega (arith, text_room s at (c ∷ t) (sym e ∙ g) (omega arith)) }
 
 -- What is written: the slice keeps its length, and two texts one after the other are one.
 pub wrote_length : {l l' : List ℕ} {a k : ℕ} {xs : List ℕ} → Wrote l l' a k xs → length l' ≡ length l
@@ -86,46 +84,34 @@ wrote_more {l} {l'} {l''} {a} {k} {m} {xs} {ys} v w =
           ∙ sym (sets-append xs ys l a);
     }
 
-pub wrote_byte : (l : List ℕ) (a x : ℕ) → a < length l → Wrote l (set l a x) a (a + 1) (x ∷ [])
-wrote_byte l a x h = record { next = refl; within = omega arith; bytes = refl }
+module _ {t₀ t₁ : Text} {xs : List ℕ} (w : Appends t₀ t₁ xs) where
+  pub appends_length : length t₁.out.now ≡ length t₀.out.now
+  appends_length = wrote_length w.wrote
+
+  pub appends_more : {t₂ : Text} {ys : List ℕ} → Appends t₁ t₂ ys → Appends t₀ t₂ (xs ++ ys)
+  appends_more v =
+      record { same_reference = v.same_reference ∙ w.same_reference; wrote = wrote_more w.wrote v.wrote }
+
+-- a text copied to its place
+pub wrote_text : (l t y : List ℕ) (at : ℕ) → at + length t ≤ length l → y ≡ t → Wrote l (put_mid at (at + length t - at) l y) at (at + length t) t
+wrote_text l t y at h e =
+    let n : at + length t - at ≡ length t = omega arith in
+    record {
+      next = refl;
+      within = h;
+      bytes =
+          ap (λ k. put_mid at k l y) n
+          ∙ ap (put_mid at (length t) l) e
+          ∙ ap (λ x. take at l ++ (t ++ x)) (drop-drop (length t) at l)
+          ∙ sym (append_assoc (take at l) t (drop (at + length t) l))
+          ∙ sym (sets-eq t l at h);
+    }
 
 -- What was written from the start on, with the rest as it was.
 pub written : (l l' : List ℕ) (k : ℕ) (xs : List ℕ) → Wrote l l' 0 k xs → l' ≡ xs ++ drop k l
 written l l' k xs w =
     let n : 0 + length xs ≡ k = sym w.next in
     w.bytes ∙ sets-eq xs l 0 (omega (arith, w.within)) ∙ ap (λ m. xs ++ drop m l) n
-
--- Writing: what is left of the text, from here, gives the whole.
-pub record Writing (l₀ : List ℕ) (at : ℕ) (t l : List ℕ) (k i : ℕ) : Type 0 where
-  pub within : i ≤ length t
-  pub here : k ≡ at + i
-  pub room : at + length t ≤ length l
-  pub same : length l ≡ length l₀
-  pub left : sets l k (drop i t) ≡ sets l₀ at t
-
-pub write_start : (l : List ℕ) (at : ℕ) (t : List ℕ) → at + length t ≤ length l → Writing l at t l at 0
-write_start l at t h =
-    record { within = omega arith; here = sym (add-zero at); room = h; same = refl; left = refl }
-
-module _ {l₀ : List ℕ} {at : ℕ} {t l : List ℕ} {k i : ℕ} (e : Writing l₀ at t l k i) where
-  pub write_more : i < length t → Writing l₀ at t (set l k (get_or t i 0)) (k + 1) (i + 1)
-  write_more h =
-      let n = length-set l k (get_or t i 0) in
-      record {
-        within = omega arith;
-        here = omega (arith, e.here);
-        room = omega (arith, e.room);
-        same = n ∙ e.same;
-        left = rw (add-one, add-one) (rw (drop-cons t i 0 h) at e.left);
-      }
-
-  pub write_end : length t ≤ i → Wrote l₀ l at k t
-  write_end h =
-      record {
-        next = omega (arith, e.here, e.within);
-        within = omega (arith, e.here, e.within, e.room, e.same);
-        bytes = ap (sets l k) (sym (drop_of_length-le t h)) ∙ e.left;
-      }
 
 -- Printing piece by piece: what is left, written from here, gives the whole.
 pub record Printing (l₀ : List ℕ) (a : ℕ) (whole l : List ℕ) (k : ℕ) (left : List ℕ) : Type 0 where
@@ -157,3 +143,31 @@ module _ {l₀ : List ℕ} {a : ℕ} {whole l : List ℕ} {k : ℕ} {left : List
         within = omega (arith, e.same);
         bytes = ap (sets l k) (sym el) ∙ e.bytes;
       }
+
+-- The same for a text.
+pub record Appending (t₀ : Text) (whole : List ℕ) (t : Text) (left : List ℕ) : Type 0 where
+  pub same_reference : t.out.ghost_name ≡ t₀.out.ghost_name
+  pub within : t.len ≤ length t.out.now
+  pub printing : Printing t₀.out.now t₀.len whole t.out.now t.len left
+
+pub append_start : (t : Text) (whole : List ℕ) → t.len ≤ length t.out.now → Appending t whole t whole
+append_start t whole h = record { same_reference = refl; within = h; printing = print_start t.out.now t.len whole }
+
+module _ {t₀ : Text} {whole : List ℕ} {t : Text} {left : List ℕ} (e : Appending t₀ whole t left) where
+  pub append_more : {t' : Text} (xs next : List ℕ) → left ≡ xs ++ next → Appends t t' xs → Appending t₀ whole t' next
+  append_more xs next el w =
+      record {
+        same_reference = w.same_reference ∙ e.same_reference;
+        within = omega (arith, w.wrote.within, appends_length w);
+        printing = print_more e.printing xs next el w.wrote;
+      }
+
+  pub append_end : left ≡ [] → Appends t₀ t whole
+  append_end el = record { same_reference = e.same_reference; wrote = print_end e.printing el e.within }
+
+-- A text that was begun at the start of a slice.
+pub from_start : {l l' : List ℕ} {t₀ t : Text} {xs : List ℕ} → t₀.len ≡ 0 → t₀.out.now ≡ l → Appends t₀ t xs → l' ≡ t.out.now
+    → Wrote l l' 0 t.len xs
+from_start {l} {l'} {t₀} {t} {xs} z e w e' =
+    subst (λ y. Wrote l y 0 t.len xs) (sym e')
+    (subst (λ n. Wrote l t.out.now n t.len xs) z (subst (λ y. Wrote y t.out.now t₀.len t.len xs) e w.wrote))

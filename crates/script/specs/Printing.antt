@@ -1,4 +1,4 @@
--- What a line of the output is: "line thread answer key tag" (document 01, The script program; document 02, request 5).
+-- What a line of the output is: the script line's number, its thread, the answer, key and tag, parted by single spaces, and LF.
 use Rattle.std.specs.Prelude.{ℕ, List, [], ◌∷◌, ◌++◌}
 use Rattle.region.specs.Answer.{answer_key, answer_tag}
 use Rattle.region.specs.declared.answer.Answer.{Answer}
@@ -17,14 +17,14 @@ answer_word Empty = ascii "empty "
 answer_word (Refused n) = ascii "refused "
 answer_word Withdrawn = ascii "withdrawn "
 
--- and those of a script's line; of a permission "answered `set`" (request 5)
+-- and those of a script's line: a put or take that begins, a permission that is set, a turn's answer, a line that cannot be read
 abbrev pub outcome_word : Outcome → List ℕ
 outcome_word Begun = ascii "begun "
 outcome_word Set = ascii "set "
 outcome_word (Answered a) = answer_word a
 outcome_word Unreadable = ascii "unreadable "
 
--- "A refusal prints `refused`, its number as key"; a line that cannot be read has key and tag 0
+-- a refusal has its number as key; a line that cannot be read has key and tag 0
 abbrev pub outcome_key : Outcome → ℕ
 outcome_key Begun = 0
 outcome_key Set = 0

@@ -1,72 +1,66 @@
--- Reading a script (document 01, The script program; document 02, requests 1 and 5): "lines end in LF, fields are decimal, parted by single
--- spaces"; "a number past 32 bits cannot be read". A position counts the bytes of the whole script.
-use Rattle.std.specs.Prelude.{ℕ, suc, ◌+◌, ◌-◌, ◌*◌, ◌&&◌, List, [], ◌∷◌, leb, eqb, length, get_or, drop}
+-- Reading a script: its lines end in LF, their fields are decimal numbers parted by single spaces, and a number past 32 bits cannot be read.
+-- A position counts the bytes of the whole script.
+use Rattle.std.specs.Prelude.{ℕ, suc, ◌+◌, ◌-◌, ◌*◌, ◌&&◌, List, [], ◌∷◌, Option, Some, None, leb, eqb, length, get_or, drop}
 use Rattle.region.specs.Pick.{pick}
 use Rattle.script.specs.Text.{ascii, space, line_end, is_digit, text_at}
-use Rattle.script.specs.declared.numbers.Number.{Number}
-use Rattle.script.specs.declared.numbers.Number.TheVariants.{Read, Unreadable}
 use Rattle.script.specs.declared.reading.Fields.{Fields}
-use Rattle.script.specs.declared.reading.Fields.TheVariants.{Read as AllRead, Unreadable as NotFields}
 use Rattle.script.specs.declared.reading.What.{What}
 use Rattle.script.specs.declared.reading.What.TheVariants.{Put, Take, TakeList, Permit, Turn}
-use Rattle.script.specs.declared.reading.Line.{Line}
-use Rattle.script.specs.declared.reading.Line.TheVariants.{Read as LineRead, Unreadable as NotLine}
 use Rattle.script.specs.declared.reading.ScriptLine.{ScriptLine}
-use Rattle.script.specs.declared.reading.Opening.{Opening}
-use Rattle.script.specs.declared.reading.Opening.TheVariants.{Read as OpeningRead, Unreadable as NotOpening}
+use Rattle.script.specs.declared.reading.Setup.{Setup}
 
--- digits up to the byte that ends the field, v being the value of those before position at
-unfoldable pub digits_then : ℕ → List ℕ → ℕ → ℕ → Number
-digits_then end [] at v = Unreadable
+-- digits up to the byte that ends the field, v being the value of those before position at: the whole value and the position after that byte
+unfoldable pub digits_then : ℕ → List ℕ → ℕ → ℕ → Option (ℕ × ℕ)
+digits_then end [] at v = None
 digits_then end (c ∷ s) at v =
     pick
     (eqb c end)
-    (Read v (suc at))
-    (pick
-    (is_digit c && leb (10 * v + (c - 48)) 4294967295)
-    (digits_then end s (suc at) (10 * v + (c - 48)))
-    Unreadable)
+    (Some (v, suc at))
+    (pick (is_digit c && leb (10 * v + (c - 48)) 4294967295) (digits_then end s (suc at) (10 * v + (c - 48))) None)
 
 -- a field: a digit or more, then the byte that ends it. Leading zeros can be read.
-unfoldable pub number_then : List ℕ → ℕ → ℕ → Number
+unfoldable pub number_then : List ℕ → ℕ → ℕ → Option (ℕ × ℕ)
 unfolding digits_then
-number_then s at end = pick (is_digit (get_or s at 0)) (digits_then end (drop at s) at 0) Unreadable
+number_then s at end = pick (is_digit (get_or s at 0)) (digits_then end (drop at s) at 0) None
 
--- what follows from a field's value and the position after it, or from its being unreadable
-abbrev pub field_then : {A : Type 0} → Number → A → (ℕ → ℕ → A) → A
-field_then Unreadable bad f = bad
-field_then (Read v next) bad f = f v next
+-- what follows from a field's value and the position after it
+abbrev pub field_then : {A : Type 0} → Option (ℕ × ℕ) → (ℕ → ℕ → Option A) → Option A
+field_then None f = None
+field_then (Some (v, next)) f = f v next
 
--- the three fields of a line, "what thread a b"
-unfoldable pub fields_at : List ℕ → ℕ → Fields
+-- the three fields behind a line's first word: thread, a, b
+unfoldable pub fields_at : List ℕ → ℕ → Option Fields
 unfolding number_then
 fields_at s at =
-    field_then (number_then s at space) NotFields λ thread at₁.
-    field_then (number_then s at₁ space) NotFields λ a at₂.
-    field_then (number_then s at₂ line_end) NotFields λ b at₃. AllRead thread a b at₃
+    field_then (number_then s at space) λ thread at₁.
+    field_then (number_then s at₁ space) λ a at₂.
+    field_then (number_then s at₂ line_end) λ b at₃. Some (record { thread = thread; a = a; b = b; next = at₃ })
 
--- "for put, a and b are key and tag, for turn, a run of one, a is the choice and b 0; take has 0 0"; of a list "its script line is `list`,
--- fields as take's" (request 1); of a thread's permission "its script line is `permit`, a the permission, b 0" (request 5)
-abbrev pub put_line : Fields → Line
-put_line (AllRead t a b next) = LineRead (record { what = Put (record { key = a; tag = b }); thread = t; next = next })
-put_line NotFields = NotLine
+-- the line of these fields that makes this call
+abbrev pub line_of : What → Fields → ScriptLine
+line_of what f = record { what = what; thread = f.thread; next = f.next }
+
+-- a put's a and b are its item's key and tag
+abbrev pub put_line : Option Fields → Option ScriptLine
+put_line None = None
+put_line (Some f) = Some (line_of (Put (record { key = f.a; tag = f.b })) f)
 
 -- a line whose b is 0
-abbrev pub line_if_zero : ℕ → ScriptLine → Line
-line_if_zero b l = pick (eqb b 0) (LineRead l) NotLine
+abbrev pub line_if_zero : ℕ → ScriptLine → Option ScriptLine
+line_if_zero b l = pick (eqb b 0) (Some l) None
 
--- a take of one item, or of the root's list
-abbrev pub take_line : What → Fields → Line
-take_line what (AllRead t a b next) = pick (eqb a 0) (line_if_zero b (record { what = what; thread = t; next = next })) NotLine
-take_line what NotFields = NotLine
+-- a take of one item, or of the root's list: a and b are 0
+abbrev pub take_line : What → Option Fields → Option ScriptLine
+take_line what None = None
+take_line what (Some f) = pick (eqb f.a 0) (line_if_zero f.b (line_of what f)) None
 
--- a turn, or the thread's permission
-abbrev pub number_line : (ℕ → What) → Fields → Line
-number_line what (AllRead t a b next) = line_if_zero b (record { what = what a; thread = t; next = next })
-number_line what NotFields = NotLine
+-- a turn, a being its choice, or the thread's permission, a itself; b is 0
+abbrev pub number_line : (ℕ → What) → Option Fields → Option ScriptLine
+number_line what None = None
+number_line what (Some f) = line_if_zero f.b (line_of (what f.a) f)
 
 -- the line that starts at a position
-unfoldable pub read_line : List ℕ → ℕ → Line
+unfoldable pub read_line : List ℕ → ℕ → Option ScriptLine
 unfolding fields_at
 read_line s at =
     pick
@@ -81,18 +75,18 @@ read_line s at =
     (pick
     (text_at s at (ascii "permit "))
     (number_line Permit (fields_at s (at + 7)))
-    (pick (text_at s at (ascii "turn ")) (number_line Turn (fields_at s (at + 5))) NotLine))))
+    (pick (text_at s at (ascii "turn ")) (number_line Turn (fields_at s (at + 5))) None))))
 
 -- the line of five numbers under the first heading: D, C, T, H and the permission
-unfoldable pub shape_at : List ℕ → ℕ → Opening
+unfoldable pub shape_at : List ℕ → ℕ → Option Setup
 unfolding number_then
 shape_at s at =
-    field_then (number_then s at space) NotOpening λ d at₁.
-    field_then (number_then s at₁ space) NotOpening λ c at₂.
-    field_then (number_then s at₂ space) NotOpening λ t at₃.
-    field_then (number_then s at₃ space) NotOpening λ h at₄.
-    field_then (number_then s at₄ line_end) NotOpening λ p at₅.
-    OpeningRead
+    field_then (number_then s at space) λ d at₁.
+    field_then (number_then s at₁ space) λ c at₂.
+    field_then (number_then s at₂ space) λ t at₃.
+    field_then (number_then s at₃ space) λ h at₄.
+    field_then (number_then s at₄ line_end) λ p at₅.
+    Some
     (record { shape = record { depth = d; cells = c; threads = t; threshold = h }; permission = p; next = at₅ })
 
 abbrev pub shape_heading : List ℕ
@@ -102,24 +96,24 @@ abbrev pub line_heading : List ℕ
 line_heading = ascii "what thread a b\n"
 
 -- the second heading, behind the shape
-abbrev pub headed_opening : List ℕ → Opening → Opening
-headed_opening s NotOpening = NotOpening
-headed_opening s (OpeningRead u) =
+abbrev pub headed_opening : List ℕ → Option Setup → Option Setup
+headed_opening s None = None
+headed_opening s (Some u) =
     pick
     (text_at s u.next line_heading)
-    (OpeningRead (record { shape = u.shape; permission = u.permission; next = u.next + length line_heading }))
-    NotOpening
+    (Some (record { shape = u.shape; permission = u.permission; next = u.next + length line_heading }))
+    None
 
 -- the opening from a position on: both headings and the shape between them
-unfoldable pub opening_at : List ℕ → ℕ → Opening
+unfoldable pub opening_at : List ℕ → ℕ → Option Setup
 unfolding shape_at
 opening_at s at =
-    pick (text_at s at shape_heading) (headed_opening s (shape_at s (at + length shape_heading))) NotOpening
+    pick (text_at s at shape_heading) (headed_opening s (shape_at s (at + length shape_heading))) None
 
 abbrev pub script_most : ℕ
 script_most = 60000
 
--- the opening of a script. "Standard input, at most 60,000 bytes, else line 0 is unreadable".
-unfoldable pub read_opening : List ℕ → Opening
+-- the opening of a script, which has at most 60,000 bytes, else its opening cannot be read
+unfoldable pub read_opening : List ℕ → Option Setup
 unfolding opening_at
-read_opening s = pick (leb (length s) script_most) (opening_at s 0) NotOpening
+read_opening s = pick (leb (length s) script_most) (opening_at s 0) None

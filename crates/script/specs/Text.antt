@@ -28,7 +28,7 @@ unfoldable pub text_at : List ℕ → ℕ → List ℕ → Bool
 unfolding starts_with
 text_at s at t = starts_with t (drop at s)
 
--- "fields are decimal": 0 to 9
+-- the digits 0 to 9
 unfoldable pub is_digit : ℕ → Bool
 is_digit c = between 48 c 57
 

@@ -9,7 +9,7 @@ NoLineLeftOut =
     (n : ℕ) (s : List ℕ) (at line : ℕ) (b : List ℕ) → length s ≤ n
     → lines_from n s at line b ≡ lines_from (length s) s at line b
 
--- the script of document 01, The script program
+-- a script with one put and four turns
 abbrev pub worked_script : List ℕ
 worked_script =
     ascii "depth cells threads threshold permission\n1 1 1 1 3\nwhat thread a b\n"

@@ -9,9 +9,8 @@ mod reading;
 mod script;
 mod text;
 
-pub use numbers::{Number, number_then, write_number};
+pub use numbers::number_then;
 pub use printing::Outcome;
-pub use reader::line_at;
-pub use reading::{Line, Opening, SCRIPT_MOST, ScriptLine, Setup, What, opening_at, read_opening};
-pub use script::{OUTPUT_ROOM, REGION_ROOM, lay_region, make_call, run_script, setup_refusal};
-pub use text::write_text;
+pub use reading::{SCRIPT_MOST, ScriptLine, Setup, What, line_at, opening_at, read_opening};
+pub use script::{OUTPUT_ROOM, REGION_ROOM, lay_region, make_call, run_script, setup_check};
+pub use text::Text;

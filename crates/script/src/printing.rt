@@ -1,10 +1,9 @@
 // A line of the output: the script line's number, its thread, and what came of it.
 ghost use Rattle.std.specs.Prelude.{◌≡◌, ◌+◌, ◌≤◌, length};
-ghost use Rattle.script.specs.Inner.{Wrote};
-ghost use Rattle.script.specs.Printing.{answer_word, line_text, outcome_key, outcome_tag, outcome_text, outcome_word};
+ghost use Rattle.script.specs.Inner.{Appends, Wrote};
+ghost use Rattle.script.specs.Printing.{answer_word, line_text, outcome_key, outcome_tag, outcome_word, number_text};
 
-use crate::numbers::write_number;
-use crate::text::write_text;
+use crate::text::Text;
 use region::Answer;
 
 // What came of a script line.
@@ -17,74 +16,61 @@ pub enum Outcome {
 }
 
 impl Outcome {
+    // The word of an outcome, and a space.
+    fn word(self) -> &'static [u8]
+        ensures { result.now ≡ outcome_word self }
+    {
+        match self {
+            Outcome::Begun => b"begun ",
+            Outcome::Set => b"set ",
+            Outcome::Answered(a) => answer_word(a),
+            Outcome::Unreadable => b"unreadable ",
+        }
+    }
+
     fn key(self) -> u32
         ensures { result ≡ outcome_key self }
     {
         match self {
-            Outcome::Begun => 0,
-            Outcome::Set => 0,
             Outcome::Answered(a) => a.key(),
-            Outcome::Unreadable => 0,
+            Outcome::Begun | Outcome::Set | Outcome::Unreadable => 0,
         }
     }
 
+    // stays: key and tag read a field each; with a function that both call they would be no shorter.
     fn tag(self) -> u32
         ensures { result ≡ outcome_tag self }
     {
         match self {
-            Outcome::Begun => 0,
-            Outcome::Set => 0,
             Outcome::Answered(a) => a.tag(),
-            Outcome::Unreadable => 0,
+            Outcome::Begun | Outcome::Set | Outcome::Unreadable => 0,
         }
     }
 }
 
-// Writes the word of a turn's answer, and a space.
-fn write_answer(out: &mut [u8], at: usize, a: Answer) -> usize
-    requires { at + 11 ≤ length out.old }
-    ensures { Wrote out.old out.new at result (answer_word a) }
+// The word of a turn's answer, and a space.
+fn answer_word(a: Answer) -> &'static [u8]
+    ensures { result.now ≡ answer_word a }
 {
     match a {
-        Answer::Moved => write_text(out, at, b"moved "),
-        Answer::Idle => write_text(out, at, b"idle "),
-        Answer::Inserted => write_text(out, at, b"inserted "),
-        Answer::Took(_) => write_text(out, at, b"took "),
-        Answer::Empty => write_text(out, at, b"empty "),
-        Answer::Refused(_) => write_text(out, at, b"refused "),
-        Answer::Withdrawn => write_text(out, at, b"withdrawn "),
+        Answer::Moved => b"moved ",
+        Answer::Idle => b"idle ",
+        Answer::Inserted => b"inserted ",
+        Answer::Took(_) => b"took ",
+        Answer::Empty => b"empty ",
+        Answer::Refused(_) => b"refused ",
+        Answer::Withdrawn => b"withdrawn ",
     }
 }
 
-// Writes the word of an outcome, and a space.
-fn write_word(out: &mut [u8], at: usize, o: Outcome) -> usize
-    requires { at + 11 ≤ length out.old }
-    ensures { Wrote out.old out.new at result (outcome_word o) }
+// Writes a line of the output.
+pub fn write_line(text: &mut Text, line: u32, thread: u32, o: Outcome)
+    requires { text.old.len + 55 ≤ length text.old.out.now }
+    ensures { Appends text.old text.new (line_text line thread o) }
 {
-    match o {
-        Outcome::Begun => write_text(out, at, b"begun "),
-        Outcome::Set => write_text(out, at, b"set "),
-        Outcome::Answered(a) => write_answer(out, at, a),
-        Outcome::Unreadable => write_text(out, at, b"unreadable "),
-    }
-}
-
-// Writes answer, key and tag, and the line's end.
-fn write_outcome(out: &mut [u8], at: usize, o: Outcome) -> usize
-    requires { at + 33 ≤ length out.old }
-    ensures { Wrote out.old out.new at result (outcome_text o) }
-{
-    let key_at = write_word(out, at, o);
-    let tag_at = write_number(out, key_at, o.key(), b' ');
-    write_number(out, tag_at, o.tag(), b'\n')
-}
-
-// Writes a line of the output and answers the position after it.
-pub fn write_line(out: &mut [u8], at: usize, line: u32, thread: u32, o: Outcome) -> usize
-    requires { at + 55 ≤ length out.old }
-    ensures { Wrote out.old out.new at result (line_text line thread o) }
-{
-    let thread_at = write_number(out, at, line, b' ');
-    let word_at = write_number(out, thread_at, thread, b' ');
-    write_outcome(out, word_at, o)
+    text.number(line, b' ');
+    text.number(thread, b' ');
+    text.push(o.word());
+    text.number(o.key(), b' ');
+    text.number(o.tag(), b'\n');
 }

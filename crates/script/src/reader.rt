@@ -1,33 +1,50 @@
-// A reader of the script: its bytes and a position in them. Each function takes the struct apart and leaves the work to
-// `read_line`; `line_at`, on a plain slice and a number, serves every other caller.
+// A reader of the script: its bytes, and the position that is read next.
 ghost use Rattle.std.specs.Prelude.{◌≡◌};
-ghost use Rattle.script.specs.Reading.{read_line};
+ghost use Rattle.script.specs.Text.{text_at};
+ghost use Rattle.script.specs.Inner.{Ate, NumberRead};
 
-use crate::reading::{Line, read_line};
+use crate::numbers::number_then;
 
-#[derive(Drop)]
+// Whether the text stands in s at a position.
+#[tactic(auto, using(crate::proofs::Texts::stands))]
+fn text_at(s: &[u8], at: usize, text: &[u8]) -> bool
+    ensures { result ≡ text_at s.now at text.now }
+{
+    let start = at.min(s.len());
+    s[start..].starts_with(text)
+}
+
+#[derive(Clone, Copy)]
 pub struct Reader<'a> {
-    pub src: &'a [u8],
+    src: &'a [u8],
     pub at: usize,
 }
 
-// A reader at a position of the script.
-pub fn open<'a>(src: &'a [u8], at: usize) -> Reader<'a>
-    ensures { (result.src ≡ src.entry) × (result.at ≡ at) }
-{
-    Reader { src, at }
-}
+impl<'a> Reader<'a> {
+    pub fn new(src: &'a [u8], at: usize) -> Reader<'a>
+        ensures { (result.src ≡ src.entry) × (result.at ≡ at) }
+    {
+        Reader { src, at }
+    }
 
-// The line at the reader's position.
-pub fn next_line<'a>(r: Reader<'a>) -> Line
-    ensures { result ≡ read_line r.entry.src.now r.entry.at }
-{
-    read_line(r.src, r.at)
-}
+    // Takes the text, if it stands here.
+    #[tactic(auto, using(crate::proofs::Texts::text_fits))]
+    pub fn eat(&mut self, text: &[u8]) -> bool
+        ensures { Ate self.old self.new text.now result }
+    {
+        if !text_at(self.src, self.at, text) {
+            return false;
+        }
+        self.at += text.len();
+        true
+    }
 
-// The line at a position of the script.
-pub fn line_at(s: &[u8], at: usize) -> Line
-    ensures { result ≡ read_line s.now at }
-{
-    next_line(open(s, at))
+    // Takes a number and the byte that ends it, if they stand here.
+    pub fn number(&mut self, end: u8) -> Option<u32>
+        ensures { NumberRead self.old self.new end result }
+    {
+        let (value, next) = number_then(self.src, self.at, end)?;
+        self.at = next;
+        Some(value)
+    }
 }

@@ -19,6 +19,7 @@ use Rattle.region.specs.declared.place.Place.{Place}
 use Rattle.region.specs.declared.place.Place.TheVariants.{Idle, ReadDepth, ReadLeaf, ReadAncestor, GrowDepth, ReadTarget, InsertAtRoot, ReadParent, InsertBelow, ReadRoot, RemoveHead, MendReadNode, MendReadDepth, MendReadLeft, MendReadRight, MendSwap, MendClean, ListReadRoot, RemoveList, HandOut}
 use Rattle.region.specs.declared.record.Node.{Node}
 use Rattle.region.specs.declared.record.NodeCopy.{NodeCopy}
+use Rattle.region.specs.declared.refusal.Refusal.{Refusal}
 use Rattle.region.specs.declared.shape.Shape.{Shape}
 use Rattle.region.specs.declared.thread.Search.{Search}
 use Rattle.region.specs.declared.thread.Thread.{Thread}
@@ -218,7 +219,7 @@ module _ (s : Shape) (m : Shared) (most : m.depth ≤ s.depth) (t : Thread) (q :
       moves : changes_nothing p.answer ≡ false → p.answer ≡ Moved
       remembers : changes_nothing p.answer ≡ false → Remembers s m.depth p.thread (q || eqb t.depth s.depth)
 
-    no_try : {u : Thread} {n : ℕ} → Tries (record { effect = Nothing; thread = u; answer = Refused n })
+    no_try : {u : Thread} {n : Refusal} → Tries (record { effect = Nothing; thread = u; answer = Refused n })
     no_try = record { moves = λ k. absurd (true≢false k); remembers = λ k. absurd (true≢false k) }
 
     one_try : {u : Thread} → is_idle u ≡ false → u.depth ≡ t.depth → LeafOf t.depth u.search_state.leaf

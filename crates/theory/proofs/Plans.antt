@@ -11,7 +11,7 @@ use borrow.Author.Tests.{ltb-true, eqb-true, eqb-false, ne_eqb, lt-ltb, le-ltb}
 use lib.Dec.{ltb, eqb}
 use lib.Pow.{pow_mono, pow_pos}
 use Rattle.region.specs.Record.{counter_of}
-use Rattle.region.specs.Answer.{counter_spent, unreadable}
+use Rattle.region.specs.declared.refusal.Refusal.TheVariants.{CounterSpent, Unreadable}
 use Rattle.region.specs.Level.{ancestor, level, mark}
 use Rattle.region.specs.Pick.{pick}
 use Rattle.region.specs.Shape.{between, node_count}
@@ -112,7 +112,7 @@ OwnAfter m (Free c) o o' = o' ≡ (m.cell c).next
 
 pub data Planned (s : Shape) (m : Shared) (own : ℕ → ℕ) (t : ℕ) (o : ℕ) (op : Operation) (p : Plan) : Type 0 where
   rests : p.effect ≡ Nothing → p.answer ≡ AnswersIdle → Planned s m own t o op p
-  refuses : p.effect ≡ Nothing → p.answer ≡ Refused counter_spent → Planned s m own t o op p
+  refuses : p.effect ≡ Nothing → p.answer ≡ Refused CounterSpent → Planned s m own t o op p
   moves : (op' : Operation) → Allowed s m own t p.effect → OperationAfter m op op' p.effect p.answer
       → OwnAfter m p.effect o p.thread.own → At s m p.thread op' p.thread.place → Planned s m own t o op p
 
@@ -179,7 +179,7 @@ module _ (s : Shape) (r : InRange s) (m : Shared) (own : ℕ → ℕ) {all : ℕ
   unfolding on_to moved plan at_place
   goes_on u x e h = moves op tt (reads refl) e (at_place_lem u op x h)
 
-  is_refused : (u : Thread) → Fits (refused u counter_spent)
+  is_refused : (u : Thread) → Fits (refused u CounterSpent)
   unfolding refused plan
   is_refused u = refuses refl refl
 
@@ -816,7 +816,7 @@ module _ (s : Shape) (r : InRange s) (m : Shared) (own : ℕ → ℕ) {all : ℕ
     where
       go : (p q : Bool) → Stands p q → (p && not (may_put th)) || (q && not (may_take th)) ≡ true
           → Fits
-          (pick p (pick (eqb th.own 0) (refused th unreadable) (plan (Free th.own) (gone_idle th) Withdrawn)) (plan Nothing (gone_idle th) Withdrawn))
+          (pick p (pick (eqb th.own 0) (refused th Unreadable) (plan (Free th.own) (gone_idle th) Withdrawn)) (plan Nothing (gone_idle th) Withdrawn))
       go true q k e =
           pick_good Fits (eqb th.own 0) (λ z. absurd (let none = eqb-true th.own 0 z in omega (arith, k.has.0)))
           (λ z. moves none (record { mine = mine; cell = k.has.0 }) (frees_withdrawn k.operation a_put refl) (sym k.has.2) (refl, refl))

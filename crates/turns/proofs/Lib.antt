@@ -1,2 +1,2 @@
--- What the functions of all places share.
+-- What the functions share.
 mod Ways

@@ -76,6 +76,29 @@ module _ (b : List ℕ) (i p q r s : ℕ) where
     unfolding four
     four_3 = get_or-set_same (three b i p q r) (i + 3) s 0 (simp length-set (omega arith))
 
+-- Byte by byte.
+module _ (b : List ℕ) (k v : ℕ) where
+  pub byte_other : (j : ℕ) → j ≢ 4 * k → j ≢ 4 * k + 1 → j ≢ 4 * k + 2 → j ≢ 4 * k + 3 → get_or (set_word b k v) j 0 ≡ get_or b j 0
+  unfolding set_word four
+  byte_other j = four_other b (4 * k) (v % 256) (v / 256 % 256) (v / 65536 % 256) (v / 16777216 % 256) j
+
+  module _ (h : 4 * k + 4 ≤ length b) where
+    pub byte_0 : get_or (set_word b k v) (4 * k) 0 ≡ v % 256
+    unfolding set_word four
+    byte_0 = four_0 b (4 * k) (v % 256) (v / 256 % 256) (v / 65536 % 256) (v / 16777216 % 256) h
+
+    pub byte_1 : get_or (set_word b k v) (4 * k + 1) 0 ≡ v / 256 % 256
+    unfolding set_word four
+    byte_1 = four_1 b (4 * k) (v % 256) (v / 256 % 256) (v / 65536 % 256) (v / 16777216 % 256) h
+
+    pub byte_2 : get_or (set_word b k v) (4 * k + 2) 0 ≡ v / 65536 % 256
+    unfolding set_word four
+    byte_2 = four_2 b (4 * k) (v % 256) (v / 256 % 256) (v / 65536 % 256) (v / 16777216 % 256) h
+
+    pub byte_3 : get_or (set_word b k v) (4 * k + 3) 0 ≡ v / 16777216 % 256
+    unfolding set_word four
+    byte_3 = four_3 b (4 * k) (v % 256) (v / 256 % 256) (v / 65536 % 256) (v / 16777216 % 256) h
+
 -- What was stored is read back.
 pub word_same : (b : List ℕ) (k v : ℕ) → 4 * k + 4 ≤ length b → v < 2 ^ 32 → word (set_word b k v) k ≡ v
 unfolding word set_word four

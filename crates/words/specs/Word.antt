@@ -1,4 +1,4 @@
--- "Little-endian 32-bit words in one lent byte slice" (document 01, The region). Words count from 0; word k is bytes 4k to 4k + 3.
+-- Little-endian 32-bit words in a list of bytes. Words count from 0; word k is bytes 4k to 4k + 3.
 -- Past the end a byte reads as 0 and a store does nothing.
 use Rattle.std.specs.Prelude.{ℕ, zero, suc, ◌+◌, ◌*◌, ◌/◌, ◌%◌, List, [], ◌∷◌, get_or, set}
 

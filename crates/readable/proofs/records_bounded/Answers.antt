@@ -1,23 +1,16 @@
 -- `readable::records_bounded` meets its contract: the loop keeps `Scanned`. Assumes nothing.
-use Rattle.readable.proofs.Loops.{first_bad, second_bad, two_passed, none_left, one_left}
-use mathlib.Core.Path.{ap}
-use mathlib.Core.Bool.{not}
+use Rattle.readable.proofs.Loops.{last_decides, second_bad, two_more}
 use Rattle.readable.proofs.records_bounded.Goals as goal
 
-pub returns-then-not-record_bounded : goal.returns-then-not-record_bounded
-returns-then-not-record_bounded c = search first_bad
+pub returns-then-not-words_bounded-2 : goal.returns-then-not-words_bounded-2
+returns-then-not-words_bounded-2 c =
+    second_bad c.loop-i.invariant c.loop-i-test.true _ c.words_bounded.ensures c.if-not-words_bounded.false _
+    c.words_bounded-in-loop-i.ensures c.if-not-words_bounded-2.true
 
-pub returns-then-not-record_bounded-2 : goal.returns-then-not-record_bounded-2
-returns-then-not-record_bounded-2 c = search second_bad
-
-pub loop-left-preserved : goal.loop-left-preserved
-loop-left-preserved c =
-    two_passed c.loop-left.invariant c.loop-left-test.true _
-    c.record_bounded.ensures
-    (ap not c.if-not-record_bounded.false) _ c.record_bounded-in-loop-left.ensures (ap not c.if-not-record_bounded-2.false)
-
-pub returns-then-left-eq0 : goal.returns-then-left-eq0
-returns-then-left-eq0 c = search none_left
+pub loop-i-preserved : goal.loop-i-preserved
+loop-i-preserved c =
+    two_more c.loop-i.invariant c.loop-i-test.true _ c.words_bounded.ensures c.if-not-words_bounded.false _
+    c.words_bounded-in-loop-i.ensures c.if-not-words_bounded-2.false
 
 pub returns : goal.returns
-returns c = search one_left
+returns c = last_decides c.loop-i.invariant c.loop-i-test.false c.if-count-eq0.false _ c.words_bounded-2.ensures

@@ -2,5 +2,5 @@
 use Rattle.run.proofs.Turns.{one_served}
 use Rattle.run.proofs.serve.Goals as goal
 
-pub returns : goal.returns
-returns c = search one_served
+pub returns-clause-turn : goal.returns-clause-turn
+returns-clause-turn c = search one_served

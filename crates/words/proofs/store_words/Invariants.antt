@@ -1,11 +1,7 @@
--- `words::store_words` meets its contract: the loop keeps `Stored`. Assumes nothing.
-use Prim.Native.Nat.{◌-◌}
-use lib.ListN.{length}
-use Rattle.words.proofs.Loops.{Stored}
+-- Storing the words that are left gives what storing all gives. Assumes nothing.
+use Rattle.std.proofs.Common.{◌≡◌, ◌+◌, drop}
+use Rattle.words.specs.Word.{set_words}
 use Rattle.words.proofs.store_words.Given as goal
 
 abbrev pub invariant-loop-i : goal.invariant-loop-i
-invariant-loop-i l = Stored l.initial.b l.at l.vs l.b l.i
-
-abbrev pub decreases-loop-i : goal.decreases-loop-i
-decreases-loop-i l = length l.vs - l.i
+invariant-loop-i l = set_words l.b (l.at + l.i) (drop l.i l.vs) ≡ set_words l.initial.b l.at l.vs

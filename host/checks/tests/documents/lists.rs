@@ -68,15 +68,17 @@ fn exported() -> Vec<String> {
     source.split("pub extern \"C\" fn ").skip(1).map(name).collect()
 }
 
-/// Each public function of a source up to its body, that is comment, head and clauses, without what makes it an export
-/// and without layout.
+/// Each public function of a source up to its body, that is comment, head and clauses, without its attributes (what makes
+/// it an export, how it is proved) and without layout.
 fn promises(source: &str) -> Vec<String> {
-    let source = text(source).replace("#[unsafe(no_mangle)]\n", "").replace("extern \"C\" ", "");
+    let source = text(source).replace("extern \"C\" ", "");
     let items = source.split("\n\n").filter(|item| item.contains("pub fn "));
-    let promise = |item: &str| item.split("\n{\n").next().expect("a part").to_owned();
-    let without_layout =
-        |promise: String| promise.split_whitespace().collect::<String>().replace(",)", ")");
-    items.map(promise).map(without_layout).collect()
+    let promise = |item: &str| {
+        let lines = item.split("\n{\n").next().expect("a part").lines();
+        let lines = lines.filter(|line| !line.starts_with("#["));
+        lines.flat_map(str::split_whitespace).collect::<String>().replace(",)", ")")
+    };
+    items.map(promise).collect()
 }
 
 #[test]

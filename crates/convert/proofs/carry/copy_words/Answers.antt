@@ -1,6 +1,9 @@
--- `convert::carry::copy_words` meets its contract: the loop keeps `Copying`. Assumes nothing.
-use Rattle.convert.proofs.Loops.{copy_more}
+-- `convert::carry::copy_words` meets its contract: a copy of bytes is a copy of words. Assumes nothing.
+use native.Mathlib.Omega.{arith}
+use Rattle.convert.proofs.Copied.{copied}
 use Rattle.convert.proofs.carry.copy_words.Goals as goal
 
-pub loop-i-preserved : goal.loop-i-preserved
-loop-i-preserved c = copy_more c.loop-i.invariant _ _ c.loop-i-test.true c.load_word.ensures c.store_word.ensures
+pub returns : goal.returns
+returns c =
+    copied c.args.old.now c.args.new.now _ (λ i. omega (arith, c.shared_slice_known-1.given i)) c.args.from c.args.to c.args.count c.requires
+    c.copy_from_slice.ensures.after

@@ -5,8 +5,8 @@ use Rattle.cut.proofs.cutting.cut_laid.Goals as goal
 pub returns-then-not-show : goal.returns-then-not-show
 returns-then-not-show c = search laid_not_shown
 
-pub write_cut-length-requires : goal.write_cut-length-requires
-write_cut-length-requires c = search cut_room
+pub write_cut-requires : goal.write_cut-requires
+write_cut-requires c = search cut_room
 
 pub returns : goal.returns
 returns c = search laid_cut

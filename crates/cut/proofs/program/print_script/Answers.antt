@@ -2,8 +2,8 @@
 use Rattle.cut.proofs.Printed.{printed_cut, printed_refused}
 use Rattle.cut.proofs.program.print_script.Goals as goal
 
-pub returns-then-outcome-ne-DONE : goal.returns-then-outcome-ne-DONE
-returns-then-outcome-ne-DONE c = search printed_refused
+pub returns-in-Ok : goal.returns-in-Ok
+returns-in-Ok c = search printed_cut
 
-pub returns : goal.returns
-returns c = search printed_cut
+pub returns-in-Err : goal.returns-in-Err
+returns-in-Err c = search printed_refused

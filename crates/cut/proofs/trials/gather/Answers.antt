@@ -1,9 +1,12 @@
 -- `cut::trials::gather` meets its contract: the loop keeps `Gathering`. Assumes nothing.
-use Rattle.cut.proofs.Groups.{gather_more, gather_stops}
+use Rattle.cut.proofs.Groups.{gather_end, gather_more, gather_stops}
 use Rattle.cut.proofs.trials.gather.Goals as goal
 
-pub returns-then-kind_at-ne-TURN : goal.returns-then-kind_at-ne-TURN
-returns-then-kind_at-ne-TURN c = search gather_stops
+pub returns-in_default : goal.returns-in_default
+returns-in_default c = search gather_stops
 
-pub loop-turns-preserved : goal.loop-turns-preserved
-loop-turns-preserved c = search gather_more
+pub loop-k-preserved : goal.loop-k-preserved
+loop-k-preserved c = search gather_more
+
+pub returns : goal.returns
+returns c = search gather_end

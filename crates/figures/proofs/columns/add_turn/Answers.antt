@@ -1,6 +1,9 @@
 -- `figures::columns::add_turn` meets its contract: three columns, one after the other. Assumes nothing.
-use Rattle.figures.proofs.TurnColumns.{second_room, third_room, turn_counted}
+use Rattle.figures.proofs.TurnColumns.{first_room, second_room, third_room, turn_counted}
 use Rattle.figures.proofs.columns.add_turn.Goals as goal
+
+pub add_one-requires : goal.add_one-requires
+add_one-requires c = search first_room
 
 pub add_one-requires-2 : goal.add_one-requires-2
 add_one-requires-2 c = search second_room

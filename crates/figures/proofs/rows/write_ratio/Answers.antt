@@ -2,8 +2,8 @@
 use Rattle.figures.proofs.Printed.{ratio_wrote, rest_room}
 use Rattle.figures.proofs.rows.write_ratio.Goals as goal
 
-pub write_number-requires : goal.write_number-requires
-write_number-requires c = search rest_room
+pub number-requires-2 : goal.number-requires-2
+number-requires-2 c = search rest_room
 
 pub returns : goal.returns
 returns c = search ratio_wrote

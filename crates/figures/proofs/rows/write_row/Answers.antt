@@ -2,11 +2,11 @@
 use Rattle.figures.proofs.Printed.{figures_room, row_wrote, thread_room}
 use Rattle.figures.proofs.rows.write_row.Goals as goal
 
-pub write_number-figures_at-requires : goal.write_number-figures_at-requires
-write_number-figures_at-requires c = search thread_room
+pub number-requires-2 : goal.number-requires-2
+number-requires-2 c = search thread_room
 
 pub write_figures-requires : goal.write_figures-requires
-write_figures-requires c = figures_room _ _ _ _ c.write_number-figures_at.ensures c.write_number-thread_at.ensures c.requires
+write_figures-requires c = figures_room _ _ _ c.number-2.ensures c.number.ensures c.requires
 
 pub returns : goal.returns
-returns c = row_wrote _ _ _ c.write_figures.ensures c.write_number-figures_at.ensures c.write_number-thread_at.ensures
+returns c = row_wrote _ _ _ c.write_figures.ensures c.number-2.ensures c.number.ensures

@@ -2,11 +2,11 @@
 use Rattle.figures.proofs.ScriptsRead.{end_lines, end_no_script, end_refused}
 use Rattle.figures.proofs.scripts.script_end.Goals as goal
 
-pub returns-in_default : goal.returns-in_default
-returns-in_default c = search end_no_script
+pub returns-in_err-setup : goal.returns-in_err-setup
+returns-in_err-setup c = search (end_no_script, c.in_err-setup.was)
 
-pub returns-then-setup_refusal-ne-DONE : goal.returns-then-setup_refusal-ne-DONE
-returns-then-setup_refusal-ne-DONE c = search end_refused
+pub returns-in-Err : goal.returns-in-Err
+returns-in-Err c = search (end_refused, c.in_ok-setup.was)
 
-pub returns : goal.returns
-returns c = search end_lines
+pub returns-in-Ok : goal.returns-in-Ok
+returns-in-Ok c = search (end_lines, c.in_ok-setup.was)

@@ -1,19 +1,24 @@
--- `script::printing::write_line` meets its contract, field by field. Assumes nothing.
-use Rattle.script.proofs.Lines.{line_wrote, outcome_room, thread_room}
+-- `script::printing::write_line` meets its contract, piece by piece. Assumes nothing.
+use Rattle.script.proofs.Lines.{key_room, line_appended, tag_room, thread_room, word_room}
 use Rattle.script.proofs.printing.write_line.Goals as goal
 
-pub write_number-word_at-requires : goal.write_number-word_at-requires
-write_number-word_at-requires c = search thread_room
+pub number-requires-2 : goal.number-requires-2
+number-requires-2 c = thread_room _ c.requires _ c.number.ensures
 
-pub write_outcome-requires : goal.write_outcome-requires
-write_outcome-requires c = search outcome_room
+pub push-requires : goal.push-requires
+push-requires c = word_room _ c.requires _ c.number.ensures _ c.number-2.ensures _ _ c.word.ensures
+
+pub number-requires-3 : goal.number-requires-3
+number-requires-3 c =
+    key_room _ c.requires _ c.number.ensures _ c.number-2.ensures _ _ c.word.ensures c.push.ensures
+
+pub number-requires-4 : goal.number-requires-4
+number-requires-4 c =
+    tag_room _ c.requires _ c.number.ensures _ c.number-2.ensures _ _ c.word.ensures c.push.ensures _ c.key.ensures c.number-3.ensures
 
 pub returns : goal.returns
 returns c =
-    line_wrote
+    line_appended _ c.requires _ c.number.ensures _ c.number-2.ensures _ _ c.word.ensures c.push.ensures _ c.key.ensures c.number-3.ensures
     _
-    _
-    _
-    c.write_outcome.ensures
-    c.write_number-word_at.ensures
-    c.write_number-thread_at.ensures
+    c.tag.ensures
+    c.number-4.ensures

@@ -2,8 +2,8 @@
 use Rattle.script.proofs.Setups.{fine_permission, fine_shape, length_fits, part_length, region_laid, region_room, threads_length, threads_room}
 use Rattle.script.proofs.script.lay_region.Goals as goal
 
-pub overflow_cast-setup : goal.overflow_cast-setup
-overflow_cast-setup c = search fine_permission
+pub overflow_cast-permissions : goal.overflow_cast-permissions
+overflow_cast-permissions c = search fine_permission
 
 pub word_count-n-requires : goal.word_count-n-requires
 word_count-n-requires c = search fine_shape

@@ -5,7 +5,7 @@ use Rattle.script.proofs.LineCalls.{Running}
 use Rattle.script.proofs.script.run_lines.Given as goal
 
 abbrev pub invariant-loop-at : goal.invariant-loop-at
-invariant-loop-at l = Running l.f l.input l.start l.initial.region l.initial.out l.from l.region l.out l.at l.line l.printed
+invariant-loop-at l = Running l.f l.input l.start l.initial.region l.initial.text l.region l.text l.at l.line
 
 abbrev pub decreases-loop-at : goal.decreases-loop-at
 decreases-loop-at l = length l.input - l.at

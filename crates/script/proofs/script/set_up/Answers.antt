@@ -1,9 +1,6 @@
--- `script::script::set_up` meets its contract: a refused layout leaves the region. Assumes nothing.
-use Rattle.script.proofs.Setups.{not_set_up, set_up}
+-- `script::script::set_up` meets its contract: what is not refused can be laid out. Assumes nothing.
+use Rattle.script.proofs.Setups.{is_accepted}
 use Rattle.script.proofs.script.set_up.Goals as goal
 
-pub returns-then-refused-eq-DONE : goal.returns-then-refused-eq-DONE
-returns-then-refused-eq-DONE c = search set_up
-
-pub returns-else-refused-eq-DONE : goal.returns-else-refused-eq-DONE
-returns-else-refused-eq-DONE c = search not_set_up
+pub lay_region-requires : goal.lay_region-requires
+lay_region-requires c = (is_accepted c.args.setup c.setup_check.ensures (c.in_ok-setup_check.was {u = tt}), c.requires)

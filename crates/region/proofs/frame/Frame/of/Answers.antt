@@ -1,7 +1,6 @@
--- `region::frame::Frame::of` meets its contract. Assumes nothing.
-use Rattle.region.specs.Frame.{frame_of_width}
+-- `Frame::of` may be called: a counter has two words. Assumes nothing.
+use Rattle.region.specs.Inner.{two_words}
 use Rattle.region.proofs.frame.Frame.of.Goals as goal
 
-pub returns : goal.returns
-unfolding frame_of_width
-returns c = cc
+pub of_width-requires-clause-width : goal.of_width-requires-clause-width
+of_width-requires-clause-width c = two_words

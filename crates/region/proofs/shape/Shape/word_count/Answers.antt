@@ -1,7 +1,6 @@
--- `region::shape::Shape::word_count` meets its contract. Assumes nothing.
-use Rattle.region.specs.Shape.{region_words_of_width}
+-- `Shape::word_count` may be called: a counter has two words. Assumes nothing.
+use Rattle.region.specs.Inner.{two_words}
 use Rattle.region.proofs.shape.Shape.word_count.Goals as goal
 
-pub returns : goal.returns
-unfolding region_words_of_width
-returns c = cc
+pub word_count_of_width-requires-clause-width : goal.word_count_of_width-requires-clause-width
+word_count_of_width-requires-clause-width c = two_words
