@@ -1,5 +1,4 @@
 -- What the crates above cite of `convert` beside its contracts, and what its own loops and ways out need.
-mod Copied
 mod Held
 pub mod Loops
 pub mod NoValueLost

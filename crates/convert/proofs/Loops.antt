@@ -22,7 +22,7 @@ use Rattle.region.proofs.Shapes.{words_most}
 use Rattle.readable.specs.Readable.{shape_in}
 use Rattle.readable.proofs.Laws.{length_of_width, shape_of_width}
 use Rattle.convert.specs.Convert.{Converted, all_carried, convert_check, convert_refusal, converted_bytes, converted_words, copy_carried, node_carried, old_readable, thread_carried}
-use Rattle.convert.specs.Inner.{Exact, Room}
+use Rattle.convert.specs.Inner.{Exact, Room, cell_carried}
 
 -- Words that are stored one after the other: those left from here on, stored in b, make the whole, xs stored in b₀ from word `to` on.
 pub record Stored (b₀ b : List ℕ) (to : ℕ) (xs : List ℕ) (at : ℕ) (left : List ℕ) : Type 0 where
@@ -70,6 +70,9 @@ module _ (words : List ℕ → ℕ → List ℕ) (stride size : ℕ) (long : (b 
 pub node_size_lem : (b : List ℕ) (k : ℕ) → length (node_carried b k) ≡ 4
 node_size_lem b k = refl
 
+pub cell_size_lem : (b : List ℕ) (k : ℕ) → length (cell_carried b k) ≡ 3
+cell_size_lem b k = refl
+
 pub thread_size_lem : (b : List ℕ) (k : ℕ) → length (thread_carried b k) ≡ 36
 thread_size_lem b k = refl
 
@@ -106,9 +109,20 @@ length_all words stride size long b at (suc n) =
     length-append (words b at) (all_carried words stride b (at + stride) n)
     ∙ omega (arith, long b at, length_all words stride size long b (at + stride) n)
 
+-- cells carried over are their words, one behind the other
+cells_words : (b : List ℕ) (at n : ℕ) → all_carried cell_carried 3 b at n ≡ words_at b at (cell_size * n)
+unfolding all_carried
+cells_words b at zero = refl
+cells_words b at (suc n) =
+    let k : at + 3 ≡ suc (suc (suc at)) = omega arith in
+    let m : suc (suc (suc (3 * n))) ≡ cell_size * suc n = omega arith in
+    ap (λ xs. cell_carried b at ++ xs) (cells_words b (at + 3) n)
+    ∙ (λ i. cell_carried b at ++ words_at b (k i) (cell_size * n))
+    ∙ ap (words_at b at) m
+
 pub all_stored : (s : Shape) (old b b₁ b₂ b₃ b₄ : List ℕ) (f g : Frame) (n m t : ℕ) → f ≡ frame_of_width old_counter_size s → g ≡ frame_of s
-    → n ≡ node_count s → m ≡ cell_size * s.cells → t ≡ s.threads → b₁ ≡ set_words b 0 (words_at old 0 head_size)
-    → b₂ ≡ set_words b₁ g.nodes (all_carried node_carried 3 old f.nodes n) → b₃ ≡ set_words b₂ g.cells (words_at old f.cells m)
+    → n ≡ node_count s → m ≡ s.cells → t ≡ s.threads → b₁ ≡ set_words b 0 (words_at old 0 head_size)
+    → b₂ ≡ set_words b₁ g.nodes (all_carried node_carried 3 old f.nodes n) → b₃ ≡ set_words b₂ g.cells (all_carried cell_carried 3 old f.cells m)
     → b₄ ≡ set_words b₃ g.threads (all_carried thread_carried 33 old f.threads t)
     → b₄ ≡ set_words b 0 (converted_words (frame_of_width old_counter_size s) old)
 unfolding converted_words frame_of_width
@@ -126,7 +140,8 @@ all_stored s old b b₁ b₂ b₃ b₄ f g n m t ef eg en em et e₁ e₂ e₃ e
     let g₂ : b₂ ≡ set_words (set_words b 0 hs) (0 + length hs) ns =
     e₂ ∙ (λ i. set_words (e₁ i) (eg i).nodes (all_carried node_carried 3 old (ef i).nodes (en i))) ∙ (λ i. set_words (set_words b 0 hs) (k₂ i) ns) in
     let g₃ : b₃ ≡ set_words (set_words (set_words b 0 hs) (0 + length hs) ns) (0 + length hs + length ns) cs =
-    e₃ ∙ (λ i. set_words (g₂ i) (eg i).cells (words_at old (ef i).cells (em i)))
+    e₃ ∙ (λ i. set_words (g₂ i) (eg i).cells (all_carried cell_carried 3 old (ef i).cells (em i)))
+    ∙ (λ i. set_words (set_words (set_words b 0 hs) (0 + length hs) ns) (frame_of s).cells (cells_words old o.cells s.cells i))
     ∙ (λ i. set_words (set_words (set_words b 0 hs) (0 + length hs) ns) (k₃ i) cs) in
     e₄
     ∙ (λ i. set_words (g₃ i) (eg i).threads (all_carried thread_carried 33 old (ef i).threads (et i)))
@@ -146,7 +161,7 @@ module _ (s : Shape) (l r : ℕ) (e : Exact s l r) (f g : Frame) (ef : f ≡ fra
         target = omega (arith, e.target, en, ap (λ x. x.nodes) eg);
       }
 
-  pub cells_room : (m : ℕ) → m ≡ cell_size * s.cells → Room l f.cells m r g.cells m
+  pub cells_room : (m : ℕ) → m ≡ s.cells → Room l f.cells (3 * m) r g.cells (3 * m)
   unfolding frame_of_width region_words_of_width
   cells_room m em =
       record {

@@ -5,7 +5,7 @@ ghost use Rattle.region.specs.Frame.{frame_of_width};
 ghost use Rattle.region.specs.Record.{old_counter_size};
 ghost use Rattle.region.specs.Refusal.{code_of};
 ghost use Rattle.convert.specs.Convert.{Converted, all_carried, convert_check, converted_words, copy_carried, node_carried, thread_carried};
-ghost use Rattle.convert.specs.Inner.{Exact, Room};
+ghost use Rattle.convert.specs.Inner.{Exact, Room, cell_carried};
 
 use readable::is_readable_of_width;
 use region::{CELL_SIZE, FIELDS, Frame, NODE_SIZE, Refusal, Shape, THREAD_SIZE, require};
@@ -22,16 +22,7 @@ const OLD_THREAD_SIZE: usize = 33;
 // The words of a node copy in a new one.
 const COPY_SIZE: usize = 7;
 
-// Copies words.
-#[inline(always)]
-fn copy_words(old: &[u8], from: usize, new: &mut [u8], to: usize, count: usize)
-    requires { Room (length old.now) from count (length new.old) to count }
-    ensures { new.new ≡ set_words new.old to (words_at old.now from count) }
-{
-    new[4 * to..4 * (to + count)].copy_from_slice(&old[4 * from..4 * (from + count)]);
-}
-
-// The head. Its words are all loaded before one is stored, as are those of a node and of a node copy, so that the compiled code moves several
+// The head. Its words are all loaded before one is stored, as are those of a node, a cell and a node copy, so that the compiled code moves several
 // at once.
 #[inline(always)]
 fn convert_head(old: &[u8], new: &mut [u8])
@@ -53,6 +44,17 @@ fn convert_node(old: &[u8], from: usize, new: &mut [u8], to: usize)
     words::load_words(old, from, &mut a);
     let node = [a[0], a[1], a[2], 0];
     words::store_words(new, to, &node);
+}
+
+// A cell: three words.
+#[inline(always)]
+fn convert_cell(old: &[u8], from: usize, new: &mut [u8], to: usize)
+    requires { Room (length old.now) from 3 (length new.old) to 3 }
+    ensures { new.new ≡ set_words new.old to (cell_carried old.now from) }
+{
+    let mut a = [0u32; 3];
+    words::load_words(old, from, &mut a);
+    words::store_words(new, to, &a);
 }
 
 // A node copy: the words of its node, and its head behind them.
@@ -89,13 +91,23 @@ fn convert_thread(old: &[u8], from: usize, new: &mut [u8], to: usize)
 }
 
 // The nodes.
-// stays: this loop and the next are two; one over a trait with both sizes and a method would be longer than both.
+// stays: this loop and the next two are three; one over a trait with both sizes and a method would be longer than they are.
 fn convert_nodes(old: &[u8], from: usize, new: &mut [u8], to: usize, count: usize)
     requires { Room (length old.now) from (3 * count) (length new.old) to (4 * count) }
     ensures { new.new ≡ set_words new.old to (all_carried node_carried 3 old.now from count) }
 {
     for i in 0..count {
         convert_node(old, from + OLD_NODE_SIZE * i, new, to + NODE_SIZE * i);
+    }
+}
+
+// The cells, each as it is: by their words, since a copy of all bytes at once would be a call of the C library's `memmove`.
+fn convert_cells(old: &[u8], from: usize, new: &mut [u8], to: usize, count: usize)
+    requires { Room (length old.now) from (3 * count) (length new.old) to (3 * count) }
+    ensures { new.new ≡ set_words new.old to (all_carried cell_carried 3 old.now from count) }
+{
+    for i in 0..count {
+        convert_cell(old, from + CELL_SIZE * i, new, to + CELL_SIZE * i);
     }
 }
 
@@ -116,10 +128,9 @@ fn convert_words(old: &[u8], new: &mut [u8], shape: Shape)
 {
     let before = Frame::of_width::<OLD_COUNTER_SIZE>(shape);
     let after = Frame::of(shape);
-    let cells = CELL_SIZE * (shape.cells as usize);
     convert_head(old, new);
     convert_nodes(old, before.nodes, new, after.nodes, shape.node_count());
-    copy_words(old, before.cells, new, after.cells, cells);
+    convert_cells(old, before.cells, new, after.cells, shape.cells as usize);
     convert_threads(
         old,
         before.threads,

@@ -18,7 +18,6 @@ fn is_withdrawn(answer: Answer) -> bool
 }
 
 // A turn of thread n at the place where it stands. One that is to be withdrawn changes no byte yet. Each place loads the record for itself.
-#[inline(always)]
 fn turn_at(queue: &mut Queue, n: u32, choice: u32, place: Place) -> Answer
     requires { Stands queue.old.frame queue.old.bytes.now n place }
     ensures same { Stays queue.old queue.new }
@@ -73,7 +72,6 @@ fn turn_at(queue: &mut Queue, n: u32, choice: u32, place: Place) -> Answer
 }
 
 // A turn of thread n, with its choice of a leaf. Refused 3, 7, withdrawn, refused 11 in that order; a refused or idle turn changes no byte.
-#[inline(always)]
 pub fn turn_in(queue: &mut Queue, n: u32, choice: u32) -> Answer
     ensures same { Stays queue.old queue.new }
     ensures turn { Turned queue.old.frame queue.old.bytes.now queue.new.bytes.now n choice result }

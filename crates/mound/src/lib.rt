@@ -90,11 +90,10 @@ pub fn mound_run(region: &mut [u8], schedule: &[u8], limit: u32, answers: &mut [
 }
 
 // Whether the region is readable: 0 for yes, else 7.
-#[tactic(auto, unfolding(readable::specs::Readable::check_answer))]
 pub fn mound_check(region: &[u8]) -> u32
     ensures { result ≡ check_answer region.now }
 {
-    code_of(readable::check(region))
+    readable::check_region(region)
 }
 
 // Carries a region of the form before request 7, whose counters have one word, over to a slice for the present form: 0 if done. Refusals 7 for the

@@ -1,11 +1,17 @@
 -- What only the contracts of inner functions and the proofs need. A reader of the result may skip this file.
-use Rattle.std.specs.Prelude.{ℕ, ◌+◌, ◌*◌, ◌≤◌, ◌≡◌}
+use Rattle.std.specs.Prelude.{ℕ, ◌+◌, ◌*◌, ◌≤◌, ◌<◌, ◌≡◌}
 use Rattle.region.specs.Inner.{InRange, Width}
 use Rattle.region.specs.Record.{node_size, cell_size}
 use Rattle.region.specs.Shape.{node_count}
-use Rattle.region.specs.Thread.{thread_size}
+use Rattle.region.specs.Thread.{thread_size, waiting_word}
 use Rattle.region.specs.declared.frame.Frame.{Frame}
 use Rattle.region.specs.declared.shape.Shape.{Shape}
+
+-- a thread's record at word `at` of l bytes, with maxima for n words
+pub record MaximaWithin (s : Shape) (l at n : ℕ) : Type 0 where
+  pub shape : InRange s
+  pub within : 4 * (at + n) ≤ l
+  pub long : waiting_word < n
 
 -- a thread's record at word `at` of l bytes, whose counters have w words
 pub record ThreadWithin (w : ℕ) (s : Shape) (l at : ℕ) : Type 0 where

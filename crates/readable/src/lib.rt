@@ -6,11 +6,11 @@ ghost use Rattle.std.specs.Prelude.{◌≡◌, ◌+◌, ◌*◌, ◌≤◌, ◌+
 ghost use Rattle.region.specs.Inner.{InRange, Width, Within};
 ghost use Rattle.region.specs.Record.{cell_size, copy_size, node_size};
 ghost use Rattle.region.specs.Shape.{node_count};
-ghost use Rattle.readable.specs.Readable.{any_word, bounded, cell_maxima, copy_maxima, field_maxima, greatest_tries, greatest_waiting, node_readable, cell_readable, thread_readable, all_records, tree_readable, shape_in, frame_in, fields_readable, is_whole_of_width, readable_of_width, readable, readable_check};
-ghost use Rattle.readable.specs.Inner.{ThreadWithin, WithinOfWidth};
+ghost use Rattle.readable.specs.Readable.{any_word, bounded, cell_maxima, copy_maxima, field_maxima, greatest_tries, greatest_waiting, node_readable, cell_readable, thread_passes, thread_readable, all_records, tree_readable, shape_in, frame_in, fields_readable, is_whole_of_width, readable_of_width, readable, readable_check, check_answer};
+ghost use Rattle.readable.specs.Inner.{MaximaWithin, ThreadWithin, WithinOfWidth};
 
 use region::{
-    CELL_SIZE, COUNTER_SIZE, FIELDS, Frame, Refusal, Shape, copy_size, node_size, require,
+    CELL_SIZE, COUNTER_SIZE, FIELDS, Frame, Refusal, Shape, code_of, copy_size, node_size, require,
     thread_size,
 };
 use words::load_word;
@@ -160,9 +160,26 @@ fn field_maxima(shape: Shape) -> [u32; 15]
     ]
 }
 
-// The thread's record at word `at`: each word alone, then tries by the place, and waiting levels by place and node.
+// The thread's record at word `at`, with the maxima of its words: each word alone, then tries by the place, and waiting levels by place and node.
 #[inline(always)]
-fn thread_readable<const WIDTH: usize>(b: &[u8], at: usize, shape: Shape) -> bool
+#[tactic(auto, unfolding(crate::specs::Readable::thread_passes))]
+pub fn thread_readable(b: &[u8], at: usize, shape: Shape, maxima: &[u32]) -> bool
+    requires { MaximaWithin shape (length b.now) at (length maxima.now) }
+    ensures { result ≡ thread_passes maxima.now shape b.now at }
+{
+    if !words_bounded(b, at, maxima) {
+        return false;
+    }
+    let place = load_word(b, at + 1);
+    if greatest_tries(shape, place) < load_word(b, at + 7) {
+        return false;
+    }
+    load_word(b, at + 11) <= greatest_waiting(place, load_word(b, at + 10))
+}
+
+// The same with the maxima of a record whose counters have this many words.
+#[inline(always)]
+fn thread_of_width_readable<const WIDTH: usize>(b: &[u8], at: usize, shape: Shape) -> bool
     requires { ThreadWithin WIDTH shape (length b.now) at }
     ensures { result ≡ thread_readable WIDTH shape b.now at }
 {
@@ -222,7 +239,7 @@ fn threads_readable<const WIDTH: usize>(b: &[u8], frame: Frame) -> bool
     let shape = frame.shape;
     let size = thread_size::<WIDTH>();
     for i in 0..shape.threads as usize {
-        if !thread_readable::<WIDTH>(b, frame.threads + size * i, shape) {
+        if !thread_of_width_readable::<WIDTH>(b, frame.threads + size * i, shape) {
             return false;
         }
     }
@@ -314,4 +331,15 @@ pub fn check(b: &[u8]) -> Result<(), Refusal>
     ensures { result ≡ readable_check b.now }
 {
     require(is_readable(b), Refusal::Unreadable)
+}
+
+// 0 if the region is readable, else 7. The first test stands here too, so that it is made without a call.
+#[tactic(auto, unfolding(crate::specs::Readable::check_answer, crate::specs::Readable::readable_of_width, region::specs::Pick::pick))]
+pub fn check_region(b: &[u8]) -> u32
+    ensures { result ≡ check_answer b.now }
+{
+    if !is_whole::<COUNTER_SIZE>(b) {
+        return Refusal::Unreadable.into();
+    }
+    code_of(check(b))
 }

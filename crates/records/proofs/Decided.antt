@@ -35,3 +35,8 @@ module _ {n : ℕ} {r : ℕ → Recorded} {order : List ℕ} (o : InOrder n r or
     pub all_decided : t ≡ true → (g : Bool) → g ≡ plays [] (by_position n r) → g ≡ accepts n r
     unfolding accepts
     all_decided e g eg = rw (begins_first, i.one_by_one e, positions_fit_lem, i.real_time e) eg
+
+-- no records at all are accepted
+pub none_accepted : (n : ℕ) (r : ℕ → Recorded) → n ≡ 0 → true ≡ accepts n r
+unfolding accepts
+none_accepted n r e = sym (ap (λ m. accepts m r) e)

@@ -16,11 +16,14 @@ mod order;
 mod play;
 mod times;
 
-// Whether n records that are in range are accepted.
+// Whether n records that are in range are accepted. None at all are, with no array set to zero for them.
 fn is_accepted(b: &[u8], n: usize) -> bool
     requires { WellFormed b.now n }
     ensures { result ≡ accepts n (recorded_at b.now) }
 {
+    if n == 0 {
+        return true;
+    }
     let mut order = [0; MOST];
     if !order::put_in_order(b, n, &mut order) {
         return false;

@@ -29,7 +29,6 @@ fn store_answer(answers: &mut [u8], k: usize, answer: Answer)
 
 // Serves the next turn and stores its answer. Given are the turns served and the accesses made before it; the result is the
 // accesses made, those of this turn included.
-#[inline(always)]
 fn serve(queue: &mut Queue, schedule: &[u8], answers: &mut [u8], turns: u32, accesses: u32) -> u32
     requires { TurnWithin (length schedule.now) (length answers.old) turns accesses }
     ensures same { Stays queue.old queue.new }
@@ -44,7 +43,6 @@ fn serve(queue: &mut Queue, schedule: &[u8], answers: &mut [u8], turns: u32, acc
 }
 
 // Serves the turns of the schedule until it ends or the limit is reached.
-#[inline(always)]
 fn serve_all(queue: &mut Queue, schedule: &[u8], limit: u32, answers: &mut [u8]) -> Counts
     requires { RunWithin (length schedule.now) (length answers.old) }
     ensures same { Stays queue.old queue.new }
@@ -78,7 +76,6 @@ fn schedule_check(schedule: &[u8], room: usize) -> Result<(), Refusal>
 }
 
 // Runs a schedule, or refuses (6, 5) and changes no byte.
-#[inline(always)]
 #[tactic(auto, unfolding(crate::specs::Run::schedule_refusal, crate::specs::Run::run_result_in, region::specs::Pick::pick))]
 pub fn run_in(
     queue: &mut Queue,

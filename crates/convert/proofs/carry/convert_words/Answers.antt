@@ -14,8 +14,8 @@ convert_head-requires c = head_room _ _ _ c.requires
 pub convert_nodes-requires : goal.convert_nodes-requires
 convert_nodes-requires c = omega (arith, nodes_room _ _ _ c.requires _ _ c.of_width-before.ensures c.of-after.ensures _ c.node_count.ensures)
 
-pub copy_words-requires : goal.copy_words-requires
-copy_words-requires c = omega (arith, cells_room _ _ _ c.requires _ _ c.of_width-before.ensures c.of-after.ensures _ refl)
+pub convert_cells-requires : goal.convert_cells-requires
+convert_cells-requires c = omega (arith, cells_room _ _ _ c.requires _ _ c.of_width-before.ensures c.of-after.ensures _ refl)
 
 pub convert_threads-requires : goal.convert_threads-requires
 convert_threads-requires c = omega (arith, threads_room _ _ _ c.requires _ _ c.of_width-before.ensures c.of-after.ensures _ refl)
@@ -26,4 +26,4 @@ returns c =
     c.node_count.ensures refl refl
     c.convert_head.ensures
     c.convert_nodes.ensures
-    c.copy_words.ensures c.convert_threads.ensures
+    c.convert_cells.ensures c.convert_threads.ensures

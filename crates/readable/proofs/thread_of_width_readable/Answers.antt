@@ -1,8 +1,8 @@
--- `readable::thread_readable` meets its contract: the first test that fails decides. Assumes nothing.
+-- `readable::thread_of_width_readable` meets its contract: the first test that fails decides. Assumes nothing.
 use mathlib.Core.Path.{ap, ◌∙◌}
 use Rattle.readable.specs.Readable.{bounded}
 use Rattle.readable.proofs.Loops.{copies_bad, fields_bad, thread_rest, tries_bad}
-use Rattle.readable.proofs.thread_readable.Goals as goal
+use Rattle.readable.proofs.thread_of_width_readable.Goals as goal
 
 pub returns-then-not-words_bounded : goal.returns-then-not-words_bounded
 returns-then-not-words_bounded g c =
